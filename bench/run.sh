@@ -24,7 +24,7 @@ programs=(./ours ./peer_rust ./peer_cpp)
 kit=$(dirname "$(dirname "$(readlink -f "$(command -v rattle || echo /opt/rattle/bin/rattle)")")")
 # What ours stands on, lowest first.
 crates=()
-wanted=" $(grep -E '^(buffa_ext|buffa_fields|buffa_map|buffa_message_set|buffa_samples):' "$top/crates.txt" | tr -d ':' | tr '\n' ' ') "
+wanted=" $(grep -E '^(buffa_ext|buffa_fields|buffa_map|buffa_message_set|sample_types):' "$top/crates.txt" | tr -d ':' | tr '\n' ' ') "
 while IFS=: read -r crate _; do
     case $wanted in *" $crate "*) crates+=("$crate") ;; esac
 done < <(grep -v '^#' "$top/crates.txt")

@@ -6,8 +6,8 @@ when a call begins and when it has ended; between the two `refuse.c` refuses one
 second, and so on until none is refused, and each request where the row says that the call takes no memory. The program
 compares the answer and what stands after it, and prints the rows that don't hold. Needs gcc. `rt ci` leaves the programs;
 where there is none, `rt run` builds it. The gate runs the same rows without refusals: `tests/conformance.py gather` writes
-each program's input of them, and its output. The rows of `many.tsv` are run here alone, once each, and no request is
-refused.
+each program's input of them, and its output. The rows of `many.tsv` are run here alone, once each, and then with each of
+the first fifty requests refused, and of the last ten.
 """
 import glob
 import multiprocessing.pool
@@ -30,13 +30,15 @@ SECONDS = 600
 PROGRAMS = {
     "conformance": "item unknown skip varint decode copy tag records twice retain write-item item-len spell zigzag from-wire "
     "blank normal number push append reserve write-records equal cache context limits " + extension_reading.CALLS,
-    "conformance_of_maps": "entry unlisted run rewrite field write size size-and-write put spell-payload payload",
+    "conformance_of_maps": "entry unlisted run rewrite field write size size-and-write put spell-payload payload-len payload",
     "conformance_of_messages": "merge merge-field merge-delimited encode message-size message-clear size-messages "
     "write-messages",
     "conformance_of_members": "",
 }
 MESSAGES = "flat two count keep tree".split()
-MEMBERS = "assorted depot explicit implicit inventory joined ledger load order pallet parcel separate store train wagon".split()
+MEMBERS = (
+    "assorted depot explicit implicit inventory joined ledger load order palette pallet parcel separate store swatch train wagon"
+).split()
 
 
 def program_of(row):
@@ -113,6 +115,12 @@ def run_many(program, text):
     return f"{os.path.basename(program)}: status {done.returncode}, {done.stdout.decode()}"
 
 
+def all_many(build, many):
+    """What is wrong with the runs of such rows, of all programs side by side."""
+    with multiprocessing.pool.ThreadPool() as pool:
+        return "\n  ".join(filter(None, pool.starmap(lambda name, text: run_many(build[name], text), many.items())))
+
+
 def judge(output, errors, status):
     """What is wrong with a run, and what it counted: runs, requests refused, rows that held."""
     found = re.search(r"(\d+) runs, (\d+) requests for memory refused\n(\d+) held, (\d+) did not\n\Z", output)
@@ -153,7 +161,7 @@ def main():
     if not shutil.which("gcc"):
         print("conformance: gcc is missing, so no request for memory could be refused")
         return 1
-    rows, many, failed = tables(), rows_of([MANY]), False
+    rows, many, failed = tables(), {name: text for name, text in rows_of([MANY]).items() if text}, False
     for name, wanted in gathered().items():
         with open(f"{TOP}/crates/{name}", "rb") as it:
             if it.read() != wanted:
@@ -167,7 +175,10 @@ def main():
             wrong, counts = run_all(build, library, rows)
             failed |= told(f"{names}: {counts}", start, wrong)
             start = time.time()
-            failed |= told("a great many", start, "\n  ".join(filter(None, (run_many(build[it], many[it]) for it in many))))
+            failed |= told("a great many", start, all_many(build, many))
+            start = time.time()
+            wrong, counts = run_all(build, library, many)
+            failed |= told(f"a great many: {counts}", start, wrong)
     print("conformance: FAILED" if failed else "conformance: passed")
     return 1 if failed else 0
 

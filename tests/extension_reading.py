@@ -9,7 +9,7 @@ from rules import (
 
 CALLS = (
     "get set default clear has set-then-read decode-of encode-into encode-one decode-one decode-one-ctx pack unpack "
-    "hold merge-all merge-in changes replace declared descriptor"
+    "hold merge-all merge-in steps replace declared descriptor"
 )
 
 
@@ -67,7 +67,7 @@ def on_set(row):
 
 
 def on_carrier(row):
-    return on_records(row, records(bytes.fromhex(row.before)), text_of)
+    return on_records(row, records(bytes.fromhex(row.before), each=True), text_of)
 
 
 def on_records(row, found, text_of):
@@ -148,13 +148,13 @@ def renumbered(number, text):
 
 
 def on_list(row):
-    """Changes, and records in the place of those of a number."""
+    """Steps, and records in the place of those of a number."""
     found = records(bytes.fromhex(row.before))
     if row.call == "replace":
         found = [it for it in found if it[0] != row.number] + records(bytes.fromhex(row.given))
         return "ok", f"-; {text_of(found)}"
-    for change in row.given.split():
-        number, _, said = change.partition("=")
+    for step in row.given.split():
+        number, _, said = step.partition("=")
         found = [it for it in found if it[0] != int(number)]
         found += [(int(number), wire, renumbered(int(number), text)) for _, wire, text in records(bytes.fromhex(said))]
     return "ok", f"{len(row.given.split())}; {text_of(found)}"
@@ -172,7 +172,7 @@ def outcome(row):
         ("encode-one decode-one decode-one-ctx", on_record),
         ("pack unpack", on_packed),
         ("hold merge-all merge-in", on_messages),
-        ("changes replace", on_list),
+        ("steps replace", on_list),
         (CALLS, on_carrier),
     ):
         if row.call in calls.split():

@@ -2,17 +2,23 @@
 
 Written from the encoding guide and from GUIDE's table of kinds of members: a plain member is written unless it is the
 default, an optional one where it is there; elements of a list come one in a field, or packed; a message that stands is
-merged into, an element of a list and a value of a map is new; a group is its fields and its end tag. `second_reading.py` judges rows on them by it.
+merged into, an element of a list and a value of a map is new; a group is its fields and its end tag. Of a closed enum what isn't
+declared goes behind what the message keeps: a number as a field of its own, of a packed list too, an entry of a map as it came.
+`second_reading.py` judges rows on them by it.
 """
 from rules import (
-    BLANKS, BY_MEMBERS, DELIMITED, END, KINDS, MESSAGES, START, Bytes, Fault, blank, delimited, field_encoding, kept_field, merge,
-    merge_entry, merge_field, message_text, mismatch, payload, skip, tag_encoding, value, word,
+    BLANKS, BY_MEMBERS, DECLARED, DELIMITED, END, KINDS, MESSAGES, START, VARINT, Bytes, Fault, blank, delimited, field_encoding,
+    kept_field, merge, merge_entry, merge_field, message_text, mismatch, payload, signed, skip, tag_encoding, value,
+    varint_encoding, word,
 )
 
 NUMBERS = (
     "int32", "int64", "uint32", "uint64", "sint32", "sint64", "bool", "fixed32", "fixed64", "sfixed32", "sfixed64",
 )
 
+
+# Closed enums, as kinds of members.
+CLOSED = ("old", "new")
 
 # The defaults of members that start out as no value of their kind.
 STARTS = (("optional group", lambda _: None), ("repeated packed groups", lambda _: ()), ("map ordered", lambda _: {}))
@@ -34,6 +40,18 @@ def merge_group(kind, message, buf, number, depth, budget):
     return message
 
 
+def sifted(kind, number, buf, budget, kept):
+    """The declared numbers of the varints that bytes are; a field of each other one is kept."""
+    found = []
+    while buf.unread():
+        found.append(buf.varint())
+    for it in found:
+        if signed(it, 32) not in DECLARED[kind]:
+            budget.take_unknown()
+            kept.append(tag_encoding(number, VARINT) + varint_encoding(it))
+    return tuple(signed(it, 32) for it in found if signed(it, 32) in DECLARED[kind])
+
+
 class ByMembers:
     """A type of messages: its members by their numbers, each with how it stands and of which kind it is."""
 
@@ -49,6 +67,9 @@ class ByMembers:
         """What one field makes of a message."""
         *parts, kept = message
         for at, (own, how, kind) in enumerate(self.members):
+            if own == number and (kind in CLOSED or how in MAPS and kind[1] in CLOSED):
+                parts[at], aside = self.closed_part(how, kind, parts[at], buf, number, wire, depth, budget)
+                return *parts, kept + aside
             if own == number:
                 parts[at] = self.part(how, kind, parts[at], buf, number, wire, depth, budget)
                 return *parts, kept
@@ -56,6 +77,25 @@ class ByMembers:
             return *parts, kept + kept_field(buf, number, wire, depth, budget)
         skip(buf, number, wire, depth)
         return message
+
+    def closed_part(self, how, kind, old, buf, number, wire, depth, budget):
+        """A member of a closed enum, and what is kept of its field; what is refused spends no unknown field."""
+        unknown, kept = budget.unknown, []
+        try:
+            if how in MAPS and wire == DELIMITED:
+                pairs = dict(old)
+                merge_entry(kind, pairs, buf, depth, budget, number, kept)
+                return pairs, b"".join(kept)
+            if how in MAPS or wire != VARINT and (how == "optional" or wire != DELIMITED):
+                raise mismatch(number, DELIMITED if how in MAPS else VARINT, wire)
+            text = buf.take(buf.varint()) if wire == DELIMITED else varint_encoding(buf.varint())
+            found = sifted(kind, number, Bytes(text), budget, kept)
+        except Fault:
+            budget.unknown = unknown
+            raise
+        if how == "optional":
+            return found[-1] if found else old, b"".join(kept)
+        return (*old, *found), b"".join(kept)
 
     def part(self, how, kind, old, buf, number, wire, depth, budget):
         own = {"map": DELIMITED, "ordered": DELIMITED, "group": START, "groups": START}.get(how) or KINDS[kind][0]
@@ -167,4 +207,9 @@ declare("joined", 288, numbers("packed", [1, 2, 3, 4, 5, 6, 7, 15, 16, 2047, 204
 declare("assorted", 216, [
     (1, "optional", "bytes"), (2, "optional", "open"), (3, "repeated", "bytes"), (4, "repeated", "open"),
     (5, "packed", "open"), (6, "map", ("bool", "bytes")), (7, "map", ("int64", "open")), (8, "plain", "bytes"),
+], True)
+declare("swatch", 64, [(1, "optional", "old"), (2, "repeated", "old")], True)
+declare("palette", 256, [
+    (1, "plain", "int32"), (3, "map", ("int32", "old")), (4, "optional", "old"), (5, "repeated", "old"), (6, "packed", "old"),
+    (7, "ordered", ("int32", "old")), (8, "optional", "swatch"), (9, "group", "swatch"),
 ], True)

@@ -2,7 +2,8 @@
 """Checks that each definition of specs/ has a name of its own in all crates, and that no relation has small letters.
 
 Definitions are what a file of specs/ hands out: `abbrev`, `unfoldable`, `record`, `data`, and lemmas. A relation is
-what answers a `Type`. Fields of records, ghosts, clauses and code aren't looked at.
+what answers a `Type`. Fields of records, ghosts, clauses and code aren't looked at. What a file hands on of another one
+keeps its name, so that a word is the same wherever it is cited.
 """
 import collections
 import glob
@@ -53,6 +54,11 @@ def words_of(file):
 def main():
     wrong, places = [], collections.defaultdict(list)
     for file in sorted(glob.glob(f"{TOP}/crates/*/specs/**/*.antt", recursive=True)):
+        with open(file, encoding="utf-8") as it:
+            for at, line in enumerate(it, 1):
+                if line.startswith("pub use ") and " as " in line:
+                    wrong.append(f"{os.path.relpath(file, TOP)}:{at}: a word is handed on under another name")
+    for file in sorted(glob.glob(f"{TOP}/crates/*/specs/**/*.antt", recursive=True)):
         for name, line, kind, text in words_of(file):
             place = f"{os.path.relpath(file, TOP)}:{line}"
             places[name].append(place)
@@ -63,7 +69,7 @@ def main():
             wrong.append(f"{name}: {', '.join(found)}")
     for it in wrong:
         print(f"names: {it}")
-    print(f"names: {len(places)} words of specs, {len(wrong)} that mean two things or are relations in small letters")
+    print(f"names: {len(places)} words of specs, {len(wrong)} that mean two things, are handed on under another name or are relations in small letters")
     return 1 if wrong or not places else 0
 
 

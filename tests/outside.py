@@ -6,6 +6,7 @@ write that failed and status 4 from memory that was refused. The rows are vector
 runs that agree with Google's protobuf. Prints a line for each group; exits with 1 on any difference. Needs python3 and
 gcc. `rt ci` leaves the program; where there is none, `rt run` builds it.
 """
+import errno
 import functools
 import multiprocessing
 import os
@@ -237,6 +238,41 @@ def short_writes(program, room, seen):
     return runs
 
 
+def watched(program, room, words, given, env):
+    """Runs the program with calls of streams that take a byte, of which one fails; how often the failed stream was called again
+    stands behind the answer."""
+    reads, tells = os.pipe()
+    shim = {"LD_PRELOAD": f"{room}/refuse.so", "REFUSE_TELL": str(tells), "READ_ONE": "1", "WRITE_ONE": "1"}
+    got = call(program, words, given, env={**shim, **env}, fds=(tells,))
+    os.close(tells)
+    with os.fdopen(reads, "rb") as it:
+        return *got, len(it.read())
+
+
+def failures_once(program, room, seen):
+    """A call of a stream that fails once, where those behind it would go on: there are none behind it. What was read counts for
+    nothing, what was written stands, and errors that fail change no status."""
+    runs = 0
+    faults = [("EINTR", errno.EINTR), ("EIO", errno.EIO), ("no byte", 0)]
+
+    def once(words, given, stream, at, wanted):
+        # a read of no byte is the end of the input, and no failure
+        for name, fault in faults[: 3 if stream else 2]:
+            env = {"FAIL_ON": str(stream), "FAIL_AT": str(at), "FAIL_WITH": str(fault)}
+            what = f"{words} on {given}: call {at} on {stream} fails once, {name}"
+            seen.compare(what, watched(program, room, words, given, env), (*wanted, 0))
+        return 3 if stream else 2
+
+    for words, given, text, _, _ in examples():
+        for at in range(len(given) + 1):
+            runs += once(words, given, 0, at + 1, (b"", FAILED, 3))
+        for at in range(len(text)):
+            runs += once(words, given, 1, at + 1, (text[:at], FAILED, 3))
+    for at in range(len(USAGE)):
+        runs += once("items", b"2a00", 2, at + 1, (b"", USAGE[:at], 2))
+    return runs
+
+
 def packets(stream):
     """What came in packets, and how long the longest is."""
     found = []
@@ -339,7 +375,7 @@ def runs_of(task):
 
 def main():
     groups = [answers, wrong_words, failed_reads, failed_writes, pieces]
-    shimmed = [refusals, short_writes, slow_streams]
+    shimmed = [refusals, failures_once, short_writes, slow_streams]
     failed = 0
     with tempfile.TemporaryDirectory(prefix="outside-") as room, multiprocessing.Pool() as pool:
         if shutil.which("gcc"):

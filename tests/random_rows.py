@@ -27,7 +27,7 @@ PAIRS = (
 NUMBERS = "int32 int64 uint32 uint64 sint32 sint64 bool fixed32 fixed64 sfixed32 sfixed64 number enum".split()
 OTHERS = "string bytes flat two count keep two-group count-group keep-group".split()
 CALLS = (
-    "entry entry entry entry unlisted run run rewrite item skip unknown records varint merge merge get get one set changes "
+    "entry entry entry entry unlisted run run rewrite item skip unknown records varint merge merge get get one set steps "
     "merge-delimited payload decode decode tag equal"
 ).split()
 SCALARS = NUMBERS[:-2] + "string own-string word bytes own-bytes shared-bytes".split()
@@ -242,11 +242,11 @@ class Maker:
         settings = [self.pick("number=1", "number=2"), how, self.pick("", "by=try")]
         return call, codec, settings, "".join(it[2].hex() for it in before) or "-", " ".join(values if how else values[:1])
 
-    def changes(self):
+    def steps(self):
         """Sets and clears of some numbers."""
         said = [f"{self.any.randint(1, 3)}{self.pick('', '=' + self.mutated(self.fields(2)).hex())}" for _ in range(self.any.randint(0, 4))]
-        for change in said:
-            records(bytes.fromhex(change.partition("=")[2]))
+        for step in said:
+            records(bytes.fromhex(step.partition("=")[2]))
         return " ".join(said)
 
     def scalar_row(self, call):
@@ -272,9 +272,9 @@ class Maker:
             call, types, settings, before = self.extension_row(call)
         elif call == "set":
             call, types, settings, before, given = self.values_row()
-        elif call == "changes":
+        elif call == "steps":
             before = "".join(it[2].hex() for it in records(self.fields(2))) or "-"
-            given = self.changes()
+            given = self.steps()
         elif call in ("merge", "merge-delimited"):
             types, settings = self.any.choice(sorted(MESSAGES if call == "merge" else STANDING)), self.settings()
             before, text = self.pick("-", STANDING.get(types, "-")), self.message(types, 3)

@@ -2,8 +2,12 @@
 // REFUSE_ON is set each one after it too; tells each refusal by a byte on the file descriptor REFUSE_TELL.
 // Where REFUSE_CALLS is set the program says on standard error which of its own calls is meant: between the lines
 // `call, refuse N` and `done`, which are not written, request N is refused, or each of them where N is 0; of the line
-// `done` one byte is taken where a request was refused, else the whole line.
-// Where WRITE_ONE is set a write takes one byte; where WRITE_NONE is, one that would fail takes none in its place.
+// `done` one byte is taken where a request was refused, else the whole line. Of a line `requests, bit N` one byte is
+// taken where that bit of the number of requests is 1 that the program's last call made.
+// Where WRITE_ONE is set a write takes one byte, and where READ_ONE is a read; where WRITE_NONE is, a write that would
+// fail takes none in its place. Where FAIL_AT is set that call on the file descriptor FAIL_ON fails, by the error
+// FAIL_WITH, or takes no byte where that is 0; the calls on it go on then, and each of them is told by a byte on
+// REFUSE_TELL.
 #define _GNU_SOURCE
 #include <errno.h>
 #include <stddef.h>
@@ -17,18 +21,28 @@ void *__libc_calloc(size_t count, size_t size);
 void *__libc_realloc(void *old, size_t size);
 void *__libc_memalign(size_t align, size_t size);
 
-static const char CALL[] = "call, refuse ", DONE[] = "done\n";
+static const char CALL[] = "call, refuse ", DONE[] = "done\n", REQUESTS[] = "requests, bit ";
 static long calls, first;
-static int on, tell, marked, counting, refused, one, none;
+static int on, tell, marked, counting, refused, one, none, one_read;
+static long fail_at, calls_on;
+static int fail_on, fail_with;
+
+static long number_of(const char *name, long other) {
+    const char *text = getenv(name);
+    return text ? atol(text) : other;
+}
 
 __attribute__((constructor)) static void begin(void) {
-    const char *at = getenv("REFUSE_AT"), *fd = getenv("REFUSE_TELL");
-    tell = fd ? atoi(fd) : -1;
+    tell = number_of("REFUSE_TELL", -1);
     on = getenv("REFUSE_ON") != NULL;
-    first = at ? atol(at) : 0;
+    first = number_of("REFUSE_AT", 0);
     marked = getenv("REFUSE_CALLS") != NULL;
     one = getenv("WRITE_ONE") != NULL;
+    one_read = getenv("READ_ONE") != NULL;
     none = getenv("WRITE_NONE") != NULL;
+    fail_on = number_of("FAIL_ON", -1);
+    fail_at = number_of("FAIL_AT", 0);
+    fail_with = number_of("FAIL_WITH", 0);
 }
 
 static int refuses(void) {
@@ -41,16 +55,42 @@ static int refuses(void) {
     return 1;
 }
 
+// Whether a call on a file descriptor is the one that fails; a later one is told.
+static int fails(int fd) {
+    if (fd != fail_on) return 0;
+    calls_on++;
+    if (calls_on > fail_at && syscall(SYS_write, tell, "x", 1) != 1) abort();
+    return calls_on == fail_at;
+}
+
+static ssize_t failure(void) {
+    errno = fail_with;
+    return fail_with ? -1 : 0;
+}
+
+ssize_t read(int fd, void *text, size_t size) {
+    return fails(fd) ? failure() : syscall(SYS_read, fd, text, one_read && size > 1 ? 1 : size);
+}
+
 static ssize_t plain_write(int fd, const void *text, size_t size) {
+    if (fails(fd)) return failure();
     ssize_t taken = syscall(SYS_write, fd, text, one && size > 1 ? 1 : size);
     return none && taken < 0 ? 0 : taken;
 }
 
+// Whether a text begins with another; then the number behind it.
+static int begins(const char *text, size_t size, const char *front, size_t length, long *number) {
+    if (size <= length || memcmp(text, front, length) != 0) return 0;
+    *number = 0;
+    for (const char *digit = text + length; digit < text + size && *digit >= '0' && *digit <= '9'; digit++)
+        *number = 10 * *number + (*digit - '0');
+    return 1;
+}
+
 ssize_t write(int fd, const void *text, size_t size) {
+    long bit;
     if (!marked || fd != STDERR_FILENO) return plain_write(fd, text, size);
-    if (size > sizeof CALL - 1 && memcmp(text, CALL, sizeof CALL - 1) == 0) {
-        const char *digit = (const char *)text + sizeof CALL - 1, *end = (const char *)text + size;
-        for (first = 0; digit < end && *digit >= '0' && *digit <= '9'; digit++) first = 10 * first + (*digit - '0');
+    if (begins(text, size, CALL, sizeof CALL - 1, &first)) {
         on = first == 0;
         calls = refused = 0;
         counting = 1;
@@ -60,6 +100,7 @@ ssize_t write(int fd, const void *text, size_t size) {
         counting = 0;
         return refused ? 1 : size;
     }
+    if (begins(text, size, REQUESTS, sizeof REQUESTS - 1, &bit)) return calls >> bit & 1 ? 1 : size;
     return syscall(SYS_write, fd, text, size);
 }
 

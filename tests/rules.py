@@ -146,12 +146,12 @@ def keep(buf, number, wire, depth, budget):
     return b"".join(found) + tag_encoding(number, END)
 
 
-def records(text, depth=MOST_LEVELS):
-    """The records that bytes are: number, wire type, encoding."""
+def records(text, depth=MOST_LEVELS, each=False):
+    """The records that bytes are: number, wire type, encoding; of one budget, or each of its own."""
     buf, budget, found = Bytes(text), Budget(), []
     while buf.unread():
         number, wire = buf.tag()
-        found.append((number, wire, keep(buf, number, wire, depth, budget)))
+        found.append((number, wire, keep(buf, number, wire, depth, Budget() if each else budget)))
     return found
 
 

@@ -1,25 +1,33 @@
 #!/usr/bin/env python3
 """Tries wrong bodies, many of a crate in one check, and sees that each edited function is reported as not proved.
 
-A wrong body is an edit, tests/wrong/CRATE/FUNCTION-what_is_wrong.edit: a line 'file: src/x.rt', then pairs of lines
-'old: TEXT' and 'new: TEXT', each old text standing once in that file of the crate. FUNCTION is the plain name of the
-function that must not be proved then, or TYPE.FUNCTION. Edits of a crate that lie in different functions are applied
-together, to a copy of the repository, and checked in one go. An edit outside of functions, or of a crate below (a line
-'file: ../CRATE/src/x.rt'), is tried alone, and only its function, a law, is checked then. A function may be reported
-for another one's sake (it calls one that is not proved, or the crate isn't read at all): then it is tried once more,
-alone.
+    tests/wrong.py [CRATE..]   tries all, or those of some crates
+    tests/wrong.py look        proves nothing, and sees in half a minute that each can still be tried
+    tests/wrong.py today       tries some twenty of them, others each day, until all had their turn
 
-An edit passes where a goal of the function is not proved. It is unclear, and fails, where the edited text is not read, or
+A wrong body is an edit, tests/wrong/CRATE/FUNCTION-what_is_wrong.edit: a line 'file: src/x.rt', then pairs of lines
+'old: TEXT' and 'new: TEXT', each old text standing once in that file of the crate; '⏎' is the end of a line. FUNCTION is
+the plain name of the function that must not be proved then, or TYPE.FUNCTION. Those that `rt ci` tries too stand in
+crates/CRATE/must-fail. Edits of a crate that lie in different functions are applied together, to a copy of the
+repository, and checked in one go. An edit outside of functions, or of a crate below (a line 'file: ../CRATE/src/x.rt'),
+is tried alone, and only its function, a law, is checked then. A function may be reported for another one's sake (it
+calls one that is not proved, or the crate isn't read at all): then it is tried once more, alone.
+
+An edit passes where a goal of the function is not proved, or where its function is a law that the edit leaves as it is
+and the checker refuses nothing but that law's own text: it speaks of a type as what the type is no longer. It is
+unclear, and fails, where the edited text is not read, or
 where only names that its proof file cites went away: change a value and keep the names. It is unclear too where only an
 answer of its proof file is refused, since a right body may trip that as well: add a path that is wrong, which has no
 answer, or say in a line 'why: ..' of the edit why its goal is false.
 
 The crate as it stands is checked first, in its own folder, which leaves its work in out/; that costs little where out/
-holds the work of an earlier check. Needs python3 and `rt`. The last line is 'N passed, M failed'.
+holds the work of an earlier check. `today` goes without, for use behind `rt ci`, whose libraries it takes: it checks a
+crate once from nothing where no earlier check left work. Needs python3 and `rt`. The last line is 'N passed, M failed'.
 """
 import argparse
-import glob
+import datetime
 import os
+import random
 import re
 import shutil
 import subprocess
@@ -28,97 +36,14 @@ import tempfile
 import time
 from concurrent.futures import ThreadPoolExecutor
 
-TOP = os.path.dirname(os.path.dirname(os.path.abspath(__file__)))
-FUNCTION = re.compile(r"^( *)(?:pub(?:\(\w+\))? )?(?:final )?(?:const )?fn (\w+)")
-CONTAINER = re.compile(r"^(?:pub(?:\(\w+\))? )?(impl|trait)\b")
+from wrong_edits import TOP, Edit, below, functions, law_at, listed, paths_of, read
+from wrong_look import look
+
 # what the checker says of a name in a proof file that isn't there
 VANISHED = re.compile(r"has no field|has no `|is not in scope|was not admitted|is no name")
-GOAL = re.compile(r"note: (?:\./)?(src/\S+?):(\d+):\d+: it is not proved that")
+GOAL = re.compile(r"note: (?:\./)?(src/\S+?):(\d+):\d+: it is not proved that(?:.*?\(`([^`]+)`\))?")
 PROOF_ERROR = re.compile(r"(?:\./)?proofs/(\S+)/\w+\.antt:\d+:\d+: error")
 SOURCE_ERROR = re.compile(r"(?:\./)?(src/\S+?):(\d+):\d+: error")
-
-
-class Function:
-    """A function in a file: its name, the impl or trait round it, the cycle of calls it is in, and where it stands."""
-
-    def __init__(self, file, name, holder, cycle, start):
-        self.file, self.name, self.holder, self.cycle = file, name, holder, cycle
-        # the checker may tell a goal at the attributes of the function, which stand before it
-        self.head = self.start = self.end = start
-
-    def key(self):
-        return self.file, self.holder, self.name
-
-
-class Edit:
-    def __init__(self, path):
-        self.path, self.title, self.pairs, self.keys, self.target, self.is_wide = path, os.path.basename(path)[:-5], [], set(), None, False
-        file = old = self.why = None
-        with open(path, encoding="utf-8") as it:
-            for line in it.read().split("\n"):
-                if line.startswith("file: "):
-                    file = line[6:].strip()
-                elif line.startswith("old: "):
-                    old = line[5:]
-                elif line.startswith("new:"):
-                    self.pairs.append((file, old, line[5:]))
-                elif line.startswith("why: "):
-                    self.why = line[5:]
-        self.of, _, self.name = self.title.partition("-")[0].rpartition(".")
-
-    def locate(self, folder):
-        """Finds the functions that the edit changes; says why it can't be applied, if so."""
-        texts = {}
-        for file, old, new in self.pairs:
-            texts.setdefault(file, read(f"{folder}/{file}"))
-            if texts[file].count(old) != 1:
-                return f"an old text is in {file} {texts[file].count(old)} times"
-            at = texts[file].index(old)
-            line = texts[file].count("\n", 0, at)
-            # what another crate's text is changed to is judged by a law of this one
-            touched = [] if file.startswith("../") else [it for it in functions(file, texts[file]) if it.start <= line <= it.end]
-            self.is_wide |= not touched
-            self.keys |= {it.key() for it in touched}
-            self.target = next((it for it in touched if it.name == self.name and self.of in it.holder), self.target)
-            texts[file] = texts[file].replace(old, new)
-        if not self.pairs:
-            return "it has no pair of an old and a new text"
-        if not self.target and not self.is_wide:
-            return f"it doesn't change a function {self.name}"
-        return None
-
-
-def read(path):
-    with open(path, encoding="utf-8") as it:
-        return it.read()
-
-
-def functions(file, text):
-    """The functions of a file, as rt fmt lays it out; each ends where another item begins."""
-    found, holder, cycle, current = [], "", None, None
-    lines = text.split("\n")
-    for number, line in enumerate(lines):
-        begins = FUNCTION.match(line)
-        if begins and (not begins[1] or holder and begins[1] == "    "):
-            holder = holder if begins[1] else ""
-            previous, current = current, Function(file, begins[2], holder, cycle, number)
-            while current.head and re.match(r"\s*(#\[|//)", lines[current.head - 1]):
-                current.head -= 1
-            if previous:
-                previous.end = min(previous.end, current.head - 1)
-            cycle = None
-            found.append(current)
-        elif re.match(r"(?!where\b)[a-z]", line):
-            is_holder = CONTAINER.match(line)
-            holder = " ".join(" ".join(lines[number : number + 6]).partition("{")[0].split()) if is_holder else ""
-            current = None
-        elif holder and re.match(r"    (pub|ghost|const|type|use)\b", line):
-            current = None
-        named = re.match(r"\s*#\[cycle\((\w+)\)\]", line)
-        cycle = named[1] if named else cycle
-        if current:
-            current.end = number
-    return found
 
 
 def type_name(text, own):
@@ -175,7 +100,7 @@ class Report:
         for line in text.split("\n"):
             named, goal = re.match(r"fn (\S+): (.*)", line), GOAL.match(line)
             if goal:
-                goals.append((goal[1], int(goal[2])))
+                goals.append((goal[1], int(goal[2]), goal[3] or f"line {goal[2]}"))
             elif named:
                 self.said[named[1]], self.goals[named[1]], goals = named[2], goals, []
             elif re.match(r"(impl|trait|struct|enum) \S+: ", line):
@@ -197,8 +122,20 @@ class Report:
         """What the checker calls the function that must not be proved."""
         return [it for it in self.said if (is_named(edit.target, crate, it) if edit.target else it.split("::")[-1] == edit.name)]
 
+    def is_of_law(self, edit, crate):
+        """Whether each error of the text stands in the law of that name, in a file that the edit leaves as it is."""
+        edited = {file for file, _, _ in edit.pairs}
+        errors = {(file, int(line)) for file, line in SOURCE_ERROR.findall(self.text)}
+        return bool(errors) and all(
+            file not in edited
+            and any(it.name == edit.name and it.start < line <= it.end + 1 for it in functions(file, read(f"{TOP}/crates/{crate}/{file}")))
+            for file, line in errors
+        )
+
     def verdict(self, edit, crate, texts, is_alone):
         """passed, failed or again, and what to say."""
+        if not self.was_judged and not edit.target and self.is_of_law(edit, crate):
+            return "passed", "refused, by what its law speaks of"
         if not self.was_judged:
             return "again", "the crate isn't read: " + next((it for it in self.text.split("\n") if ": error" in it), self.text[-200:])[:200]
         names = self.names(edit, crate)
@@ -210,9 +147,10 @@ class Report:
         goals = self.goals[name]
         if edit.target and edit.target.cycle and not is_alone:
             # the functions of a cycle are proved together, and each has the goals of all
-            goals = [it for it in goals if edit.target.key() in at_line(texts, *it)]
-        if goals or inside:
-            return "passed", "refused"
+            goals = [it for it in goals if edit.target.key() in at_line(texts, *it[:2])]
+        goals = [*goals, *[goal for it in inside for goal in self.goals[it]]]
+        if goals:
+            return "passed", f"refused at {goals[0][2]}" + (f" and {len(goals) - 1} more" if goals[1:] else "")
         if self.said[name] == "proved":
             return "failed", "LET THROUGH: it is still proved"
         if edit.target and edit.target.cycle and not is_alone:
@@ -275,23 +213,6 @@ def guilty(report, edits, texts):
     return None
 
 
-def listed():
-    """The lines of crates.txt, by their crates."""
-    lines = [it for it in read(f"{TOP}/crates.txt").split("\n") if it.strip() and not it.startswith("#")]
-    return {re.match(r"\w+", it)[0]: it for it in lines}
-
-
-def below(crate):
-    """The repository's crates that it stands on, and itself."""
-    lines, found, left = listed(), set(), [crate]
-    while left:
-        it = left.pop()
-        if it in lines and it not in found:
-            found.add(it)
-            left += lines[it].partition(":")[2].split()
-    return found
-
-
 def copy_to(room, crate, edits):
     """Copies the crate and those that the edits change, what their checks kept, and the crates below, built."""
     needed, kept = below(crate), {crate, *[file.split("/")[1] for it in edits for file, _, _ in it.pairs if file.startswith("../")]}
@@ -305,6 +226,23 @@ def copy_to(room, crate, edits):
                 shutil.copytree(f"{TOP}/crates/{it}/{part}", f"{room}/crates/{it}/{part}")
 
 
+def take_libraries(room):
+    """Has `rt check` take the libraries that `rt ci` has just built. It leaves them without a sum of their text, since they
+    fit those of the same run alone: so all are taken, or none, and none that is older than its text."""
+    sys.path.insert(0, os.path.dirname(os.path.realpath(shutil.which("rt"))))
+    import rtlib
+
+    crates = [it for it in rtlib.crates_below(room) if os.path.isdir(it.rlib)]
+    for it in crates:
+        folder = it.folder.replace(room, TOP)
+        texts = [f"{at}/{name}" for part in ("src", "specs", "proofs") for at, _, names in os.walk(f"{folder}/{part}") for name in names]
+        if os.path.isfile(f"{it.folder}/out/rlib/stamp") or os.path.getmtime(f"{folder}/out/rlib") < max(map(os.path.getmtime, texts)):
+            return
+    for it in crates:
+        with open(f"{it.folder}/out/rlib/stamp", "w", encoding="utf-8") as to:
+            to.write(it.stamp())
+
+
 def check(folder, options, paths=()):
     words = [options.rt, "check", *(["--jobs", str(options.jobs)] if options.jobs else [])]
     for path in paths:
@@ -312,82 +250,136 @@ def check(folder, options, paths=()):
     return subprocess.run(words, cwd=folder, stdin=subprocess.DEVNULL, stdout=subprocess.PIPE, stderr=subprocess.STDOUT, text=True, errors="replace", check=False).stdout
 
 
-def try_crate(crate, options):
-    """How many edits of the crate passed, and what was said of those that failed."""
-    edits, passed, failed = [], 0, []
+class Tries:
+    """The edits of a crate that are left to try, how many passed, and what was said of those that failed."""
 
-    def say(edit, verdict, text):
-        nonlocal passed
-        line = f"wrong: {crate}/{edit.title}: {text}"
+    def __init__(self, crate, paths, options):
+        self.crate, self.options, self.edits, self.passed, self.failed = crate, options, [], 0, []
+        for path in paths:
+            edit = Edit(path)
+            edit.alone = False
+            why = edit.locate(f"{TOP}/crates/{crate}")
+            if why:
+                self.say(edit, "failed", f"BAD EDIT: {why}")
+            else:
+                self.edits.append(edit)
+        # the checks of laws take what those of the others leave
+        self.edits.sort(key=lambda it: it.is_wide)
+
+    def say(self, edit, verdict, text):
+        line = f"wrong: {self.crate}/{edit.title}: {text}"
         print(line, flush=True)
         if verdict == "passed":
-            passed += 1
+            self.passed += 1
         else:
-            failed.append(line)
+            self.failed.append(line)
 
-    for path in sorted(glob.glob(f"{TOP}/tests/wrong/{crate}/*.edit")):
-        if not any(it in os.path.basename(path) for it in options.edit or [""]):
-            continue
-        edit = Edit(path)
-        edit.alone = False
-        why = edit.locate(f"{TOP}/crates/{crate}")
-        if why:
-            say(edit, "failed", f"BAD EDIT: {why}")
-        else:
-            edits.append(edit)
-    begun = time.time()
-    text = check(f"{TOP}/crates/{crate}", options)
-    if "\nlogic=proved" not in text:
+    def is_proved(self):
+        """Whether the crate is proved as it stands, in its own folder."""
+        begun = time.time()
+        text = check(f"{TOP}/crates/{self.crate}", self.options)
+        if "\nlogic=proved" in text:
+            print(f"wrong: {self.crate} as it stands is proved, {time.time() - begun:.0f} s", flush=True)
+            return True
         print(text[-3000:])
-        print(f"wrong: {crate} isn't proved as it stands", flush=True)
-        return passed, [*failed, *[f"wrong: {crate}/{it.title}: not tried" for it in edits]]
-    print(f"wrong: {crate} as it stands is proved, {time.time() - begun:.0f} s", flush=True)
-    whole = Report(text)
-    with tempfile.TemporaryDirectory(prefix="wrong-") as room:
-        copy_to(room, crate, edits)
-        while edits:
-            batch, edits = batch_of(edits)
-            chosen, (batch, texts) = batch, apply(batch, crate, room)
-            for it in chosen:
-                if it not in batch:
-                    it.alone = True
-                    edits.append(it)
-            begun = time.time()
-            laws = [name.partition("::")[2] for it in batch if it.is_wide for name in whole.names(it, crate)]
-            report = Report(check(f"{room}/crates/{crate}", options, laws))
-            print(f"wrong: {crate}: {len(batch)} edits in one check, {time.time() - begun:.0f} s", flush=True)
-            if options.keep:
-                with open(f"{options.keep}/{crate}-{int(begun)}.log", "w", encoding="utf-8") as it:
-                    it.write("\n".join(edit.title for edit in batch) + "\n" + report.text)
-            unread = None if report.was_judged else guilty(report, batch, texts)
-            for edit in batch:
-                verdict, text = report.verdict(edit, crate, texts, len(batch) == 1)
-                if verdict == "again" and (edit is unread or len(batch) == 1):
-                    say(edit, "failed", f"UNCLEAR: {text}")
-                elif verdict == "again":
-                    # with the text that isn't read gone, the others may be tried together once more
-                    edit.alone = not unread
-                    edits.append(edit)
-                else:
-                    say(edit, verdict, text)
-            for file in texts:
-                shutil.copy(f"{TOP}/crates/{crate}/{file}", f"{room}/crates/{crate}/{file}")
-    return passed, failed
+        print(f"wrong: {self.crate} isn't proved as it stands", flush=True)
+        self.failed += [f"wrong: {self.crate}/{it.title}: not tried" for it in self.edits]
+        return False
+
+    def try_batch(self, room):
+        """Tries some of the edits together; those that must be tried once more stay among the edits."""
+        chosen, self.edits = batch_of(self.edits)
+        batch, texts = apply(chosen, self.crate, room)
+        for it in chosen:
+            if it not in batch:
+                it.alone = True
+                self.edits.append(it)
+        begun = time.time()
+        laws = [law_at(self.crate, it.name) for it in batch if it.is_wide]
+        report = Report(check(f"{room}/crates/{self.crate}", self.options, laws))
+        print(f"wrong: {self.crate}: {len(batch)} edits in one check, {time.time() - begun:.0f} s", flush=True)
+        if self.options.keep:
+            with open(f"{self.options.keep}/{self.crate}-{int(begun)}.log", "w", encoding="utf-8") as it:
+                it.write("\n".join(edit.title for edit in batch) + "\n" + report.text)
+        unread = None if report.was_judged else guilty(report, batch, texts)
+        for edit in batch:
+            verdict, text = report.verdict(edit, self.crate, texts, len(batch) == 1)
+            if verdict == "again" and (edit is unread or len(batch) == 1):
+                self.say(edit, "failed", f"UNCLEAR: {text}")
+            elif verdict == "again":
+                # with the text that isn't read gone, the others may be tried together once more
+                edit.alone = not unread
+                self.edits.append(edit)
+            else:
+                self.say(edit, verdict, text)
+        for file in texts:
+            shutil.copy(f"{TOP}/crates/{self.crate}/{file}", f"{room}/crates/{self.crate}/{file}")
+
+
+def try_crate(crate, paths, options):
+    """How many of the crate's edits passed, and what was said of those that failed."""
+    tries = Tries(crate, paths, options)
+    if options.today or tries.is_proved():
+        with tempfile.TemporaryDirectory(prefix="wrong-") as room:
+            copy_to(room, crate, tries.edits)
+            if options.today:
+                take_libraries(room)
+            while tries.edits:
+                tries.try_batch(room)
+    return tries.passed, tries.failed
+
+
+def days(crates, most=20):
+    """The edits of tests/wrong, in sets of about as many as one day tries: of one crate, or of some that have few, and as
+    many of different functions as can be, which take one check."""
+    sets = []
+    for crate in crates:
+        edits = [Edit(it) for it in paths_of(crate) if "/tests/wrong/" in it]
+        random.Random(crate).shuffle(edits)
+        parts = [[] for _ in range(-(-len(edits) // most))]
+        for edit in edits:
+            edit.locate(f"{TOP}/crates/{crate}")
+            alike = lambda part: sum(it.is_wide if edit.is_wide else bool(it.keys & edit.keys) for _, it in part)
+            min(parts, key=lambda part: (alike(part), len(part))).append((crate, edit))
+        for part in parts:
+            if sets and len(sets[-1]) + len(part) <= most + 5:
+                sets[-1] += part
+            else:
+                sets.append(part)
+    return [[(crate, it.path) for crate, it in part] for part in sets]
+
+
+def chosen(crates, options):
+    """The edits to try, by their crates."""
+    if options.today:
+        sets = days(crates)
+        at = options.today % len(sets)
+        edits = sets[at]
+        print(f"wrong: the edits of day {at + 1} of {len(sets)}: {len(edits)}, of {', '.join(dict.fromkeys(crate for crate, _ in edits))}", flush=True)
+    else:
+        edits = [(crate, path) for crate in crates for path in paths_of(crate)]
+    edits = [it for it in edits if any(word in it[1] for word in options.edit or [""])]
+    return {crate: [path for of, path in edits if of == crate] for crate, _ in edits}
 
 
 def main():
     words = argparse.ArgumentParser(description=__doc__, formatter_class=argparse.RawDescriptionHelpFormatter)
-    words.add_argument("crate", nargs="*", help="the crates to try, in place of all")
+    words.add_argument("crate", nargs="*", help="the crates to try, in place of all; or look, or today")
     words.add_argument("--jobs", type=int, help="jobs of one check, in place of what rt chooses")
-    words.add_argument("--lanes", type=int, default=len(os.sched_getaffinity(0)), help="crates side by side")
+    words.add_argument("--lanes", type=int, default=len(os.sched_getaffinity(0)), help="crates, or copies, side by side")
     words.add_argument("--rt", default="rt", help="the command in place of rt")
-    words.add_argument("--edit", action="append", metavar="WORD", help="only the edits whose name has this word (may be repeated)")
+    words.add_argument("--edit", action="append", metavar="WORD", help="only the edits whose path has this word (may be repeated)")
     words.add_argument("--keep", help="a folder in which what the checks say is kept")
+    words.add_argument("--day", type=datetime.date.fromisoformat, default=datetime.date.today(), help="under today, another day, as 2026-11-27")
     options = words.parse_args()
-    found = sorted(os.path.basename(os.path.dirname(it)) for it in glob.glob(f"{TOP}/tests/wrong/*/"))
-    crates = options.crate or found
-    with ThreadPoolExecutor(options.lanes) as pool:
-        counts = list(pool.map(lambda it: try_crate(it, options), crates))
+    modes = {"look", "today"} & {*options.crate}
+    crates = [it for it in options.crate if it not in modes] or [it for it in listed() if paths_of(it)]
+    options.today = options.day.toordinal() if "today" in modes else 0
+    if "look" in modes:
+        counts = [look(crates, options.lanes)]
+    else:
+        with ThreadPoolExecutor(options.lanes) as pool:
+            counts = list(pool.map(lambda it: try_crate(*it, options), chosen(crates, options).items()))
     passed, failed = sum(it[0] for it in counts), [line for it in counts for line in it[1]]
     for line in failed:
         print(f"failed: {line}")

@@ -1,7 +1,7 @@
-// Reads lines `TYPE HEX`, by the C++ classes that protoc generates of members.proto and wagons.proto, and prints what
-// the message of the type holds, what it is written as in deterministic order, and whether a map in it has more than one
-// pair, but for those that our types write in that order too; or `refused`. The types that keep no other field are
-// written without these.
+// Reads lines `TYPE HEX`, by the C++ classes that protoc generates of members.proto, wagons.proto and palettes.proto,
+// and prints what the message of the type holds, what it is written as in deterministic order, and whether a map in it
+// has more than one pair, but for those that our types write in that order too; or `refused`. The types that keep no
+// other field are written without these.
 #include <algorithm>
 #include <cctype>
 #include <cstdio>
@@ -12,6 +12,7 @@
 #include <vector>
 
 #include "members.pb.h"
+#include "palettes.pb.h"
 #include "wagons.pb.h"
 #include <google/protobuf/io/coded_stream.h>
 #include <google/protobuf/io/zero_copy_stream_impl_lite.h>
@@ -20,8 +21,8 @@ using google::protobuf::FieldDescriptor;
 using google::protobuf::Message;
 
 static const std::set<std::string> KEEPING = {"Assorted", "Beam", "Explicit", "Frame", "Inventory",
-                                              "Joined", "Ledger", "Load", "Wagon"};
-static const std::set<std::string> IN_ORDER = {"axles", "balances", "berths", "pages", "seals"};
+                                              "Joined", "Ledger", "Load", "Palette", "Patch", "Swatch", "Wagon"};
+static const std::set<std::string> IN_ORDER = {"axles", "balances", "berths", "ordered", "pages", "seals"};
 
 static std::string bytes_of(const std::string& hex) {
   std::string bytes;

@@ -1,23 +1,24 @@
 """Writes vectors/members.tsv by Google's protobuf; rows.py in vectors/google makes rows of it.
 
 It needs protoc, g++ and libprotobuf-dev (3.21.12 was used): python3 vectors/members.py, at the top. A seed may be given
-as an argument. Asked are messages of each type of members.proto and wagons.proto, which are drawn by its kinds of
-fields: values of each kind, many entries of a map, fields at random, beginnings of them, and bytes that no reader takes;
-and the bytes of the rows of vectors/cases/members.tsv, but for those on limits. A row of these on which Google's answer
-is another is named below.
+as an argument. Asked are messages of each type of members.proto, wagons.proto and palettes.proto, which are drawn by
+its kinds of fields: values of each kind, many entries of a map, fields at random, beginnings of them, and bytes that no reader takes;
+and the bytes of the rows of vectors/cases/members.tsv, but for those on limits. Where Google's answer may be another one
+stands in the table, with why, as `apart.py` finds it in the bytes.
 """
 import re
 import subprocess
 import tempfile
-from fnmatch import fnmatchcase
 from pathlib import Path
 
+from apart import Types, apart, reasons_in
 from enums import varint
-from nodes import DRAW, FAULTS, at_random
+from nodes import DRAW, at_random
 
 HERE = Path(__file__).resolve().parent
-PROTOS = ["members.proto", "wagons.proto"]
-TEXT = "".join((HERE / name).read_text(encoding="ascii") for name in PROTOS)
+PROTOS = ["members.proto", "wagons.proto", "palettes.proto"]
+STRICT, *LOOSE = ((HERE / name).read_text(encoding="ascii") for name in PROTOS)
+TEXT = "".join([STRICT, *LOOSE])
 GROUP = re.compile(r"group (\w+) = (\d+) {(.*?)}", re.DOTALL)
 GROUPS = {name: body for name, _, body in GROUP.findall(TEXT)}
 # The messages; a group in one is a member of its own type.
@@ -37,21 +38,19 @@ NUMBERS = {
     FOUR: [0, 1, 2**31 - 1, 2**31, 2**32 - 1],
     EIGHT: [0, 1, 2**63 - 1, 2**63, 2**64 - 1],
 }
-# A closed enum is asked of the values that it declares.
-CLOSED = [0, 1]
+# Closed enums: one that is an open one of ours is asked of the values that it declares, the other of any.
+DECLARED = [0, 1]
+CLOSED = {"Closed": DECLARED * 5, "Tone": [0, 1, 2, 1, 2**64 - 5, 0, 2**32 + 1, 99, 2**32 + 7]}
 TEXTS = ["", "a", "b", "ab", "Z", "\u00e9", "a b", "x" * 130]
 
-# Types with maps that are written in the order of their keys.
-IN_ORDER = {"Ledger", "Wagon"}
+# The same, as `apart` takes them.
+KNOWN = Types(
+    {name: {it[3]: it[:3] for it in members} for name, members in TYPES.items()}, GROUPS, dict.fromkeys(CLOSED, DECLARED), {"Closed"},
+    strict=set(re.findall(r"message (\w+)", STRICT)),
+)
 
-# Why an answer of theirs is another one, and the rows of vectors/cases/members.tsv on which it is.
-OWN = {
-    "wire": """a field of another wire type*
-        a key of another wire type""",
-    "bool": "a bool of 2^63 in an entry",
-    "text": "a text in a * in a list that is no UTF-8",
-}
-WHY = {name.strip(): why for why, names in OWN.items() for name in names.split("\n")}
+# Types with maps that are written in the order of their keys.
+IN_ORDER = {"Ledger", "Wagon", "Palette"}
 
 
 def wire(kind):
@@ -67,7 +66,7 @@ def payload(kind, at, levels):
     if kind in TYPES:
         return delimited(message(kind, levels - 1))
     if wire(kind) == VARINT:
-        number = CLOSED[at % 2] if kind == "Closed" else NUMBERS[VARINT][at % 9]
+        number = CLOSED.get(kind, NUMBERS[VARINT])[at % 9]
         return varint(number, 1 if DRAW.randrange(9) == 0 and number < 2**32 else 0)
     if wire(kind) == DELIMITED:
         text = TEXTS[at % 8].encode()
@@ -146,14 +145,12 @@ def inputs(kind):
     members = [b"", *all_members(kind)]
     if kind in IN_ORDER:
         members += many_entries(kind)
-    # a field of the number 5 and of another wire type than that member's is kept
-    faults = [it for it in FAULTS if kind != "Wagon" or it[:2] not in ("29", "2d")]
-    members += at_random(20 if kind == "Wagon" else 9, lambda: one_field(kind, 2), faults)
+    members += at_random(20 if kind == "Wagon" else 9, lambda: one_field(kind, 2))
     return [(kind.lower(), it.hex()) for it in members]
 
 
 def by_hand():
-    """What the rows of vectors/cases/members.tsv read, with their answers, and why Google's is another."""
+    """What the rows of vectors/cases/members.tsv read, with their answers."""
     found = {}
     for line in (HERE / "cases" / "members.tsv").read_text(encoding="ascii").splitlines():
         fields = line.split("\t")
@@ -162,9 +159,8 @@ def by_hand():
         if fields[2].capitalize() not in MESSAGES:
             continue
         name, call, kind, _, before, given, answer, after = fields
-        why = next((why for form, why in WHY.items() if fnmatchcase(name, form)), "")
         after = "refused" if answer != "ok" else after.split("; ")[call == "encode"].removeprefix("text ")
-        found.setdefault((kind, (before + given).replace("-", "")), []).append((name, call, why, after))
+        found.setdefault((kind, (before + given).replace("-", "")), []).append((name, call, after))
     return found
 
 
@@ -175,25 +171,23 @@ def ask(asked):
     return dict(zip(asked, (it.split("\t") for it in told.stdout.splitlines())))
 
 
-def mark_of(told, rows):
-    """`same`, or `many` where a map without order has more than one pair; or why the rows by hand have another answer."""
-    for name, call, why, after in rows:
+def mark_of(told, why, rows):
+    """`same`, or `many` where a map without order has more than one pair; or why their answer may be another one: it is on
+    the rows by hand."""
+    for name, call, after in rows:
         theirs = told[1] if call == "encode" and told != ["refused"] else told[0]
         assert why or theirs == after or call == "encode" and told[2] == "many", f"{name}: {theirs}"
         assert not why or theirs != after, f"{name}: Google agrees"
-        if why:
-            return f"own {why}"
+    if why:
+        return f"own {why}"
     return "refused" if told == ["refused"] else "same" if told[2] == "one" else "many"
 
 
 HEAD = """\
-# Messages of members.proto and wagons.proto as C++ classes of protobuf 3.21.12 read and write them, in deterministic order;
+# Messages of members.proto, wagons.proto and palettes.proto as C++ classes of protobuf 3.21.12 read and write them, in deterministic order;
 # those that keep no other field are written without these.
 # type, bytes in hex (- for none), a mark, what the message then holds, what it is written as. Marks: same; many, a map in it
 # that ours writes in no order has more than one pair, and they are in the order of their keys; refused; own and why:
-# wire    a field, or a part of an entry, with another wire type is passed over, or kept
-# bool    a bool in an entry is read of its low 32 bits
-# text    a string of proto2, which the wagon is here, may be no UTF-8
 """
 
 
@@ -214,10 +208,11 @@ def main():
     back = ask(list(dict.fromkeys(wrote.values())))
     lines = []
     for (kind, given), words in told.items():
-        mark = mark_of(words, rows.get((kind, given), []))
+        why = apart(KNOWN, kind.capitalize(), bytes.fromhex(given), words == ["refused"])
+        mark = mark_of(words, why, rows.get((kind, given), []))
         assert words == ["refused"] or back[wrote[(kind, given)]][:2] == words[:2], given
         lines.append("\t".join([kind, given or "-", mark, *([] if mark == "refused" else words[:2])]) + "\n")
-    (HERE / "members.tsv").write_text(HEAD + "".join(lines), encoding="ascii")
+    (HERE / "members.tsv").write_text(HEAD + reasons_in(lines) + "".join(lines), encoding="ascii")
 
 
 if __name__ == "__main__":

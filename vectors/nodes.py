@@ -2,66 +2,26 @@
 
 It needs protoc, g++ and libprotobuf-dev (3.21.12 was used): python3 vectors/nodes.py, at the top. A seed may be given
 as an argument. Asked are the bytes of the rows of vectors/cases/nodes.tsv and sets.tsv, but for those on limits, and
-bytes made at random. A row of these on which Google's answer is another one is named below, with why.
+bytes made at random. Where Google's answer may be another one stands in the table, with why, as `apart.py` finds it in the
+bytes.
 """
 import random
 import subprocess
 import sys
 import tempfile
-from fnmatch import fnmatchcase
 from pathlib import Path
 
+from apart import Types, apart, reasons_in
 from enums import varint
 
 HERE = Path(__file__).resolve().parent
 DRAW = random.Random(int(sys.argv[1]) if len(sys.argv) > 1 else 10)
 
-# Why an answer of theirs is another one, and the rows of vectors/cases on which it is.
-OWN = {
-    "again": """an undeclared shade of 2^31
-        a shade that is declared, then one that is not, in one entry
-        an undeclared shade before its key
-        an undeclared shade without a key
-        an undeclared shade in long spellings, with other fields
-        a group in an entry of an undeclared shade at the last level""",
-    "wire": """field [123] of wire type [0135]
-        a field of another wire type takes no memory
-        a key of another wire type
-        a score of another wire type
-        a key of a child of another wire type
-        a key of a shade of another wire type
-        a child of another wire type
-        a shade of another wire type
-        a child that is refused
-        a child of a child that is refused
-        a child that is refused spends units
-        what a refused child keeps spends unknown fields""",
-    "text": "a score whose key is no text",
-    "levels": """alone, a hundred children in one another
-        alone, an undeclared shade in a hundred groups
-        a hundred levels""",
-    "number": """a type id of 2147483648
-        a type id of 2147483648, between records
-        a type id of 2^32 and 5
-        a type id of -1""",
-    "first": """two messages in one Item
-        two messages in one Item, one before the type id
-        two messages in one Item are one
-        the last type id counts""",
-    "part": """an Item of no message
-        an Item of no message has an empty one
-        no type id, between records
-        nothing in an Item, between records
-        a refused Item spends no unknown field""",
-    "inside": """an Item in long spellings
-        fields of an Item that are passed over
-        type id and message of other wire types are passed over
-        an Item in an Item is passed over
-        a group in an Item at the last level
-        alone, an Item with 99 groups in one another
-        fields of an Item that are passed over cost no unknown fields""",
-}
-WHY = {name.strip(): why for why, names in OWN.items() for name in names.split("\n")}
+# A node's members, as `apart` takes them, and its enum.
+TYPES = Types(
+    {"Node": {1: ("", "string", "int32"), 2: ("", "int32", "Node"), 3: ("", "int32", "Shade")}}, closed={"Shade": [0, 1]},
+)
+KINDS = {"node": "Node", "set": "set"}
 
 
 def delimited(number, held):
@@ -139,7 +99,7 @@ def item():
 FAULTS = ["0c", "24", "00", "0200", "26", "27", "2bff", "2b34", "2880808080808080808080800100", "2a0561", "2d0102", "2900"]
 
 
-def at_random(count, make, faults=FAULTS):
+def at_random(count, make):
     """Bytes that a maker makes, and by turns a beginning of them, or them with a fault between two of their parts."""
     for at in range(count):
         parts = [make() for _ in range(DRAW.randrange(1, 4))]
@@ -148,21 +108,20 @@ def at_random(count, make, faults=FAULTS):
         if at % 2:
             yield whole[: DRAW.randrange(len(whole) + 1)]
             continue
-        parts.insert(DRAW.randrange(len(parts) + 1), bytes.fromhex(DRAW.choice(faults)))
+        parts.insert(DRAW.randrange(len(parts) + 1), bytes.fromhex(DRAW.choice(FAULTS)))
         yield b"".join(parts)
 
 
 def by_hand(table, kind):
-    """What the rows of a table of vectors/cases read: the bytes, what Google finds else, and their answer."""
+    """What the rows of a table of vectors/cases read: the bytes, and their answers."""
     found = {}
     for line in (HERE / "cases" / f"{table}.tsv").read_text(encoding="ascii").splitlines():
         fields = line.split("\t")
         if line.startswith("#") or fields[1] not in ("merge", "encode") or fields[2] != kind or "Limit" in fields[6]:
             continue
         name, call, _, _, before, given, answer, after = fields
-        why = next((why for form, why in WHY.items() if fnmatchcase(name, form)), "")
         after = "refused" if answer != "ok" else after.split("; ")[call == "encode"].removeprefix("text ")
-        found.setdefault((before + given).replace("-", ""), []).append((name, call, why, after))
+        found.setdefault((before + given).replace("-", ""), []).append((name, call, after))
     return found
 
 
@@ -176,14 +135,15 @@ def ask(kind, inputs):
     return dict(zip(inputs, answers([f"{kind} {it}" for it in inputs])))
 
 
-def mark_of(told, is_whole, rows):
-    """`same`, or `held` where not all that is held is written; or why the rows by hand have another answer."""
-    for name, call, why, after in rows:
+def mark_of(told, is_whole, why, rows):
+    """`same`, or `held` where not all that is held is written; or why their answer may be another one: it is on the rows
+    by hand."""
+    for name, call, after in rows:
         theirs = told[1] if call == "encode" and told != ["refused"] else told[0]
         assert why or theirs == after or call == "encode" and not is_whole, f"{name}: {theirs}"
         assert not why or theirs != after, f"{name}: Google agrees"
-        if why:
-            return f"own {why}"
+    if why:
+        return f"own {why}"
     return "refused" if told == ["refused"] else "same" if is_whole else "held"
 
 
@@ -198,7 +158,8 @@ def table(kind, cases, random_inputs):
     lines = []
     for given, words in told.items():
         is_whole = words == ["refused"] or back[words[1].strip("-")][0] == words[0]
-        mark = mark_of(words, is_whole, rows.get(given, []))
+        why = apart(TYPES, KINDS[kind], bytes.fromhex(given), words == ["refused"])
+        mark = mark_of(words, is_whole, why, rows.get(given, []))
         # the extension of what Declaring wrote itself
         words = words[:2] + ([words[3]] if words[2:3] == [given] else [])
         lines.append("\t".join([given or "-", mark, *([] if mark == "refused" else words)]) + "\n")
@@ -217,19 +178,11 @@ def build():
 NODES = """\
 # Nodes as C++ classes of protobuf 3.21.12 read and write them, in deterministic order.
 # bytes in hex (- for none), a mark, what the node then holds, what it is written as. Marks: same; refused; own and why:
-# again   an undeclared entry of a closed enum is kept as key and value, encoded again
-# wire    a field or a part of an entry with another wire type is passed over, or kept
-# text    a key of proto2 may be no UTF-8
-# levels  an entry is a level of its own, beside the message in it
 """
 SETS = """\
 # MessageSets as C++ classes of protobuf 3.21.12 read and write them, in deterministic order.
 # bytes in hex (- for none), a mark, what the set then holds, what it is written as, and, of what a class that declares
 # the extension 5 wrote, the bytes of that. Marks: same; held, whose encoding has no records but Items; refused; own and why:
-# number  a type id is cut to 32 bits, and isn't refused
-# first   the first type id of an Item counts, and its first message alone
-# part    an Item without a type id or without a message is passed over
-# inside  other fields of an Item are kept as fields of the set, and so are its own in long spellings of their tags
 """
 
 
@@ -237,8 +190,8 @@ def main():
     build()
     nodes = table("node", "nodes", at_random(16, lambda: node(3)))
     sets = table("set", "sets", at_random(20, item))
-    (HERE / "nodes.tsv").write_text(NODES + "".join(nodes), encoding="ascii")
-    (HERE / "sets.tsv").write_text(SETS + "".join(sets), encoding="ascii")
+    (HERE / "nodes.tsv").write_text(NODES + reasons_in(nodes) + "".join(nodes), encoding="ascii")
+    (HERE / "sets.tsv").write_text(SETS + reasons_in(sets) + "".join(sets), encoding="ascii")
 
 
 if __name__ == "__main__":

@@ -146,7 +146,8 @@ def members():
         "# any fault but want of memory. What a map of more than one pair is written as is asked of what they wrote, in the order\n",
         "# of keys, unless the type writes it in that order too. Left out are bytes of which they make something else\n",
         "# (vectors/members.tsv has them, with why): a field or a part of an entry with another wire type, which they pass over\n",
-        "# or keep; a bool of 2^32 or more in an entry.\n",
+        "# or keep; a bool of 2^32 or more in an entry; an undeclared entry that isn't spelled as they write it. What a closed\n",
+        "# enum doesn't declare they keep in the order in which it came, as we do.\n",
     ]
     for kind, given, mark, *told in answered("members"):
         given = given.strip("-")

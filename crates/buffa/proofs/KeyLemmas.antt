@@ -2,8 +2,8 @@
 use Rattle.std.proofs.Common.{◌≡◌, Bool, false, true, List, [], ◌∷◌, Some, refl, sym, ◌∙◌, arith}
 use Rattle.std.specs.Cmp.{IsEquivalence}
 use Rattle.std.specs.Map.{keys_of, lookup_entry}
-use Rattle.buffa_map_base.specs.Pairs.{put}
-use Rattle.buffa_map_base.proofs.PutLemmas.{lookup_entry-put}
+use Rattle.buffa_map.specs.Pairs.{put}
+use Rattle.buffa_map.proofs.PutLemmas.{lookup_entry-put}
 use Rattle.buffa.specs.Keys.{KeepsStoredKeys}
 
 module _ {K V : Type 0} (eq : K → K → Bool) (k : K) (v : V) (e : K × V) where

@@ -4,11 +4,11 @@ use Rattle.buffa_bytes.specs.declared.wire_type.WireType.TheVariants.{LengthDeli
 use Rattle.buffa_wire.specs.Passes.{IsSmall, cap}
 use Rattle.buffa_bytes.specs.Values.{tag_encoding}
 use Rattle.buffa_bytes.specs.Varint.{varint_encoding}
-use Rattle.buffa_map_base.specs.Codec.{Writing}
-use Rattle.buffa_map_base.specs.MessageField.{entry_size, field_slots}
-use Rattle.buffa_map_base.specs.Scalars.{delimited_writing}
-use Rattle.buffa_map_base.specs.Encoding.{entry_encoding, field_encoding, record_encoding}
-use Rattle.buffa_map_base.proofs.SizeLemmas.{length-entry_encoding}
+use Rattle.buffa_map.specs.Codec.{Writing}
+use Rattle.buffa_map.specs.MessageField.{entry_size, field_slots}
+use Rattle.buffa_map.specs.Scalars.{delimited_writing}
+use Rattle.buffa_map.specs.Encoding.{entry_encoding, field_encoding, record_encoding}
+use Rattle.buffa_map.proofs.SizeLemmas.{length-entry_encoding}
 use Rattle.buffa.specs.Slots.{AreSmall, WrittenBySlots, record_by}
 
 module _ {K M : Type 0} (key : Writing K) (encoding slots : M → List ℕ) (n : ℕ) where

@@ -1,7 +1,7 @@
 -- The stored keys of a map.
 use Rattle.std.specs.Prelude.{◌≡◌, Bool, false, true, List, Some}
 use Rattle.std.specs.Map.{keys_of, lookup_entry}
-use Rattle.buffa_map_base.specs.Pairs.{SamePairs, put}
+use Rattle.buffa_map.specs.Pairs.{SamePairs, put}
 
 -- what a put leaves of the stored keys, in whatever order the pairs stand then
 pub record KeepsStoredKeys {K : Type 0} (V : Type 0) (eq : K → K → Bool) : Type 0 where

@@ -1,4 +1,5 @@
 -- The words that this crate hands out: its own, and some of the crates below.
+pub mod Alike
 pub mod Extensions
 pub mod Items
 pub mod Keys
@@ -7,7 +8,7 @@ pub mod Members
 pub mod Slots
 pub mod Wire
 pub use Rattle.buffa_map.specs.Children
-pub use Rattle.buffa_node.specs.Branch
-pub use Rattle.buffa_node.specs.NodeMeaning
-pub use Rattle.buffa_node.specs.NodeEncoding
-pub use Rattle.buffa_set_msg.specs.Set
+pub use Rattle.sample_node.specs.Branch
+pub use Rattle.sample_node.specs.NodeMeaning
+pub use Rattle.sample_node.specs.NodeEncoding
+pub use Rattle.sample_set_msg.specs.Set

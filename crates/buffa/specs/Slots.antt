@@ -4,10 +4,10 @@ use Rattle.buffa_bytes.specs.declared.wire_type.WireType.TheVariants.{LengthDeli
 use Rattle.buffa_wire.specs.Passes.{IsSmall}
 use Rattle.buffa_bytes.specs.Values.{tag_encoding}
 use Rattle.buffa_bytes.specs.Varint.{varint_encoding}
-use Rattle.buffa_map_base.specs.Codec.{Writing}
-use Rattle.buffa_map_base.specs.MessageField.{entry_size, field_slots, key_and_length}
-use Rattle.buffa_map_base.specs.Scalars.{delimited_writing}
-use Rattle.buffa_map_base.specs.Encoding.{field_encoding}
+use Rattle.buffa_map.specs.Codec.{Writing}
+use Rattle.buffa_map.specs.MessageField.{entry_size, field_slots, key_and_length}
+use Rattle.buffa_map.specs.Scalars.{delimited_writing}
+use Rattle.buffa_map.specs.Encoding.{field_encoding}
 
 -- no message has more than 2^31 - 1 bytes
 abbrev pub AreSmall : {K M : Type 0} → (M → List ℕ) → List (K × M) → Type 0

@@ -10,7 +10,7 @@
 //! ```
 
 pub use buffa_ext::{
-    Change, Declared, Extension, ExtensionCodec, ExtensionSet, LastWins, Make, MessageIn,
-    MessageRecord, NoDefault, Numbered, PackableCodec, ReplayFault, SingularCodec, codecs, replay,
+    Declared, Extension, ExtensionCodec, ExtensionSet, LastWins, Make, MessageIn, MessageRecord,
+    NoDefault, Numbered, PackableCodec, ReplayFault, SingularCodec, Step, codecs, replay,
     set_then_read,
 };

@@ -5,10 +5,10 @@ ghost use Rattle.std.specs.Prelude.{◌≡◌, ◌≢◌, ◌↔◌, [], ◌∷�
 ghost use Rattle.buffa_wire.specs.Enums.{open_number};
 ghost use Rattle.buffa_codec.specs.Decoded.{LaterReadingsWin, ReadAlike, ReadingsJoin};
 ghost use Rattle.buffa_codec.specs.Through.{ListsThrough, ReadsThrough, WritesThrough};
-ghost use Rattle.buffa_ext.specs.Changes.{ClearsAreOne, IsExactlySet, KeepsTheRest, LeavesOthers, SecondCounts};
-ghost use Rattle.buffa_ext.specs.Changes.{StandsLast, TakesOut, TakesThePlace};
+ghost use Rattle.buffa_ext.specs.Steps.{ClearsAreOne, IsExactlySet, KeepsTheRest, LeavesOthers, SecondCounts};
+ghost use Rattle.buffa_ext.specs.Steps.{StandsLast, TakesOut, TakesThePlace};
 ghost use Rattle.buffa_map.specs.Laws.{RewriteMeans, RunsJoin, SizeIsLength};
-ghost use Rattle.buffa_map_base.specs.Scalars.{delimited_writing};
+ghost use Rattle.buffa_map.specs.Scalars.{delimited_writing};
 ghost use Rattle.buffa_message_set.specs.Item.{NoOtherFront, WrittenIsItem, body_encoding, item_encoding};
 ghost use Rattle.buffa.specs.Keys.{KeepsStoredKeys};
 ghost use Rattle.buffa.specs.Slots.{SlotsAreLengths};
@@ -27,14 +27,16 @@ use std::hash::{BuildHasher, Hash};
 
 /// Laws of the names of this crate: limits, codecs, and the usual map.
 pub use crate::name_laws as names;
+/// Laws of the words of clauses that this crate hands on.
+pub use crate::word_laws as words;
 /// Laws of bytes: varints, tags, fields, scalars and texts.
-pub use buffa_wire_laws::fields;
+pub use buffa_wire::laws::fields;
 /// Laws of codecs of extensions: scalars, texts, enums and lists.
 pub use buffa_codec::laws as extension_codecs;
 /// Laws of sets and clears of extensions, and of messages in them.
 pub use buffa_ext::laws as extensions;
 /// Laws of messages that are lists of their members, and of the kinds of these.
-pub use buffa_fields_laws as members;
+pub use buffa_fields::laws as members;
 /// Laws of map fields: codecs, entries, runs, sizes, encodings and rewrites.
 pub use buffa_map::laws as map_fields;
 /// Laws of Items of a MessageSet.
@@ -42,11 +44,11 @@ pub use buffa_message_set::laws::{
     item_tags, items_are_pinned, items_are_read, no_item_begins_another, written_items_are_pinned,
 };
 /// Laws of the sample that holds itself, and of its enum.
-pub use buffa_node::laws as nodes;
+pub use sample_node::laws as nodes;
 /// Laws of the sample that is a MessageSet.
-pub use buffa_set_msg::laws as sets;
+pub use sample_set_msg::laws as sets;
 /// Laws of records of unknown fields.
-pub use buffa_wire_laws::records;
+pub use buffa_wire::laws::records;
 
 /// Two runs of a map field, one after the other, are a run of the entries of both.
 ///

@@ -1,4 +1,4 @@
-//! What the names of this crate stand for: no two limits, codecs or samples can be exchanged while these laws hold.
+//! What the names of this crate stand for: no two limits, codecs, kinds of fields or samples can be exchanged while these laws hold.
 
 ghost use Rattle.std.specs.Prelude.{◌≡◌, ◌∷◌, ◌-◌, ◌^◌, [], ℕ, List, false, map, option_map, pos, true};
 ghost use Rattle.buffa_bytes.specs.Scalars.{bool_of, fixed32_of, fixed64_of, int64_of, sfixed32_of, sfixed64_of};
@@ -6,22 +6,33 @@ ghost use Rattle.buffa_bytes.specs.Scalars.{sint32_of, sint64_of, uint32_of, uin
 ghost use Rattle.buffa_bytes.specs.Values.{int32_of};
 ghost use Rattle.buffa_bytes.specs.declared.wire_type.WireType.TheVariants as wire;
 ghost use Rattle.buffa_wire.specs.BudgetLeft.{BudgetLeft};
-ghost use Rattle.buffa_wire.specs.Enums.{numbers};
+ghost use Rattle.buffa_wire.specs.Enums.{numbers, open_number};
 ghost use Rattle.buffa_wire.specs.Found.{fixed32_in, fixed64_in, varint_in};
 ghost use Rattle.buffa_wire.specs.Records.{Datum, bytes as held_bytes};
-ghost use Rattle.buffa_codec.specs.Decoded.{packed_record};
+ghost use Rattle.buffa_codec.specs.Decoded.{bytes_held, packed_record, string_held};
 ghost use Rattle.buffa_ext.specs.Messages.{group_of};
-ghost use Rattle.buffa_map_base.specs.Enums.{closed_reading, open_reading};
-ghost use Rattle.buffa_map_base.specs.Message.{message_reading};
-ghost use Rattle.buffa_map_base.specs.Scalars.{bytes_reading, number_reading, string_reading};
+ghost use Rattle.std.specs.BTreeMap.{insert_entry};
+ghost use Rattle.buffa_fields.specs.Groups.{group_datum, group_records};
+ghost use Rattle.buffa_fields.specs.Lists.{element_records, packed_records};
+ghost use Rattle.buffa_fields.specs.MapFields.{pair_taken};
+ghost use Rattle.buffa_fields.specs.MemberRecords.{optional_records, plain_records};
+ghost use Rattle.buffa_fields.specs.Nested.{message_records};
+ghost use Rattle.buffa_fields.specs.RepeatedNested.{messages_records};
+ghost use Rattle.buffa_map.specs.Enums.{closed_reading, open_reading};
+ghost use Rattle.buffa_map.specs.Message.{message_reading};
+ghost use Rattle.buffa_map.specs.Pairs.{put};
+ghost use Rattle.buffa_map.specs.Scalars.{bytes_reading, number_reading, string_reading};
 
 use crate::extension::{ExtensionCodec, PackableCodec, SingularCodec, codecs};
-use crate::map_codec::{MapStorage, MapValueDecode};
+use crate::fields::{Kind, Listing, Member, OrderedKey, Packable};
+use crate::map_codec::{MapCodec, MapStorage, MapValueDecode};
 use crate::{
     Blank, DEFAULT_ELEMENT_MEMORY_LIMIT, DEFAULT_UNKNOWN_FIELD_LIMIT, Enumeration,
     MAX_FIELD_NUMBER, MAX_MESSAGE_BYTES, Map, MapKey, Message, MessageSpec, RECURSION_LIMIT,
-    map_codec, samples,
+    fields, map_codec, samples,
 };
+use buffa_codec::laws::{numbers_are_read, the_last_record_is_read};
+use buffa_wire::MessageForm;
 use std::hash::Hash;
 
 /// The limits: how deep and with which budget is read where nothing else is said, and what is too large.
@@ -33,8 +44,9 @@ pub fn limits_are_these()
     ensures message_bytes { MAX_MESSAGE_BYTES ≡ 2 ^ 31 - 1 }
 {}
 
-/// How each codec of extensions of one value reads a record, and which records lists and messages have.
-pub fn extension_codecs_are_these<M: Message, P: PackableCodec>()
+/// How each codec of extensions of one value reads a record, and which records lists and messages have. What the laws of
+/// numbers and of last records say holds of these names.
+pub fn extension_codecs_are_these<E: Enumeration, M: Message, P: PackableCodec>()
     ensures int32 { (n : ℕ) (b : BudgetLeft) (d : Datum) → ⟦<codecs::Int32 as SingularCodec>⟧.one n b d
         ≡ option_map int32_of (varint_in d) }
     ensures int64 { (n : ℕ) (b : BudgetLeft) (d : Datum) → ⟦<codecs::Int64 as SingularCodec>⟧.one n b d
@@ -59,12 +71,34 @@ pub fn extension_codecs_are_these<M: Message, P: PackableCodec>()
         ≡ option_map sfixed64_of (fixed64_in d) }
     ensures enums { (n : ℕ) (b : BudgetLeft) (d : Datum) → ⟦<codecs::EnumI32 as SingularCodec>⟧.one n b d
         ≡ option_map int32_of (varint_in d) }
+    ensures open_enums { (n : ℕ) (b : BudgetLeft) (d : Datum) → ⟦<codecs::EnumCodec<E> as SingularCodec>⟧.one n b d
+        ≡ option_map (λ k. open_number E.of_number (int32_of k)) (varint_in d) }
+    ensures string { (n : ℕ) (b : BudgetLeft) (d : Datum) → ⟦<codecs::StringCodec as SingularCodec>⟧.one n b d
+        ≡ string_held d }
+    ensures bytes { (n : ℕ) (b : BudgetLeft) (d : Datum) → ⟦<codecs::BytesCodec as SingularCodec>⟧.one n b d
+        ≡ bytes_held d }
     ensures lists { (vs : List P.Value.Meaning) → ⟦<codecs::Repeated<P> as ExtensionCodec>⟧.recs vs ≡ map P.datum vs }
     ensures packed { (vs : List P.Value.Meaning) → ⟦<codecs::PackedRepeated<P> as ExtensionCodec>⟧.recs vs
         ≡ packed_record P.packed_encoding vs }
     ensures message { (v : _) → ⟦<codecs::MessageCodec<M> as ExtensionCodec>⟧.recs v ≡ held_bytes (M.encoding v) ∷ [] }
     ensures group { (v : _) → ⟦<codecs::GroupCodec<M> as ExtensionCodec>⟧.recs v ≡ group_of (M.encoding v) ∷ [] }
-{}
+{
+    numbers_are_read::<codecs::Int32>();
+    numbers_are_read::<codecs::Int64>();
+    numbers_are_read::<codecs::Uint32>();
+    numbers_are_read::<codecs::Uint64>();
+    numbers_are_read::<codecs::Sint32>();
+    numbers_are_read::<codecs::Sint64>();
+    numbers_are_read::<codecs::Bool>();
+    numbers_are_read::<codecs::Fixed32>();
+    numbers_are_read::<codecs::Fixed64>();
+    numbers_are_read::<codecs::Sfixed32>();
+    numbers_are_read::<codecs::Sfixed64>();
+    numbers_are_read::<codecs::EnumI32>();
+    numbers_are_read::<codecs::EnumCodec<E>>();
+    the_last_record_is_read::<codecs::StringCodec>();
+    the_last_record_is_read::<codecs::BytesCodec>();
+}
 
 /// How each codec of map fields reads a payload, and how the usual map, [`Map`](crate::Map), is walked.
 pub fn map_codecs_are_these<E: Enumeration, M: Message, K: MapKey + Hash, V: Blank>()
@@ -91,4 +125,34 @@ pub fn map_codecs_are_these<E: Enumeration, M: Message, K: MapKey + Hash, V: Bla
 pub fn samples_are_these()
     ensures node { ⟦<samples::Node as MessageSpec>⟧.COST ≡ 96 }
     ensures set { ⟦<samples::SetMsg as MessageSpec>⟧.COST ≡ 24 }
+{}
+
+/// Which kind each name of [`fields`] is: by the records of its values, and of maps by what they make of an entry.
+pub fn kinds_are_these<C: Kind, P: Packable, N: Message, KC: MapCodec, VC: MapCodec, M: Listing>()
+where
+    KC::Value: MapKey + Hash + OrderedKey,
+    ensures plain { (n : ℕ) (v : _) → ⟦<fields::Plain<C> as Member>⟧.shape.records n v
+        ≡ plain_records C.is_blank C.datum n v }
+    ensures optional { (n : ℕ) (v : _) → ⟦<fields::Optional<C> as Member>⟧.shape.records n v
+        ≡ optional_records C.datum n v }
+    ensures repeated { (n : ℕ) (v : _) → ⟦<fields::Repeated<P> as Member>⟧.shape.records n v
+        ≡ element_records P.datum n v }
+    ensures packed { (n : ℕ) (v : _) → ⟦<fields::Packed<P> as Member>⟧.shape.records n v
+        ≡ packed_records P.writing.encoding n v }
+    ensures nested { (n : ℕ) (v : _) → ⟦<fields::Nested<N> as Member>⟧.shape.records n v
+        ≡ message_records N.encoding n v }
+    ensures repeated_nested { (n : ℕ) (v : _) → ⟦<fields::RepeatedNested<N> as Member>⟧.shape.records n v
+        ≡ messages_records N.encoding n v }
+    ensures group { (n : ℕ) (v : _) → ⟦<fields::Group<N> as Member>⟧.shape.records n v ≡ group_records N.records n v }
+    ensures repeated_group { (n : ℕ) (v : _) → ⟦<fields::RepeatedGroup<N> as Member>⟧.shape.records n v
+        ≡ element_records (group_datum N.records) n v }
+    ensures map { ⟦<fields::MapOf<KC, VC> as Member>⟧.shape.takes
+        ≡ pair_taken KC.reading VC.reading (put KC.Value.same) }
+    ensures map_of_nested { ⟦<fields::MapOfNested<KC, N> as Member>⟧.shape.takes
+        ≡ pair_taken KC.reading (message_reading N.blank_is N.merged N.cost) (put KC.Value.same) }
+    ensures ordered_map { ⟦<fields::OrderedMapOf<KC, VC> as Member>⟧.shape.takes
+        ≡ pair_taken KC.reading VC.reading (insert_entry KC.Value.order) }
+    ensures ordered_map_of_nested { ⟦<fields::OrderedMapOfNested<KC, N> as Member>⟧.shape.takes
+        ≡ pair_taken KC.reading (message_reading N.blank_is N.merged N.cost) (insert_entry KC.Value.order) }
+    ensures listed { ⟦<fields::Listed as MessageForm<M>>⟧.records ≡ M.layout.records }
 {}

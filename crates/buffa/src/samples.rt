@@ -12,6 +12,6 @@
 //! let encoding = node.try_encode_to_vec(alloc)?; // 12 04 08 01 12 00
 //! ```
 
-pub use buffa_node::node::{Node, merge_node, size_node, write_node};
-pub use buffa_node::shade::Shade;
-pub use buffa_set_msg::SetMsg;
+pub use sample_node::node::{Node, merge_node, size_node, write_node};
+pub use sample_node::shade::Shade;
+pub use sample_set_msg::SetMsg;

@@ -3,7 +3,7 @@
 
 ghost use Rattle.std.specs.Prelude.{◌≡◌, ◌≢◌, ◌↔◌, ℕ, ℤ, List, [], ◌∷◌, map, Bool, Option, Some, None, option_map};
 ghost use Rattle.std.specs.List.{AllByRecursion};
-ghost use Rattle.std.specs.Prelude.{FitsSigned, true};
+ghost use Rattle.std.specs.Prelude.{FitsSigned, string_bytes, true};
 ghost use Rattle.std.specs.Str.{is_utf8};
 ghost use Rattle.buffa_bytes.specs.declared.error.EncodeError.{EncodeError};
 ghost use Rattle.buffa_bytes.specs.declared.wire_type.WireType.TheVariants.{Fixed32 as FourBytes, Fixed64 as EightBytes, Varint};
@@ -78,6 +78,19 @@ pub fn values_mean_these<C: LastWins, R: SingularCodec, P: PackableCodec>(
         ≡ map P.Value.meaning packed.now.items }
     ensures packed_answer { ⟦<PackedRepeated<P> as ExtensionCodec>⟧.answer packed.now
         ≡ map P.Value.meaning packed.now.items }
+{}
+
+/// A string means its bytes, and bytes are what they are; so are the answers of a reading.
+pub fn strings_and_bytes_mean_these(
+    string: &String,
+    text: &Option<String>,
+    bytes: &Vec<u8>,
+    held: &Option<Vec<u8>>,
+)
+    ensures string { ⟦<StringCodec as ExtensionCodec>⟧.meaning string.now ≡ string_bytes string.now }
+    ensures string_answer { ⟦<StringCodec as ExtensionCodec>⟧.answer text.now ≡ option_map string_bytes text.now }
+    ensures bytes { ⟦<BytesCodec as ExtensionCodec>⟧.meaning bytes.now ≡ bytes.now.items }
+    ensures bytes_answer { ⟦<BytesCodec as ExtensionCodec>⟧.answer held.now ≡ option_map (λ v. v.items) held.now }
 {}
 
 /// The record of each scalar.
@@ -201,7 +214,9 @@ pub fn enum_records_are_read<E: Enumeration>()
     ensures packed_encoding { (v : Bool × ℤ) → ⟦<EnumCodec<E> as PackableCodec>⟧.packed_encoding v ≡ int32_encoding v.1 }
     ensures back { (v : Bool × ℤ) → ⟦<EnumCodec<E> as SingularCodec>⟧.back v ≡ open_number E.of_number v.1 }
     ensures fits { (v : Bool × ℤ) → ⟦<EnumCodec<E> as SingularCodec>⟧.fits v ↔ FitsSigned w32 v.1 }
-{}
+{
+    numbers_are_read::<EnumCodec<E>>();
+}
 
 /// Values of numbers are read of the last record of their form, and packed ones of the payloads that begin
 /// the bytes; all of them are written, and read back; and neither takes memory.
@@ -218,13 +233,21 @@ pub fn numbers_are_read<N: Numbered>()
     ensures memory { ⟦<N as ExtensionCodec>⟧.never_fails }
     ensures in_room { (v : N.Value.Meaning) → ⟦<N as ExtensionCodec>⟧.in_room v }
     ensures spends { (n : ℕ) (b left : BudgetLeft) (d : Datum) → ⟦<N as SingularCodec>⟧.leaves n b d left ↔ (left ≡ b) }
+    ensures record { (v : N.Value.Meaning) → ⟦<N as SingularCodec>⟧.datum v ≡ N.Form.datum (N.number_of v) }
+    ensures record_written { (v : N.Value.Meaning) → ⟦<N as SingularCodec>⟧.refusal v ≡ None }
+    ensures record_normal { (v : N.Value.Meaning) → ⟦<N as SingularCodec>⟧.normal v }
+    ensures fits { (v : N.Value.Meaning) → (⟦<N as SingularCodec>⟧.fits v ↔ N.fits v)
+        × (⟦<N as ExtensionCodec>⟧.fits v ↔ N.fits v) }
+    ensures back { (v : N.Value.Meaning) → ⟦<N as SingularCodec>⟧.back v ≡ N.back v }
+    ensures packed_encoding { (v : N.Value.Meaning) → ⟦<N as PackableCodec>⟧.packed_encoding v ≡ N.Form.encoding (N.number_of v) }
     ensures costs { (n : ℕ) (d : Datum) → (⟦<N as SingularCodec>⟧.cost d ≡ nothing)
         × (⟦<N as SingularCodec>⟧.most n d ≡ nothing) }
     ensures free { ⟦<N as SingularCodec>⟧.never_fails × ((v : N.Value.Meaning) → ⟦<N as SingularCodec>⟧.made_free v) }
     ensures asks { (d : Datum) → ⟦<N as SingularCodec>⟧.asks d → ⊥ }
 {}
 
-/// Which values each scalar reads in a record, also of numbers that its values don't have.
+/// Which values each scalar reads in a record, also of numbers that its values don't have. Each is a number
+/// ([`numbers_are_read`]).
 pub fn scalars_are_read()
     ensures int32 { (n : ℕ) (b : BudgetLeft) (d : Datum) → ⟦<Int32 as SingularCodec>⟧.one n b d
         ≡ option_map int32_of (varint_in d) }
@@ -248,7 +271,19 @@ pub fn scalars_are_read()
         ≡ option_map sfixed32_of (fixed32_in d) }
     ensures sfixed64 { (n : ℕ) (b : BudgetLeft) (d : Datum) → ⟦<Sfixed64 as SingularCodec>⟧.one n b d
         ≡ option_map sfixed64_of (fixed64_in d) }
-{}
+{
+    numbers_are_read::<BoolScalar>();
+    numbers_are_read::<Int32>();
+    numbers_are_read::<Int64>();
+    numbers_are_read::<Uint32>();
+    numbers_are_read::<Uint64>();
+    numbers_are_read::<Sint32>();
+    numbers_are_read::<Sint64>();
+    numbers_are_read::<Fixed32>();
+    numbers_are_read::<Fixed64>();
+    numbers_are_read::<Sfixed32>();
+    numbers_are_read::<Sfixed64>();
+}
 
 /// Strings and bytes are read of the last record of bytes, strings where these are UTF-8; all of them are
 /// written, and read back; and no packed ones are read. Only a value of a byte or more takes memory to be
@@ -287,6 +322,16 @@ pub fn strings_and_bytes_are_read()
         × (⟦<BytesCodec as SingularCodec>⟧.cost d ≡ nothing) }
     ensures fits { (v : List ℕ) → (⟦<StringCodec as SingularCodec>⟧.fits v ↔ (is_utf8 v ≡ true))
         × ⟦<BytesCodec as SingularCodec>⟧.fits v }
+    ensures record { (v : List ℕ) → (⟦<StringCodec as SingularCodec>⟧.datum v ≡ held_bytes v)
+        × (⟦<BytesCodec as SingularCodec>⟧.datum v ≡ held_bytes v) }
+    ensures refusal { (v : List ℕ) → (⟦<StringCodec as SingularCodec>⟧.refusal v ≡ None)
+        × (⟦<BytesCodec as SingularCodec>⟧.refusal v ≡ None) }
+    ensures record_normal { (v : List ℕ) → ⟦<StringCodec as SingularCodec>⟧.normal v
+        × ⟦<BytesCodec as SingularCodec>⟧.normal v }
+    ensures back { (v : List ℕ) → (⟦<StringCodec as SingularCodec>⟧.back v ≡ v)
+        × (⟦<BytesCodec as SingularCodec>⟧.back v ≡ v) }
+    ensures written_values { (v : List ℕ) → (⟦<StringCodec as ExtensionCodec>⟧.fits v ↔ (is_utf8 v ≡ true))
+        × ⟦<BytesCodec as ExtensionCodec>⟧.fits v }
 {}
 
 /// Lists are read of all records of their number, from one default budget, the packed ones too. They

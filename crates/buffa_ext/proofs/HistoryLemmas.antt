@@ -1,4 +1,4 @@
--- The records of a number after changes.
+-- The records of a number after steps.
 use Rattle.std.proofs.Common.{◌≡◌, ℕ, List, [], ◌∷◌, ◌++◌, Option, Some, None, true, false, cond, refl, sym, ap, subst, ◌∙◌, not, unwrap_or, ◌==◌}
 use Rattle.std.specs.List.{filter_map, last_or, cons_option}
 use Rattle.std.proofs.lemmas.Bool.{eqb-false, eqb-true}
@@ -7,15 +7,15 @@ use Rattle.buffa_wire.specs.Records.{Datum}
 use Rattle.buffa_codec.specs.Sub.{sub, without, tagged}
 use Rattle.std.proofs.lemmas.List.Elements.{filter-append}
 use Rattle.buffa_codec.proofs.FilteredLemmas.{sub-append, sub-cons, sub-without_same, sub-without_other, sub-tagged_same, sub-tagged_other, without-tagged, without-without}
-use Rattle.buffa_ext.specs.Changes.{NumberChange, set, clear, after_one, after, change_says, history, IsExactlySet, KeepsTheRest, ReadsHistory, StandsLast, TakesOut}
+use Rattle.buffa_ext.specs.Steps.{NumberStep, set, clear, after_one, after, step_says, history, IsExactlySet, KeepsTheRest, ReadsHistory, StandsLast, TakesOut}
 
 pub last_or-some : {A : Type 0} (d : A) (o : Option A) (xs : List A) → unwrap_or (last_or o xs) d ≡ unwrap_or (last_or None xs) (unwrap_or o d)
 last_or-some d None [] = refl
 last_or-some d (Some y) [] = refl
 last_or-some d o (x ∷ xs) = last_or-some d (Some x) xs ∙ sym (last_or-some (unwrap_or o d) (Some x) xs)
 
--- one change, seen at one number
-pub sub-after_one : (n : ℕ) (rs : List (ℕ × Datum)) (c : NumberChange) → sub n (after_one rs c) ≡ unwrap_or (change_says n c) (sub n rs)
+-- one step, seen at one number
+pub sub-after_one : (n : ℕ) (rs : List (ℕ × Datum)) (c : NumberStep) → sub n (after_one rs c) ≡ unwrap_or (step_says n c) (sub n rs)
 sub-after_one n rs (set m ds) =
     elim (m == n) as (λ b. (m == n) ≡ b → sub n (without m rs ++ tagged m ds) ≡ unwrap_or (cond b (Some ds) None) (sub n rs)) [
       | true ↦ λ e. rw (eqb-true m n e) (sub-append n (without n rs) (tagged n ds) ∙ rw (sub-without_same n rs) (sub-tagged_same n ds))
@@ -29,10 +29,10 @@ last_or-cons_option : {A : Type 0} (d : A) (o : Option A) (xs : List A) → unwr
 last_or-cons_option d None xs = refl
 last_or-cons_option d (Some y) xs = sym (last_or-some d (Some y) xs)
 
--- the records of a number after changes are what its last change says
-pub sub-after : (n : ℕ) (rs : List (ℕ × Datum)) (cs : List NumberChange) → sub n (after rs cs) ≡ history n rs cs
+-- the records of a number after steps are what its last step says
+pub sub-after : (n : ℕ) (rs : List (ℕ × Datum)) (cs : List NumberStep) → sub n (after rs cs) ≡ history n rs cs
 sub-after n rs [] = refl
-sub-after n rs (c ∷ cs) = sub-after n (after_one rs c) cs ∙ rw (sub-after_one n rs c) (last_or-cons_option (sub n rs) (change_says n c) (filter_map (change_says n) cs))
+sub-after n rs (c ∷ cs) = sub-after n (after_one rs c) cs ∙ rw (sub-after_one n rs c) (last_or-cons_option (sub n rs) (step_says n c) (filter_map (step_says n) cs))
 
 -- ---- what a set and a clear leave, and nothing else
 

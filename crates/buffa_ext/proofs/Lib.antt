@@ -3,4 +3,4 @@ pub mod HistoryLemmas
 pub mod ReplayLemmas
 pub mod MergeLemmas
 pub mod PinLemmas
-pub mod EqualChangeLemmas
+pub mod EqualStepLemmas

@@ -7,7 +7,7 @@ use Rattle.buffa_wire.specs.BudgetLeft.{BudgetLeft, Covers, defaults}
 use Rattle.buffa_wire.specs.Records.{Datum, Held}
 use Rattle.buffa_ext.specs.Defaults.{IsDefaulted}
 use Rattle.buffa_ext.specs.Messages.{IsAllMerged, MergesRecords, StopsAt, cost_all, encodings_in}
-use Rattle.buffa_ext.specs.Changes.{IsCleared, IsSet}
+use Rattle.buffa_ext.specs.Steps.{IsCleared, IsSet}
 
 -- records that are merged leave one value and one budget, and tell in one way whether there was an encoding; what is
 -- merged isn't refused, memory aside; and what is refused stops at one record, memory aside

@@ -15,10 +15,15 @@ use crate::codecs::{
     PackableCodec, PackedRepeated, Repeated, Sfixed32, Sfixed64, SingularCodec, Sint32, Sint64,
     StringCodec, Uint32, Uint64,
 };
+use crate::message::MessageIn;
+use crate::record::{Delimited, Grouped};
 use buffa_codec::ExtensionCodec;
-use buffa_wire::{Enumeration, Message};
+use buffa_codec::laws::{numbers_are_read, the_last_record_is_read};
+use buffa_wire::{Enumeration, Message, scalars};
+use std::marker::PhantomData;
 
-/// Each name of a number is the codec that reads and writes it so.
+/// Each name of a number is the codec that reads and writes it so, what the law of numbers says holds of it, and it is the
+/// type of that scalar.
 pub fn number_names_are_these()
     ensures bool { IsOf ⟦<Bool as SingularCodec>⟧.one ⟦<Bool as SingularCodec>⟧.datum
         (λ d. option_map bool_of (varint_in d)) (λ v. varint (from_bool v)) }
@@ -44,9 +49,35 @@ pub fn number_names_are_these()
         (λ d. option_map sfixed32_of (fixed32_in d)) (λ v. fixed32 (cast_unsigned w32 v)) }
     ensures sfixed64 { IsOf ⟦<Sfixed64 as SingularCodec>⟧.one ⟦<Sfixed64 as SingularCodec>⟧.datum
         (λ d. option_map sfixed64_of (fixed64_in d)) (λ v. fixed64 (cast_unsigned w64 v)) }
-{}
+{
+    numbers_are_read::<Bool>();
+    numbers_are_read::<Int32>();
+    numbers_are_read::<EnumI32>();
+    numbers_are_read::<Int64>();
+    numbers_are_read::<Uint32>();
+    numbers_are_read::<Uint64>();
+    numbers_are_read::<Sint32>();
+    numbers_are_read::<Sint64>();
+    numbers_are_read::<Fixed32>();
+    numbers_are_read::<Fixed64>();
+    numbers_are_read::<Sfixed32>();
+    numbers_are_read::<Sfixed64>();
+    are_one_type::<scalars::Bool>(PhantomData::<Bool>);
+    are_one_type::<scalars::Int32>(PhantomData::<Int32>);
+    are_one_type::<scalars::Int64>(PhantomData::<Int64>);
+    are_one_type::<scalars::Uint32>(PhantomData::<Uint32>);
+    are_one_type::<scalars::Uint64>(PhantomData::<Uint64>);
+    are_one_type::<scalars::Sint32>(PhantomData::<Sint32>);
+    are_one_type::<scalars::Sint64>(PhantomData::<Sint64>);
+    are_one_type::<scalars::Fixed32>(PhantomData::<Fixed32>);
+    are_one_type::<scalars::Fixed64>(PhantomData::<Fixed64>);
+    are_one_type::<scalars::Sfixed32>(PhantomData::<Sfixed32>);
+    are_one_type::<scalars::Sfixed64>(PhantomData::<Sfixed64>);
+    are_one_type::<scalars::Int32>(PhantomData::<EnumI32>);
+}
 
-/// The names of codecs of strings, bytes, enums, lists and messages are those that read and write them so.
+/// The names of codecs of strings, bytes, enums, lists and messages are those that read and write them so. Of strings and
+/// bytes the last record wins, an enum is a number, and all are the types of the laws of these.
 pub fn other_names_are_these<E: Enumeration, C: SingularCodec, P: PackableCodec, M: Message>()
     ensures string { IsOf ⟦<StringCodec as SingularCodec>⟧.one ⟦<StringCodec as SingularCodec>⟧.datum string_held bytes }
     ensures bytes { IsOf ⟦<BytesCodec as SingularCodec>⟧.one ⟦<BytesCodec as SingularCodec>⟧.datum bytes_held bytes }
@@ -65,4 +96,18 @@ pub fn other_names_are_these<E: Enumeration, C: SingularCodec, P: PackableCodec,
     ensures groups { ReadsMessages ⟦<GroupCodec<M> as ExtensionCodec>⟧.reads (M.merged 100) (M.cost 100) M.blank_is
         group_held }
     ensures group_records { (v : _) → ⟦<GroupCodec<M> as ExtensionCodec>⟧.recs v ≡ group_of (M.encoding v) ∷ [] }
-{}
+{
+    the_last_record_is_read::<StringCodec>();
+    the_last_record_is_read::<BytesCodec>();
+    numbers_are_read::<EnumCodec<E>>();
+    are_one_type::<crate::StringCodec>(PhantomData::<StringCodec>);
+    are_one_type::<crate::BytesCodec>(PhantomData::<BytesCodec>);
+    are_one_type::<crate::EnumCodec<E>>(PhantomData::<EnumCodec<E>>);
+    are_one_type::<crate::Repeated<C>>(PhantomData::<Repeated<C>>);
+    are_one_type::<crate::PackedRepeated<P>>(PhantomData::<PackedRepeated<P>>);
+    are_one_type::<MessageIn<Delimited, M>>(PhantomData::<MessageCodec<M>>);
+    are_one_type::<MessageIn<Grouped, M>>(PhantomData::<GroupCodec<M>>);
+}
+
+// What is handed in is of the type that is named.
+fn are_one_type<T>(_of: PhantomData<T>) {}

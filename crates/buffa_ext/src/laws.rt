@@ -14,27 +14,27 @@ ghost use Rattle.buffa_wire.specs.Records.{Datum, bytes as held_bytes, records_o
 ghost use Rattle.buffa_codec.specs.Pinned.{OneAnswer};
 ghost use Rattle.buffa_codec.specs.Decoded.{HasByte, bytes_held};
 ghost use Rattle.buffa_codec.specs.Sub.{sub};
-ghost use Rattle.buffa_ext.specs.Changes.{SameIsOneChange};
+ghost use Rattle.buffa_ext.specs.Steps.{SameIsOneStep};
 ghost use Rattle.buffa_ext.specs.Messages.{BeginsFieldIn, IsReadBack, LeavesOfRecord, MergingStaysWithin};
 ghost use Rattle.buffa_ext.specs.Messages.{ReachesRecord, ReadsMessages, cost_all, group_held, group_of};
 ghost use Rattle.buffa_ext.specs.Messages.{group_refusal, group_encodings, message_of, encoding_refusal, encodings_in};
 ghost use Rattle.buffa_ext.specs.Pinned.{ClearIsPinned, DefaultIsPinned, ListIsExact, MergingIsPinned};
 ghost use Rattle.buffa_ext.specs.Pinned.{RecordMergeIsPinned, SetIsPinned};
-ghost use Rattle.buffa_ext.specs.Changes.{ClearsAreOne, IsExactlySet, KeepsTheRest, LeavesOthers, NumberChange};
-ghost use Rattle.buffa_ext.specs.Changes.{ReadsHistory, SecondCounts, StandsLast, TakesOut, TakesThePlace, after, history};
+ghost use Rattle.buffa_ext.specs.Steps.{ClearsAreOne, IsExactlySet, KeepsTheRest, LeavesOthers, NumberStep};
+ghost use Rattle.buffa_ext.specs.Steps.{ReadsHistory, SecondCounts, StandsLast, TakesOut, TakesThePlace, after, history};
 
-use crate::changes::{Change, ReplayFault};
 pub use crate::codec_laws::{number_names_are_these, other_names_are_these};
 use crate::descriptor::{Declared, Make, NoDefault};
 use crate::message::{GroupCodec, MessageCodec, MessageIn};
 use crate::record::{Delimited, Grouped, MessageRecord};
+use crate::steps::{ReplayFault, Step};
 use buffa_codec::{ExtensionCodec, LastWins, Repeated, SingularCodec};
 use buffa_wire::{Message, MessageSpec};
 use std::alloc::{AllocError, Global};
 
-/// `==` of changes says whether they are one change, and of faults whether they are one. It leaves nothing open.
-pub fn equal_changes_are_one()
-    ensures change { SameIsOneChange ⟦<Change as PartialEq>⟧.eq }
+/// `==` of steps says whether they are one step, and of faults whether they are one. It leaves nothing open.
+pub fn equal_steps_are_one()
+    ensures step { SameIsOneStep ⟦<Step as PartialEq>⟧.eq }
     ensures fault { SameIsOne ⟦<ReplayFault as PartialEq>⟧.eq }
 {}
 
@@ -43,9 +43,9 @@ pub fn clones_are_these()
     ensures { IsCopied ⟦<ReplayFault as Clone>⟧.is_clone ⟦<ReplayFault as Clone>⟧.is_infallible }
 {}
 
-/// The records of a number after changes are what its last change says.
-pub fn last_change_counts()
-    ensures { (n : ℕ) (rs : List (ℕ × Datum)) (cs : List NumberChange) → sub n (after rs cs) ≡ history n rs cs }
+/// The records of a number after steps are what its last step says.
+pub fn last_step_counts()
+    ensures { (n : ℕ) (rs : List (ℕ × Datum)) (cs : List NumberStep) → sub n (after rs cs) ≡ history n rs cs }
 {}
 
 /// A set leaves the other numbers, and its records stand last.
@@ -66,15 +66,15 @@ pub fn clears_take_out()
     ensures { TakesOut }
 {}
 
-/// What a number is read as after changes is what its history is read as: the records of its last set, none
+/// What a number is read as after steps is what its history is read as: the records of its last set, none
 /// after a clear, or else those that were there.
-pub fn reads_after_changes<C: ExtensionCodec>()
+pub fn reads_after_steps<C: ExtensionCodec>()
     ensures { ReadsHistory C.reads }
 {}
 
-/// A value that was set is what is read, also after changes of other numbers.
+/// A value that was set is what is read, also after steps at other numbers.
 pub fn set_values_are_read<C: ExtensionCodec>()
-    ensures { (n : ℕ) (rs : List (ℕ × Datum)) (cs : List NumberChange) (v : C.Meaning) (o : C.Answer) → C.fits v →
+    ensures { (n : ℕ) (rs : List (ℕ × Datum)) (cs : List NumberStep) (v : C.Meaning) (o : C.Answer) → C.fits v →
         C.normal v → history n rs cs ≡ C.recs v → C.reads (sub n (after rs cs)) o → C.holds v o }
 {}
 
@@ -249,7 +249,7 @@ pub fn defaults_are_pinned<
 /// Sets and clears leave one list of records.
 ///
 /// Left open: how much room the list has, beyond what `room` says.
-pub fn changes_are_pinned()
+pub fn steps_are_pinned()
     ensures sets { SetIsPinned }
     ensures clears { ClearIsPinned }
 {}

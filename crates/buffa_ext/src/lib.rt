@@ -2,7 +2,6 @@
 #![tactic(auto)]
 
 pub mod back;
-pub mod changes;
 pub mod codec_laws;
 pub mod codecs;
 pub mod descriptor;
@@ -11,14 +10,15 @@ pub mod message;
 pub mod record;
 pub mod set;
 pub mod stage;
+pub mod steps;
 
 pub use back::set_then_read;
 pub use buffa_codec::{
     BytesCodec, EnumCodec, ExtensionCodec, LastWins, Numbered, PackableCodec, PackedRepeated,
     Repeated, SingularCodec, StringCodec,
 };
-pub use changes::{Change, ReplayFault, replay};
 pub use descriptor::{Declared, Extension, Make, NoDefault};
 pub use message::{GroupCodec, MessageCodec, MessageIn};
 pub use record::MessageRecord;
 pub use set::ExtensionSet;
+pub use steps::{ReplayFault, Step, replay};

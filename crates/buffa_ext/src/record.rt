@@ -110,7 +110,8 @@ impl MessageRecord for Delimited {
             depth,
             budget: &mut *budget,
         };
-        match message.merge(alloc, encoding.as_slice(), lent) {
+        let mut bytes = encoding.as_slice();
+        match message.merge(alloc, &mut bytes, lent) {
             Ok(()) => Ok(true),
             Err(error) => Err(error),
         }
@@ -159,7 +160,8 @@ impl MessageRecord for Grouped {
             depth,
             budget: &mut *budget,
         };
-        match message.merge(alloc, bytes.as_slice(), lent) {
+        let mut encoding = bytes.as_slice();
+        match message.merge(alloc, &mut encoding, lent) {
             Ok(()) => Ok(true),
             Err(error) => Err(error),
         }

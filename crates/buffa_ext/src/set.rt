@@ -8,7 +8,7 @@ ghost use Rattle.buffa_wire.specs.contracts.unknown_fields.UnknownFields.{the_ro
 ghost use Rattle.buffa_codec.specs.Sub.{sub};
 ghost use Rattle.buffa_codec.specs.Decoded.{Refuses};
 ghost use Rattle.buffa_ext.specs.Defaults.{IsDefaulted, IsRefused, ReadsNumber};
-ghost use Rattle.buffa_ext.specs.Changes.{HoldsRecord, IsCleared, IsSet};
+ghost use Rattle.buffa_ext.specs.Steps.{HoldsRecord, IsCleared, IsSet};
 
 use crate::descriptor::{Declared, Extension};
 use crate::stage::{has_number, remove, replace};

@@ -13,14 +13,14 @@ use Rattle.buffa_wire.specs.BudgetLeft.{BudgetLeft, Covers, Lacks, PaysAtMost, p
 use Rattle.buffa_wire.specs.Message.{IsLimit}
 use Rattle.buffa_wire.specs.Takes.{IsTaken, Untaken}
 use Rattle.buffa_wire.specs.Pinned.{done, refusal}
-use Rattle.buffa_map_base.proofs.EntryLemmas.{entry_complete, entry_faulty}
-use Rattle.buffa_map_base.specs.Codec.{Reading}
-use Rattle.buffa_map_base.specs.Entry.{EntryFault, FaultOf, IsEntry, inner_need, need_of}
+use Rattle.buffa_map.proofs.EntryLemmas.{entry_complete, entry_faulty}
+use Rattle.buffa_map.specs.Codec.{Reading}
+use Rattle.buffa_map.specs.Entry.{EntryFault, FaultOf, IsEntry, inner_need, need_of}
 use Rattle.buffa_map.specs.Laws.{LimitsAreTrue}
-use Rattle.buffa_map_base.specs.Merge.{MergesEntry, RefusesEntry, Rules, State}
+use Rattle.buffa_map.specs.Merge.{MergesEntry, RefusesEntry, Rules, State}
 use Rattle.buffa_map.specs.declared.map_entry.MapEntry.{MapEntry}
 use Rattle.buffa_fields.specs.Entries.{entry_cost, entry_taken}
-use Rattle.buffa_fields_base.proofs.ValueLemmas.{wire_refused}
+use Rattle.buffa_fields.proofs.ValueLemmas.{wire_refused}
 use Rattle.buffa_fields.proofs.InsideLemmas.{alone_is, delimited_front, no_payload}
 
 is_limit : (f : DecodeError) → IsLimit f ⊎ NoLimit f
@@ -95,13 +95,13 @@ module _ {K V X : Type 0} (r : Rules K V) (does : X → List ℕ → MapEntry K 
       spent : (q : Result (List ℕ × List ℕ) DecodeError) → delimited_at bs ≡ q → PaysAtMost s.left (entry_cost costs r.depth n LengthDelimited bs) after
       unfolding entry_cost
       spent (Err x) is =
-          let b = ap (λ (z : BudgetLeft). z.memory) (k.unspent (rw is (λ h. cc))) in
+          let b = ap (λ (z : BudgetLeft). z.memory) (k.spent.unspent (rw is (λ h. cc))) in
           let c = rw is at least in
           rw is (omega (arith, most), omega (arith, c), omega (arith, b, units), omega (arith, b, units))
       spent (Ok (e, more)) is =
           let c = rw is at least in
           let covers = (is_cost e).0 in
-          elim (rw is at k.units) [
+          elim (rw is at k.spent.units) [
             | inl same ↦ rw is (omega (arith, most), omega (arith, c, covers.0), omega (arith, same, units), omega (arith, same, units))
             | inr some ↦ rw is (omega (arith, most), omega (arith, c, covers.0), omega (arith, some.0, units), omega (arith, some.1, units, covers.1))
           ]

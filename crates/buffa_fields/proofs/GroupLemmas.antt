@@ -29,7 +29,7 @@ use Rattle.buffa_fields.specs.Groups.{group_body, group_cost, group_merged}
 use Rattle.buffa_wire.specs.Takes.{IsTaken, Need, Untaken, Taker}
 use Rattle.buffa_fields.specs.GroupFacts.{body_field, body_is, body_past, body_stays, body_whole, turn}
 use Rattle.buffa_wire.proofs.MergeLoopLemmas.{CameTo, costs, stopped}
-use Rattle.buffa_fields_base.proofs.ValueLemmas.{refused_free, wire_refused}
+use Rattle.buffa_fields.proofs.ValueLemmas.{refused_free, wire_refused}
 use Rattle.buffa_wire.proofs.SpentLemmas.{is_there}
 use Rattle.buffa_wire.specs.Pinned.{done, refusal}
 use Rattle.buffa_fields.specs.RepeatedGroups.{GroupsTakeMemory}

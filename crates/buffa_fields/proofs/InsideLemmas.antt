@@ -26,7 +26,7 @@ use Rattle.buffa_wire.specs.Records.{Datum}
 use Rattle.buffa_wire.specs.Takes.{IsTaken, Need, Taker, Untaken}
 use Rattle.buffa_wire.proofs.SpentLemmas.{PaysAtMost_nothing}
 use Rattle.buffa_wire.specs.Pinned.{done}
-use Rattle.buffa_fields_base.specs.PairFacts.{part_taken}
+use Rattle.buffa_fields.specs.PairFacts.{part_taken}
 use Rattle.buffa_fields.specs.InsideFacts.{delimited_alone}
 use Rattle.buffa_fields.specs.Nested.{or_blank, taken_behind, taken_there}
 use Rattle.buffa_fields.specs.Refusals.{LeavesUnless, RefusesThere}

@@ -1,4 +1,8 @@
 -- The lemmas that this crate hands out.
+pub mod StandsLemmas
+pub mod ValueLemmas
+pub mod KeptNumberLemmas
+pub mod KeptListLemmas
 pub mod InsideLemmas
 pub mod NestedLemmas
 pub mod GroupLemmas
@@ -8,3 +12,5 @@ pub mod MapLemmas
 pub mod NestedMapLemmas
 pub mod OrderedLemmas
 pub mod PackedLemmas
+pub mod KeptMapLemmas
+pub mod KeptLawLemmas

@@ -10,19 +10,19 @@ use Rattle.buffa_wire.specs.Passes.{cap}
 use Rattle.buffa_wire.proofs.ByValueLemmas.{length_cut, write_cut}
 use Rattle.buffa_wire.proofs.CostLemmas.{plus_nothing}
 use Rattle.buffa_wire.specs.Encoding.{records_encoding}
-use Rattle.buffa_map_base.specs.Codec.{Reading, Writing}
-use Rattle.buffa_map_base.specs.Entry.{EntryFault, need_of}
-use Rattle.buffa_map_base.specs.Fields.{EntryFieldsTakeMemory}
+use Rattle.buffa_map.specs.Codec.{Reading, Writing}
+use Rattle.buffa_map.specs.Entry.{EntryFault, need_of}
+use Rattle.buffa_map.specs.Fields.{EntryFieldsTakeMemory}
 use Rattle.buffa_map.specs.Laws.{LimitsAreTrue, SizeIsLength}
-use Rattle.buffa_map_base.specs.Merge.{EntryTakesMemory, MergesEntry, RefusesEntry, State, dropping}
-use Rattle.buffa_map_base.specs.Pairs.{put}
-use Rattle.buffa_map_base.specs.Encoding.{RefusesField, entry_encoding, field_size, field_encoding, saturated}
+use Rattle.buffa_map.specs.Merge.{EntryTakesMemory, MergesEntry, RefusesEntry, State, dropping}
+use Rattle.buffa_map.specs.Pairs.{put}
+use Rattle.buffa_map.specs.Encoding.{RefusesField, entry_encoding, field_size, field_encoding, saturated}
 use Rattle.buffa_bytes.specs.declared.error.EncodeError.{EncodeError}
 use Rattle.buffa_bytes.specs.declared.error.EncodeError.TheVariants as encode
 use Rattle.buffa_fields.specs.MapFields.{PairTakesMemory, WritesMap, map_records, pair_cost, pair_taken, stepped}
 use Rattle.buffa_fields.specs.Refusals.{RefusesPair}
 use Rattle.buffa_wire.specs.Takes.{IsTaken}
-use Rattle.buffa_map_write.proofs.WriteLemmas.{field_by_value}
+use Rattle.buffa_map.proofs.WriteLemmas.{field_by_value}
 use Rattle.buffa_bytes.specs.Values.{delimited_encoding, tag_encoding}
 use Rattle.buffa_bytes.specs.Written.{WritesFront}
 use Rattle.buffa_bytes.specs.Varint.{varint_encoding}
@@ -63,7 +63,7 @@ module _ {K V : Type 0} (key : Reading K) (val : Reading V) (same : K → K → 
         IsTaken (pair_taken key val puts) (pair_cost key val cost) d old n w bs s.left (let r : Result (Unit {0}) DecodeError = Err f in r) new t.left rest
     map_err old new limits f k =
         entry_err (dropping key val same keeps d 0 cost) (λ m e s. stepped puts m s) (λ d e. need_of key val d cost e) (is_cost key val cost d)
-        n w old new bs rest s t checked limits f t.left k refl k.most (omega (arith, k.least))
+        n w old new bs rest s t checked limits f t.left k refl k.spent.most (omega (arith, k.spent.least))
 
     -- nor where it is refused, and tells its fault
     pub map_refused : (f e : DecodeError) → f ≡ e → RefusesEntry (dropping key val same keeps d 0 cost) s bs t rest f → RefusesPair key val cost d s.pairs n w bs e t.pairs

@@ -8,13 +8,13 @@ use Rattle.buffa_wire.specs.Cache.{Cache}
 use Rattle.buffa_wire.specs.Passes.{IsSized, IsSmall, IsWritten, cap}
 use Rattle.buffa_wire.specs.Encoding.{records_encoding}
 use Rattle.buffa_bytes.specs.Values.{tag_encoding}
-use Rattle.buffa_map_write.proofs.MessageFieldLemmas.{small_field}
-use Rattle.buffa_map_base.proofs.SizeLemmas.{length-field_encoding}
-use Rattle.buffa_map_base.specs.Codec.{Writing}
-use Rattle.buffa_map_base.specs.MessageField.{IsFieldSized, IsFieldWritten, IsSmallField, field_slots}
-use Rattle.buffa_map_base.specs.Scalars.{delimited_writing}
-use Rattle.buffa_map_base.specs.Encoding.{field_size, field_encoding}
-use Rattle.buffa_fields_base.specs.LayoutFacts.{failed, sum}
+use Rattle.buffa_map.proofs.MessageFieldLemmas.{small_field}
+use Rattle.buffa_map.proofs.SizeLemmas.{length-field_encoding}
+use Rattle.buffa_map.specs.Codec.{Writing}
+use Rattle.buffa_map.specs.MessageField.{IsFieldSized, IsFieldWritten, IsSmallField, field_slots}
+use Rattle.buffa_map.specs.Scalars.{delimited_writing}
+use Rattle.buffa_map.specs.Encoding.{field_size, field_encoding}
+use Rattle.buffa_fields.specs.LayoutFacts.{failed, sum}
 use Rattle.buffa_fields.specs.MapFacts.{map_encoding}
 use Rattle.buffa_fields.specs.NestedMaps.{pair_records, pair_slots}
 

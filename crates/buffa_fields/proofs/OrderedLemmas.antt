@@ -4,8 +4,8 @@ use Rattle.std.specs.List.Sorted.{IsStrictlySortedBy}
 use Rattle.std.specs.Map.{keys_of}
 use Rattle.std.specs.declared.cmp.Ordering.{Ordering}
 use Rattle.std.specs.declared.cmp.Ordering.TheVariants.{Less}
-use Rattle.buffa_map_base.specs.Pairs.{means}
-use Rattle.buffa_map_base.proofs.MeaningLemmas.{means-all}
+use Rattle.buffa_map.specs.Pairs.{means}
+use Rattle.buffa_map.proofs.MeaningLemmas.{means-all}
 use Rattle.buffa_fields.specs.OrderedMaps.{KeysAscend}
 
 module _ {K V A B : Type 0} (order : A → A → Ordering) (f : K → A) (g : V → B) where

@@ -9,7 +9,7 @@ use Rattle.buffa_wire.specs.Passes.{IsSmall, IsWritten, cap}
 use Rattle.buffa_wire.specs.Records.{bytes}
 use Rattle.buffa_wire.specs.Encoding.{records_encoding, encodings}
 use Rattle.buffa_wire.specs.Pinned.{refusal}
-use Rattle.buffa_map_base.specs.Encoding.{saturated}
+use Rattle.buffa_map.specs.Encoding.{saturated}
 use Rattle.buffa_fields.specs.Lists.{packed_records}
 use Rattle.buffa_fields.specs.NestedFacts.{TellsLength, head, head_cut, record_after}
 

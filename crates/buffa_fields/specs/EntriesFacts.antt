@@ -4,13 +4,13 @@ use Rattle.buffa_bytes.specs.declared.wire_type.WireType.TheVariants.{LengthDeli
 use Rattle.buffa_bytes.specs.Values.{delimited_encoding}
 use Rattle.buffa_wire.specs.BudgetLeft.{BudgetLeft, need_by}
 use Rattle.buffa_wire.specs.Takes.{Stays}
-use Rattle.buffa_map_base.proofs.EntryLemmas.{entry_complete}
-use Rattle.buffa_map_base.specs.Codec.{Reading}
-use Rattle.buffa_map_base.specs.Entry.{IsEntry}
+use Rattle.buffa_map.proofs.EntryLemmas.{entry_complete}
+use Rattle.buffa_map.specs.Codec.{Reading}
+use Rattle.buffa_map.specs.Entry.{IsEntry}
 use Rattle.buffa_map.specs.declared.map_entry.MapEntry.{MapEntry}
 use Rattle.buffa_fields.specs.Entries.{entry_cost, entry_taken}
 use Rattle.buffa_fields.specs.InsideFacts.{delimited_stays}
-use Rattle.buffa_fields_base.specs.ValueFacts.{delimited_whole}
+use Rattle.buffa_fields.specs.ValueFacts.{delimited_whole}
 
 -- what an entry costs is known by the payload
 pub entry_stays : (costs : ℕ → List ℕ → BudgetLeft) → Stays (entry_cost costs)

@@ -9,7 +9,7 @@ use Rattle.buffa_wire.specs.Encoding.{records_encoding}
 use Rattle.buffa_wire.specs.Passes.{IsWritten, cap}
 use Rattle.buffa_wire.specs.Records.{Datum}
 use Rattle.buffa_wire.specs.declared.context.DecodeContext.{DecodeContext}
-use Rattle.buffa_map.specs.Calls.{Exit}
+use Rattle.buffa_fields.specs.Exit.{Exit}
 use Rattle.buffa_fields.specs.Groups.{group_cost, group_datum, group_encoding, group_merged}
 use Rattle.buffa_fields.specs.Lists.{element_records}
 use Rattle.buffa_fields.specs.RepeatedNested.{messages_slots}

@@ -21,10 +21,10 @@ use Rattle.buffa_bytes.proofs.FieldLemmas.{is_tag}
 use Rattle.buffa_fields.specs.Groups.{body_behind, body_step, group_body, group_cost, group_datum, group_merged, group_records, group_taken}
 use Rattle.buffa_fields.specs.Nested.{message_levels}
 use Rattle.buffa_wire.specs.Takes.{ReadsBack, Stays, front_of}
-use Rattle.buffa_fields_base.specs.Values.{IfThere}
+use Rattle.buffa_fields.specs.Values.{IfThere}
 use Rattle.buffa_fields.specs.InsideFacts.{inside_back, wire_stays}
 use Rattle.buffa_wire.specs.Message.{cost_in}
-use Rattle.buffa_fields_base.specs.BackFacts.{no_pieces}
+use Rattle.buffa_fields.specs.BackFacts.{no_pieces}
 
 -- ---- the body of a group
 module _ (d : ℕ) where

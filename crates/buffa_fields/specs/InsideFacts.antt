@@ -17,7 +17,7 @@ use Rattle.buffa_wire.specs.Encoding.{records_encoding, tagged_encoding}
 use Rattle.buffa_wire.specs.Parse.{Fits, FitsDatum}
 use Rattle.buffa_wire.specs.Records.{Datum, records_of}
 use Rattle.buffa_wire.specs.Takes.{ReadsBack, Stays, Taker}
-use Rattle.buffa_fields_base.specs.BackFacts.{one_back}
+use Rattle.buffa_fields.specs.BackFacts.{one_back}
 use Rattle.buffa_fields.specs.ListFacts.{records_back}
 use Rattle.buffa_fields.specs.Lists.{element_records}
 use Rattle.buffa_fields.specs.Nested.{taken_behind, taken_there}

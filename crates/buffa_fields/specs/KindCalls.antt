@@ -13,16 +13,16 @@ use Rattle.buffa_wire.specs.Passes.{IsSized, IsWritten, cap}
 use Rattle.buffa_wire.specs.Records.{bytes}
 use Rattle.buffa_wire.specs.Encoding.{records_encoding}
 use Rattle.buffa_wire.specs.declared.context.DecodeContext.{DecodeContext}
-use Rattle.buffa_map.specs.Calls.{Exit}
-use Rattle.buffa_map_base.specs.Codec.{Reading, Writing}
-use Rattle.buffa_map_base.specs.Pairs.{means}
+use Rattle.buffa_fields.specs.Exit.{Exit}
+use Rattle.buffa_map.specs.Codec.{Reading, Writing}
+use Rattle.buffa_map.specs.Pairs.{means}
 use Rattle.buffa_fields.specs.Lists.{check_list_wire, elements_taken}
 use Rattle.buffa_fields.specs.MapFields.{pair_cost, pair_taken}
 use Rattle.buffa_fields.specs.NestedMaps.{pair_records, pair_slots}
 use Rattle.buffa_fields.specs.RepeatedNested.{messages_records, messages_slots}
 use Rattle.buffa_wire.specs.Takes.{IsTaken}
-use Rattle.buffa_fields_base.specs.Values.{free}
-use Rattle.buffa_fields_base.specs.Calls.{TakesIn}
+use Rattle.buffa_fields.specs.Values.{free}
+use Rattle.buffa_fields.specs.Calls.{TakesIn}
 use denote.Ref.{Bor}
 
 -- ---- a field whose tag was read

@@ -1,4 +1,24 @@
 -- The words that this crate hands out.
+pub mod Exit
+pub mod PairFacts
+pub mod Values
+pub mod BackFacts
+pub mod ValueFacts
+pub mod KindFacts
+pub mod Keep
+pub mod KeepFacts
+pub mod Layout
+pub mod LayoutFacts
+pub mod Aside
+pub mod AsideFacts
+pub mod Members
+pub mod MemberRecords
+pub mod Stands
+pub mod Calls
+pub mod KeptNumbers
+pub mod KeptNumberFacts
+pub mod KeptLists
+pub mod KeptListFacts
 pub mod Refusals
 pub mod Entries
 pub mod EntriesFacts
@@ -21,3 +41,7 @@ pub mod RepeatedGroups
 pub mod RepeatedGroupFacts
 pub mod GroupCalls
 pub mod KindCalls
+pub mod KeptMaps
+pub mod KeptMapFacts
+pub mod EntryDepthFacts
+pub mod Pinned

@@ -17,13 +17,13 @@ use Rattle.buffa_wire.specs.Passes.{cap}
 use Rattle.buffa_wire.specs.Records.{Datum, records_of}
 use Rattle.buffa_wire.specs.Encoding.{records_encoding, tagged_encoding, encodings}
 use Rattle.buffa_bytes.specs.Values.{delimited_encoding, tag_encoding}
-use Rattle.buffa_map_base.proofs.EntryLemmas.{value_sound}
-use Rattle.buffa_map_base.specs.Codec.{Reading, ValueFault, Writing, value_at}
+use Rattle.buffa_map.proofs.EntryLemmas.{value_sound}
+use Rattle.buffa_map.specs.Codec.{Reading, ValueFault, Writing, value_at}
 use Rattle.buffa_fields.specs.Lists.{element_at, element_records, elements_in, elements_taken, packed_records}
 use Rattle.buffa_wire.specs.Takes.{ReadsBack, Taker}
-use Rattle.buffa_fields_base.specs.ValueFacts.{delimited_payload, delimited_whole, front_back, value_back, wires_agree}
+use Rattle.buffa_fields.specs.ValueFacts.{delimited_payload, delimited_whole, front_back, value_back, wires_agree}
 use Rattle.buffa_wire.proofs.ByValueLemmas.{ByValue}
-use Rattle.buffa_fields_base.specs.BackFacts.{all_back, no_pieces, one_back}
+use Rattle.buffa_fields.specs.BackFacts.{all_back, no_pieces, one_back}
 
 -- ---- elements, one after the other
 module _ {V : Type 0} (codec : Reading V) (d : ℕ) where
@@ -85,7 +85,7 @@ module _ {V : Type 0} (reading : Reading V) (writing : Writing V) (datum : V →
       elements_next reading d acc (acc ++ v ∷ []) (writing.encoding v ++ rest) rest some (rw (front_back reading writing d plain WIRE wire written Fit Normal reads_back reading.blank v rest h.0.0 h.0.1) refl)
       ∙ unpacks (acc ++ v ∷ []) vs h.1 ∙ ap (λ z. Ok z) (append_assoc acc (v ∷ []) vs)
 
-  takes_packed : same_wire reading.wire LengthDelimited ≡ false → (vs : List V) → AllByRecursion (λ v. Fit v × Normal v) vs → length (encodings writing.encoding vs) < 2 ^ 64 →
+  pub takes_packed : same_wire reading.wire LengthDelimited ≡ false → (vs : List V) → AllByRecursion (λ v. Fit v × Normal v) vs → length (encodings writing.encoding vs) < 2 ^ 64 →
       elements_taken reading d [] n LengthDelimited (delimited_encoding (encodings writing.encoding vs)) ≡ Some vs
   unfolding elements_taken
   takes_packed off vs h fits = rw (off, delimited_whole (encodings writing.encoding vs) fits, unpacks [] vs h) refl

@@ -11,10 +11,10 @@ use Rattle.buffa_bytes.specs.Front.{check_wire, delimited_at}
 use Rattle.buffa_wire.specs.Records.{Datum, bytes}
 use Rattle.buffa_wire.specs.Sequence.{parse_all}
 use Rattle.buffa_bytes.specs.WireType.{same_wire}
-use Rattle.buffa_map_base.specs.Codec.{Reading, value_at}
+use Rattle.buffa_map.specs.Codec.{Reading, value_at}
 use Rattle.buffa_wire.specs.ByField.{value_of}
 use Rattle.buffa_wire.specs.Takes.{Asks, Taker}
-use Rattle.buffa_fields_base.specs.Values.{all_of}
+use Rattle.buffa_fields.specs.Values.{all_of}
 use Rattle.buffa_wire.specs.Encoding.{encodings}
 
 module _ {V : Type 0} (codec : Reading V) (d : ℕ) where

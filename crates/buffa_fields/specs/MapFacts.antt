@@ -11,19 +11,19 @@ use Rattle.buffa_wire.specs.Passes.{IsWritten}
 use Rattle.buffa_wire.proofs.PassLemmas.{consumes_none, written_none}
 use Rattle.buffa_wire.specs.Records.{records_of}
 use Rattle.buffa_wire.specs.Encoding.{records_encoding}
-use Rattle.buffa_map_base.specs.Codec.{Reading, Writing}
-use Rattle.buffa_map_base.specs.Entry.{need_of}
-use Rattle.buffa_map_base.specs.Pairs.{put}
-use Rattle.buffa_map_base.specs.Run.{EntryRecord, fold_entries, pair_entry}
-use Rattle.buffa_map_base.specs.Encoding.{AllHold, HasEncoding, entry_encoding, field_encoding, record_encoding}
+use Rattle.buffa_map.specs.Codec.{Reading, Writing}
+use Rattle.buffa_map.specs.Entry.{need_of}
+use Rattle.buffa_map.specs.Pairs.{put}
+use Rattle.buffa_map.specs.Run.{EntryRecord, fold_entries, pair_entry}
+use Rattle.buffa_map.specs.Encoding.{AllHold, HasEncoding, entry_encoding, field_encoding, record_encoding}
 use Rattle.buffa_bytes.specs.declared.error.EncodeError.{EncodeError}
 use Rattle.buffa_fields.specs.MapFields.{WritesMap, map_records, pair_cost, pair_taken, put_all, stepped}
 use Rattle.buffa_fields.specs.EntriesFacts.{entry_stays, read_entry}
 use Rattle.buffa_wire.specs.Takes.{ReadsBack, Stays}
 use Rattle.buffa_map.proofs.BackLemmas.{IsReadBack, entry_back, fold_back}
 use Rattle.buffa_bytes.specs.Values.{delimited_encoding}
-use Rattle.buffa_fields_base.specs.ValueFacts.{delimited_payload}
-use Rattle.buffa_fields_base.specs.BackFacts.{all_back}
+use Rattle.buffa_fields.specs.ValueFacts.{delimited_payload}
+use Rattle.buffa_fields.specs.BackFacts.{all_back}
 use Rattle.buffa_bytes.specs.Field.{Payload}
 
 -- ---- the encoding

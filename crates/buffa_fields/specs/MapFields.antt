@@ -8,10 +8,10 @@ use Rattle.buffa_wire.specs.Passes.{Begins, IsSmall}
 use Rattle.buffa_wire.specs.Encoding.{records_encoding}
 use Rattle.buffa_bytes.specs.Front.{delimited_at}
 use Rattle.buffa_wire.specs.Records.{Datum, bytes}
-use Rattle.buffa_map_base.specs.Codec.{Reading, Writing}
-use Rattle.buffa_map_base.specs.Entry.{IsEntry, need_of}
-use Rattle.buffa_map_base.specs.Fields.{EntryFieldsTakeMemory}
-use Rattle.buffa_map_base.specs.Encoding.{entry_encoding}
+use Rattle.buffa_map.specs.Codec.{Reading, Writing}
+use Rattle.buffa_map.specs.Entry.{IsEntry, need_of}
+use Rattle.buffa_map.specs.Fields.{EntryFieldsTakeMemory}
+use Rattle.buffa_map.specs.Encoding.{entry_encoding}
 use Rattle.buffa_map.specs.declared.map_entry.MapEntry.{MapEntry}
 use Rattle.buffa_wire.specs.Takes.{Asks, Need, Taker}
 use Rattle.buffa_fields.specs.Entries.{entry_cost, entry_taken}

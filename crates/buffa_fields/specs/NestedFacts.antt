@@ -20,10 +20,10 @@ use Rattle.buffa_bytes.specs.Varint.{varint_encoding}
 use Rattle.buffa_fields.specs.Nested.{message_cost, message_merged, message_levels, message_records, message_taken}
 use Rattle.buffa_wire.specs.Takes.{ReadsBack, Stays}
 use Rattle.buffa_wire.specs.Pinned.{done, refusal}
-use Rattle.buffa_fields_base.specs.Values.{IfThere}
+use Rattle.buffa_fields.specs.Values.{IfThere}
 use Rattle.buffa_fields.specs.InsideFacts.{delimited_stays, inside_back}
-use Rattle.buffa_fields_base.specs.BackFacts.{no_pieces}
-use Rattle.buffa_fields_base.specs.ValueFacts.{delimited_payload, delimited_whole}
+use Rattle.buffa_fields.specs.BackFacts.{no_pieces}
+use Rattle.buffa_fields.specs.ValueFacts.{delimited_payload, delimited_whole}
 
 -- ---- costs
 pub message_stays : (cost : ℕ → List ℕ → BudgetLeft) → Stays (message_cost cost)

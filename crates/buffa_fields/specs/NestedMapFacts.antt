@@ -9,11 +9,11 @@ use Rattle.buffa_wire.specs.Records.{records_of}
 use Rattle.buffa_wire.specs.Encoding.{records_encoding}
 use Rattle.buffa_bytes.specs.Varint.{varint_encoding}
 use Rattle.buffa_map.proofs.BackLemmas.{IsReadBack}
-use Rattle.buffa_map_base.proofs.SizeLemmas.{length-entry_encoding}
-use Rattle.buffa_map_base.specs.Codec.{Reading, Writing}
-use Rattle.buffa_map_base.specs.Message.{meant, message_reading}
-use Rattle.buffa_map_base.specs.Scalars.{delimited_writing}
-use Rattle.buffa_map_base.specs.Encoding.{AllHold}
+use Rattle.buffa_map.proofs.SizeLemmas.{length-entry_encoding}
+use Rattle.buffa_map.specs.Codec.{Reading, Writing}
+use Rattle.buffa_map.specs.Message.{meant, message_reading}
+use Rattle.buffa_map.specs.Scalars.{delimited_writing}
+use Rattle.buffa_map.specs.Encoding.{AllHold}
 use Rattle.buffa_fields.specs.MapFields.{map_records, pair_taken, put_all}
 use Rattle.buffa_fields.specs.MapFacts.{map_back}
 use Rattle.buffa_fields.specs.NestedMaps.{pair_levels, pair_records}

@@ -1,9 +1,9 @@
 -- Map fields of messages as members. Source: the protobuf encoding guide, "Maps" and "Submessages".
 use Rattle.std.specs.Prelude.{ℕ, suc, max, List, [], ◌∷◌}
 use Rattle.buffa_wire.specs.Records.{Datum}
-use Rattle.buffa_map_base.specs.Codec.{Writing}
-use Rattle.buffa_map_base.specs.MessageField.{field_slots}
-use Rattle.buffa_map_base.specs.Scalars.{delimited_writing}
+use Rattle.buffa_map.specs.Codec.{Writing}
+use Rattle.buffa_map.specs.MessageField.{field_slots}
+use Rattle.buffa_map.specs.Scalars.{delimited_writing}
 use Rattle.buffa_fields.specs.MapFields.{map_records}
 
 -- a record for each pair

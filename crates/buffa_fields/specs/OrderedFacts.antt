@@ -3,7 +3,7 @@ use Rattle.std.proofs.Common.{◌≡◌, List, [], ◌∷◌, ◌++◌, sym, ap,
 use Rattle.std.specs.BTreeMap.{insert_entry}
 use Rattle.std.specs.Cmp.{IsTotalOrder}
 use Rattle.std.specs.declared.cmp.Ordering.{Ordering}
-use Rattle.buffa_map_base.proofs.SortedLemmas.{put_last}
+use Rattle.buffa_map.proofs.SortedLemmas.{put_last}
 use Rattle.buffa_fields.specs.MapFields.{put_all}
 use Rattle.buffa_fields.specs.OrderedMaps.{KeysAscend}
 

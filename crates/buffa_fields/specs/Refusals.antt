@@ -8,11 +8,11 @@ use Rattle.buffa_bytes.specs.declared.wire_type.WireType.TheVariants.{LengthDeli
 use Rattle.buffa_bytes.specs.Front.{check_wire, delimited_at}
 use Rattle.buffa_wire.specs.BudgetLeft.{BudgetLeft}
 use Rattle.buffa_wire.specs.Message.{BeginsField}
-use Rattle.buffa_map_base.specs.Codec.{Reading}
-use Rattle.buffa_map_base.specs.Entry.{EntryFault}
-use Rattle.buffa_map_base.specs.Pairs.{means}
-use Rattle.buffa_fields_base.specs.Layout.{Shape}
-use Rattle.buffa_fields_base.specs.Values.{RefusesAlone}
+use Rattle.buffa_map.specs.Codec.{Reading}
+use Rattle.buffa_map.specs.Entry.{EntryFault}
+use Rattle.buffa_map.specs.Pairs.{means}
+use Rattle.buffa_fields.specs.Layout.{Shape}
+use Rattle.buffa_fields.specs.Values.{RefusesAlone}
 use Rattle.buffa_fields.specs.Lists.{element_at, elements_in}
 use denote.Ref.{Bor}
 

@@ -13,7 +13,7 @@ use Rattle.buffa_wire.specs.Records.{Datum, records_of, bytes}
 use Rattle.buffa_wire.proofs.ByValueLemmas.{ByValue, length_parts, one_more, parts}
 use Rattle.buffa_wire.specs.Encoding.{records_encoding}
 use Rattle.buffa_bytes.specs.Values.{delimited_encoding}
-use Rattle.buffa_fields_base.specs.LayoutFacts.{failed, sized_more, small_both, sum}
+use Rattle.buffa_fields.specs.LayoutFacts.{failed, sized_more, small_both, sum}
 use Rattle.buffa_fields.specs.ListFacts.{elements_by_value}
 use Rattle.buffa_fields.specs.Lists.{element_records}
 use Rattle.buffa_fields.specs.Nested.{message_merged}

@@ -1,6 +1,6 @@
 //! Members that are messages, as groups.
 
-ghost use Rattle.std.specs.Prelude.{None, Some, ◌≡◌, ◌==◌, ◌+◌, ◌<◌, ◌∷◌, length};
+ghost use Rattle.std.specs.Prelude.{None, Some, ◌≡◌, ◌==◌, ◌+◌, ◌<◌, ◌∷◌, length, true};
 ghost use Rattle.std.specs.Option.{option_map};
 ghost use Rattle.buffa_bytes.specs.declared.wire_type.WireType.TheVariants.{EndGroup, StartGroup};
 ghost use Rattle.buffa_wire.specs.Message.{BeginsField};
@@ -9,16 +9,16 @@ ghost use Rattle.buffa_bytes.specs.Number.{IsNumber};
 ghost use Rattle.buffa_bytes.specs.Values.{tag_encoding};
 ghost use Rattle.buffa_wire.specs.Passes.{IsNext, IsSized, cap};
 ghost use Rattle.buffa_bytes.specs.Front.{check_wire};
-ghost use Rattle.buffa_fields_base.specs.Calls.{ChecksWire, TakesIn};
+ghost use Rattle.buffa_fields.specs.Calls.{ChecksWire, TakesIn};
 ghost use Rattle.buffa_fields.specs.GroupCalls.{MergesGroup, WritesGroup};
 ghost use Rattle.buffa_fields.specs.Groups.{GroupTakesMemory, group_cost, group_encoding, group_merged, group_records, group_taken};
 ghost use Rattle.buffa_fields.specs.GroupFacts.{group_member_back, group_stays};
 ghost use Rattle.buffa_wire.proofs.ByPayloadLemmas.{by_payload, merged_fields};
 ghost use Rattle.buffa_fields.specs.Nested.{message_levels, message_slots};
 ghost use Rattle.buffa_fields.specs.Refusals.{RefusesTaggedField, RefusesGroup, RefusesInGroup};
-ghost use Rattle.buffa_fields_base.specs.Values.{IfThere};
+ghost use Rattle.buffa_fields.specs.Values.{IfThere};
 
-use buffa_fields_base::member::Member;
+use crate::member::Member;
 use buffa_wire::{
     Blank, DecodeContext, DecodeError, EncodeError, EncodeSink, Message, MessageSpec, SizeCache,
     Tag, WireType, capped, check_wire_type,
@@ -162,6 +162,7 @@ impl<N: Message> Member for Group<N> {
     type Meaning = Option<<N as Blank>::Meaning>;
 
     ghost shape = { record {
+      whole = true;
       meaning = λ p. option_map N.meaning p;
       blank = None;
       takes = group_taken N.blank_is N.merged;
@@ -176,7 +177,7 @@ impl<N: Message> Member for Group<N> {
       stays = group_stays N.cost;
     } };
 
-    #[tactic(auto, using(buffa_fields_base::specs::LayoutFacts::sized_free), unfolding(crate::specs::Groups::group_records, crate::specs::Nested::message_slots))]
+    #[tactic(auto, using(crate::specs::LayoutFacts::sized_free), unfolding(crate::specs::Groups::group_records, crate::specs::Nested::message_slots))]
     fn len(number: u32, part: &Option<N>, cache: &mut SizeCache) -> Result<u32, EncodeError> {
         match part {
             None => Ok(0),

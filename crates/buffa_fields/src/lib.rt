@@ -1,21 +1,37 @@
 //! Messages from their fields: a message type is data, and its author writes no proof.
 #![tactic(auto)]
 
+pub mod fields;
 pub mod group;
+pub mod keeping;
+pub mod kept;
+pub mod kept_list;
+pub mod kept_map;
+pub mod kept_number;
+pub mod kept_ordered;
+pub mod kind;
+pub mod kind_laws;
+pub mod kinds;
+pub mod laws;
 mod list;
 mod map;
 pub mod map_member;
 pub mod map_nested;
+pub mod meaning;
+pub mod member;
+pub mod merge;
+pub mod message;
 pub mod nested;
+pub mod optional;
 pub mod ordered_key;
 pub mod ordered_map;
 pub mod ordered_nested;
 pub mod packed;
+pub mod plain;
 pub mod repeated;
 pub mod repeated_group;
 pub mod repeated_nested;
-
-pub use buffa_fields_base::{
-    fields, kept, kind, kinds, meaning, member, merge, message, optional, plain, sizer, visitor,
-    writer,
-};
+pub mod sizer;
+pub mod value;
+pub mod visitor;
+pub mod writer;

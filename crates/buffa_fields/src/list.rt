@@ -12,8 +12,8 @@ ghost use Rattle.buffa_fields.specs.KindCalls.{ChecksListWire, TakesElements};
 ghost use Rattle.buffa_fields.specs.Lists.{ElementsTakeMemory, PackedTakeMemory, TakesPacked, element_at, element_records, elements_in};
 ghost use Rattle.buffa_fields.specs.Refusals.{RefusesElements, RefusesTaggedField, RefusesPacked, StopsAtElement};
 
-use buffa_fields_base::kind::Kind;
-use buffa_fields_base::value::{value_len, write_value};
+use crate::kind::Kind;
+use crate::value::{value_len, write_value};
 use buffa_map::map_codec::{MapCodec, MapValueDecode};
 use buffa_wire::{
     Blank, Budget, Buf, DecodeContext, DecodeError, EncodeError, EncodeSink, Tag, WireType,

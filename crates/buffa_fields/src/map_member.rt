@@ -1,21 +1,21 @@
 //! Map fields as members.
 
-ghost use Rattle.std.specs.Prelude.{◌+◌, []};
+ghost use Rattle.std.specs.Prelude.{◌+◌, [], not};
 ghost use Rattle.std.proofs.Common.{sym, ◌∙◌};
 ghost use Rattle.std.specs.List.{IsDistinct};
 ghost use Rattle.std.specs.Map.{keys_of};
 ghost use Rattle.buffa_bytes.specs.declared.wire_type.WireType.TheVariants.{LengthDelimited};
 ghost use Rattle.buffa_bytes.specs.Front.{check_wire};
 ghost use Rattle.buffa_map.proofs.BackLemmas.{plain_back};
-ghost use Rattle.buffa_map_base.specs.Pairs.{means, put};
-ghost use Rattle.buffa_map_base.specs.Encoding.{AllHold};
+ghost use Rattle.buffa_map.specs.Pairs.{means, put};
+ghost use Rattle.buffa_map.specs.Encoding.{AllHold};
 ghost use Rattle.buffa_fields.specs.MapFields.{PairTakesMemory, pair_cost, pair_taken, entry_records};
 ghost use Rattle.buffa_fields.specs.MapFacts.{distinct_put, map_back, map_stays};
 ghost use Rattle.buffa_fields.specs.Refusals.{RefusesPair};
 
 use crate::map::{map_len, take_entry, write_map};
-use buffa_fields_base::meaning::And;
-use buffa_fields_base::member::Member;
+use crate::meaning::And;
+use crate::member::Member;
 use buffa_map::map_codec::{Map, MapCodec, MapValueDecode};
 use buffa_wire::{
     Blank, DecodeContext, DecodeError, EncodeError, EncodeSink, MapKey, SizeCache, Tag,
@@ -43,6 +43,7 @@ where
     type Meaning = [And<<KC::Value as Blank>::Meaning, <VC::Value as Blank>::Meaning>; 0];
 
     ghost shape = { record {
+      whole = not VC.MAY_RETURN_UNKNOWN;
       meaning = λ m. means KC.Value.meaning VC.Value.meaning m.entries;
       blank = [];
       takes = pair_taken KC.reading VC.reading (put KC.Value.same);
@@ -58,7 +59,7 @@ where
       stays = map_stays KC.reading VC.reading (KC.COST + VC.COST);
     } };
 
-    #[tactic(auto, using(buffa_fields_base::specs::LayoutFacts::sized_free), unfolding(crate::specs::MapFields::entry_records))]
+    #[tactic(auto, using(crate::specs::LayoutFacts::sized_free), unfolding(crate::specs::MapFields::entry_records))]
     fn len(
         number: u32,
         part: &Map<KC::Value, VC::Value>,
@@ -77,7 +78,7 @@ where
         write_map::<KC, VC, Map<KC::Value, VC::Value>, S>(number, part, sink)
     }
 
-    #[tactic(auto, unfolding(buffa_fields_base::specs::Layout::Took))]
+    #[tactic(auto, unfolding(crate::specs::Layout::Took))]
     fn merge(
         part: &mut Map<KC::Value, VC::Value>,
         alloc: Global,

@@ -1,6 +1,6 @@
 //! Map fields of messages as members.
 
-ghost use Rattle.std.specs.Prelude.{◌≢◌, ◌+◌, [], OnErr};
+ghost use Rattle.std.specs.Prelude.{◌≢◌, ◌+◌, [], OnErr, true};
 ghost use Rattle.std.proofs.Common.{sym, ◌∙◌};
 ghost use Rattle.std.specs.List.{IsDistinct};
 ghost use Rattle.std.specs.Map.{keys_of};
@@ -9,9 +9,9 @@ ghost use Rattle.buffa_bytes.specs.Number.{IsNumber};
 ghost use Rattle.buffa_wire.specs.Passes.{IsNext};
 ghost use Rattle.buffa_bytes.specs.Front.{check_wire};
 ghost use Rattle.buffa_map.proofs.BackLemmas.{plain_back};
-ghost use Rattle.buffa_map_base.specs.Message.{message_reading};
-ghost use Rattle.buffa_map_base.specs.Pairs.{means, put};
-ghost use Rattle.buffa_map_base.specs.Encoding.{AllHold};
+ghost use Rattle.buffa_map.specs.Message.{message_reading};
+ghost use Rattle.buffa_map.specs.Pairs.{means, put};
+ghost use Rattle.buffa_map.specs.Encoding.{AllHold};
 ghost use Rattle.buffa_fields.specs.KindCalls.{SizesPairs, WritesPairs};
 ghost use Rattle.buffa_fields.specs.MapFields.{PairTakesMemory, pair_cost, pair_taken};
 ghost use Rattle.buffa_fields.specs.MapFacts.{distinct_put, map_stays};
@@ -21,8 +21,8 @@ ghost use Rattle.buffa_fields.specs.NestedMaps.{pair_levels, pair_records, pair_
 ghost use Rattle.buffa_fields.specs.Refusals.{RefusesPair};
 
 use crate::map::take_entry;
-use buffa_fields_base::meaning::And;
-use buffa_fields_base::member::Member;
+use crate::meaning::And;
+use crate::member::Member;
 use buffa_map::map_codec::{
     Map, MapCodec, MapStorage, MapValueDecode, Msg, StableWalk, message_field_len,
     write_message_field,
@@ -94,6 +94,7 @@ where
     type Meaning = [And<<KC::Value as Blank>::Meaning, <N as Blank>::Meaning>; 0];
 
     ghost shape = { record {
+      whole = true;
       meaning = λ m. means KC.Value.meaning N.meaning m.entries;
       blank = [];
       takes = pair_taken KC.reading (message_reading N.blank_is N.merged N.cost) (put KC.Value.same);
@@ -126,7 +127,7 @@ where
         write_pairs::<KC, N, Map<KC::Value, N>, S>(number, part, cache, sink)
     }
 
-    #[tactic(auto, unfolding(buffa_fields_base::specs::Layout::Took))]
+    #[tactic(auto, unfolding(crate::specs::Layout::Took))]
     fn merge(
         part: &mut Map<KC::Value, N>,
         alloc: Global,

@@ -1,6 +1,6 @@
 //! Members that are messages.
 
-ghost use Rattle.std.specs.Prelude.{None, ◌≡◌, ◌∷◌, [], List, ℕ, length};
+ghost use Rattle.std.specs.Prelude.{None, ◌≡◌, ◌∷◌, [], List, ℕ, length, true};
 ghost use Rattle.std.specs.Option.{option_map};
 ghost use Rattle.buffa_bytes.specs.declared.wire_type.WireType.TheVariants.{LengthDelimited};
 ghost use Rattle.buffa_bytes.specs.Gives.{FullOnlyIf};
@@ -10,14 +10,14 @@ ghost use Rattle.buffa_bytes.specs.Front.{check_wire};
 ghost use Rattle.buffa_wire.specs.Records.{bytes};
 ghost use Rattle.buffa_wire.specs.Encoding.{records_encoding};
 ghost use Rattle.buffa_bytes.specs.Written.{Writes};
-ghost use Rattle.buffa_fields_base.specs.Calls.{ChecksWire, TakesIn};
+ghost use Rattle.buffa_fields.specs.Calls.{ChecksWire, TakesIn};
 ghost use Rattle.buffa_fields.specs.KindCalls.{WritesMessage};
 ghost use Rattle.buffa_fields.specs.Nested.{FitsInside, MessageTakesMemory, message_cost, message_merged, message_levels, message_records, message_slots, message_taken};
 ghost use Rattle.buffa_fields.specs.NestedFacts.{TellsLength, head, nested_back, message_stays};
 ghost use Rattle.buffa_fields.specs.Refusals.{RefusesTaggedField, RefusesInside, RefusesMessage};
-ghost use Rattle.buffa_fields_base.specs.Values.{IfThere};
+ghost use Rattle.buffa_fields.specs.Values.{IfThere};
 
-use buffa_fields_base::member::Member;
+use crate::member::Member;
 use buffa_wire::{
     Blank, DecodeContext, DecodeError, EncodeError, EncodeSink, Message, MessageSpec, SizeCache,
     Tag, WireType, capped, check_wire_type, encode_varint, prefix_len,
@@ -131,6 +131,7 @@ impl<N: Message> Member for Nested<N> {
     type Meaning = Option<<N as Blank>::Meaning>;
 
     ghost shape = { record {
+      whole = true;
       meaning = λ p. option_map N.meaning p;
       blank = None;
       takes = message_taken N.blank_is N.merged;
@@ -145,7 +146,7 @@ impl<N: Message> Member for Nested<N> {
       stays = message_stays N.cost;
     } };
 
-    #[tactic(auto, using(buffa_fields_base::specs::LayoutFacts::sized_free), unfolding(crate::specs::Nested::message_records, crate::specs::Nested::message_slots))]
+    #[tactic(auto, using(crate::specs::LayoutFacts::sized_free), unfolding(crate::specs::Nested::message_records, crate::specs::Nested::message_slots))]
     fn len(number: u32, part: &Option<N>, cache: &mut SizeCache) -> Result<u32, EncodeError> {
         match part {
             None => Ok(0),

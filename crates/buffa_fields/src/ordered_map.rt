@@ -1,15 +1,15 @@
 //! Map fields as members that are written in the order of their keys.
 
-ghost use Rattle.std.specs.Prelude.{◌+◌, []};
+ghost use Rattle.std.specs.Prelude.{◌+◌, [], not};
 ghost use Rattle.std.specs.BTreeMap.{insert_entry};
 ghost use Rattle.std.proofs.Common.{sym, ◌∙◌};
 ghost use Rattle.buffa_bytes.specs.Gives.{FullOnlyIf};
 ghost use Rattle.buffa_bytes.specs.Front.{check_wire};
 ghost use Rattle.buffa_bytes.specs.declared.wire_type.WireType.TheVariants.{LengthDelimited};
 ghost use Rattle.buffa_map.proofs.BackLemmas.{plain_back};
-ghost use Rattle.buffa_map_base.specs.Encoding.{AllHold};
-ghost use Rattle.buffa_map_base.specs.Pairs.{means};
-ghost use Rattle.buffa_fields_base.specs.Calls.{ChecksWire};
+ghost use Rattle.buffa_map.specs.Encoding.{AllHold};
+ghost use Rattle.buffa_map.specs.Pairs.{means};
+ghost use Rattle.buffa_fields.specs.Calls.{ChecksWire};
 ghost use Rattle.buffa_fields.specs.KindCalls.{TakesOrderedEntry};
 ghost use Rattle.buffa_fields.specs.MapFields.{PairTakesMemory, pair_cost, pair_taken, entry_records};
 ghost use Rattle.buffa_fields.specs.MapFacts.{map_back, map_stays};
@@ -18,9 +18,9 @@ ghost use Rattle.buffa_fields.specs.OrderedMaps.{KeysAscend};
 ghost use Rattle.buffa_fields.specs.Refusals.{RefusesPair, RefusesPairIn};
 
 use crate::map::{map_len, write_map};
+use crate::meaning::And;
+use crate::member::Member;
 use crate::ordered_key::OrderedKey;
-use buffa_fields_base::meaning::And;
-use buffa_fields_base::member::Member;
 use buffa_map::laws::limits_are_told_where_needs_are_not_left;
 use buffa_map::map_codec::{MapCodec, MapValueDecode, merge_entry};
 use buffa_wire::{
@@ -85,6 +85,7 @@ where
     type Meaning = [And<<KC::Value as Blank>::Meaning, <VC::Value as Blank>::Meaning>; 0];
 
     ghost shape = { record {
+      whole = not VC.MAY_RETURN_UNKNOWN;
       meaning = λ m. means KC.Value.meaning VC.Value.meaning m.entries;
       blank = [];
       takes = pair_taken KC.reading VC.reading (insert_entry KC.Value.order);
@@ -100,7 +101,7 @@ where
       stays = map_stays KC.reading VC.reading (KC.COST + VC.COST);
     } };
 
-    #[tactic(auto, using(buffa_fields_base::specs::LayoutFacts::sized_free), unfolding(crate::specs::MapFields::entry_records))]
+    #[tactic(auto, using(crate::specs::LayoutFacts::sized_free), unfolding(crate::specs::MapFields::entry_records))]
     fn len(
         number: u32,
         part: &BTreeMap<KC::Value, VC::Value>,
@@ -119,7 +120,7 @@ where
         write_map::<KC, VC, BTreeMap<KC::Value, VC::Value>, S>(number, part, sink)
     }
 
-    #[tactic(auto, unfolding(buffa_fields_base::specs::Layout::Took))]
+    #[tactic(auto, unfolding(crate::specs::Layout::Took))]
     fn merge(
         part: &mut BTreeMap<KC::Value, VC::Value>,
         alloc: Global,

@@ -1,14 +1,14 @@
 //! Map fields of messages as members that are written in the order of their keys.
 
-ghost use Rattle.std.specs.Prelude.{◌+◌, []};
+ghost use Rattle.std.specs.Prelude.{◌+◌, [], true};
 ghost use Rattle.std.specs.BTreeMap.{insert_entry};
 ghost use Rattle.std.proofs.Common.{sym, ◌∙◌};
 ghost use Rattle.buffa_bytes.specs.Front.{check_wire};
 ghost use Rattle.buffa_bytes.specs.declared.wire_type.WireType.TheVariants.{LengthDelimited};
 ghost use Rattle.buffa_map.proofs.BackLemmas.{plain_back};
-ghost use Rattle.buffa_map_base.specs.Encoding.{AllHold};
-ghost use Rattle.buffa_map_base.specs.Message.{message_reading};
-ghost use Rattle.buffa_map_base.specs.Pairs.{means};
+ghost use Rattle.buffa_map.specs.Encoding.{AllHold};
+ghost use Rattle.buffa_map.specs.Message.{message_reading};
+ghost use Rattle.buffa_map.specs.Pairs.{means};
 ghost use Rattle.buffa_fields.specs.MapFields.{PairTakesMemory, pair_cost, pair_taken};
 ghost use Rattle.buffa_fields.specs.MapFacts.{map_stays};
 ghost use Rattle.buffa_fields.specs.Nested.{FitsInside};
@@ -19,10 +19,10 @@ ghost use Rattle.buffa_fields.specs.OrderedMaps.{KeysAscend};
 ghost use Rattle.buffa_fields.specs.Refusals.{RefusesPair};
 
 use crate::map_nested::{pairs_len, write_pairs};
+use crate::meaning::And;
+use crate::member::Member;
 use crate::ordered_key::OrderedKey;
 use crate::ordered_map::take_ordered;
-use buffa_fields_base::meaning::And;
-use buffa_fields_base::member::Member;
 use buffa_map::map_codec::{MapCodec, MapValueDecode, Msg};
 use buffa_wire::{
     Blank, DecodeContext, DecodeError, EncodeError, EncodeSink, Message, MessageSpec, SizeCache,
@@ -51,6 +51,7 @@ where
     type Meaning = [And<<KC::Value as Blank>::Meaning, <N as Blank>::Meaning>; 0];
 
     ghost shape = { record {
+      whole = true;
       meaning = λ m. means KC.Value.meaning N.meaning m.entries;
       blank = [];
       takes = pair_taken KC.reading (message_reading N.blank_is N.merged N.cost) (insert_entry KC.Value.order);
@@ -83,7 +84,7 @@ where
         write_pairs::<KC, N, BTreeMap<KC::Value, N>, S>(number, part, cache, sink)
     }
 
-    #[tactic(auto, unfolding(buffa_fields_base::specs::Layout::Took))]
+    #[tactic(auto, unfolding(crate::specs::Layout::Took))]
     fn merge(
         part: &mut BTreeMap<KC::Value, N>,
         alloc: Global,

@@ -1,6 +1,6 @@
 //! Lists that are written packed.
 
-ghost use Rattle.std.specs.Prelude.{[], false, length, map, refl, ◌==◌, ◌≡◌};
+ghost use Rattle.std.specs.Prelude.{[], false, length, map, refl, ◌==◌, ◌≡◌, not};
 ghost use Rattle.std.specs.List.{AllByRecursion};
 ghost use Rattle.buffa_bytes.specs.declared.wire_type.WireType.TheVariants.{LengthDelimited};
 ghost use Rattle.buffa_bytes.specs.Number.{IsNumber};
@@ -8,19 +8,19 @@ ghost use Rattle.buffa_wire.specs.Passes.{IsWritten, cap};
 ghost use Rattle.buffa_wire.specs.Encoding.{records_encoding, encodings};
 ghost use Rattle.buffa_bytes.specs.WireType.{same_wire};
 ghost use Rattle.buffa_bytes.specs.Written.{Writes};
-ghost use Rattle.buffa_map_base.specs.Encoding.{saturated};
+ghost use Rattle.buffa_map.specs.Encoding.{saturated};
 ghost use Rattle.buffa_fields.specs.Lists.{ElementsTakeMemory, check_list_wire, elements_taken, packed_records};
 ghost use Rattle.buffa_fields.specs.ListFacts.{packed_field_back};
 ghost use Rattle.buffa_fields.specs.Refusals.{RefusesElements};
-ghost use Rattle.buffa_fields_base.specs.Values.{free};
+ghost use Rattle.buffa_fields.specs.Values.{free};
 
+use crate::kind::Kind;
 use crate::list::take_elements;
+use crate::member::Member;
 use crate::nested::{record_len, write_head};
-use buffa_fields_base::kind::Kind;
-use buffa_fields_base::member::Member;
 use buffa_map::map_codec::{
-    Bool, Fixed32, Fixed64, Int32, Int64, MapCodec, MapValueDecode, OpenEnum, Sfixed32, Sfixed64,
-    Sint32, Sint64, Uint32, Uint64,
+    Bool, ClosedEnum, Fixed32, Fixed64, Int32, Int64, MapCodec, MapValueDecode, OpenEnum, Sfixed32,
+    Sfixed64, Sint32, Sint64, Uint32, Uint64,
 };
 use buffa_wire::{
     Blank, DecodeContext, DecodeError, EncodeError, EncodeSink, Enumeration, SizeCache, Tag,
@@ -86,6 +86,10 @@ impl<E: Enumeration> Packable for OpenEnum<E> {
     ghost apart = { refl };
 }
 
+impl<E: Enumeration> Packable for ClosedEnum<E> {
+    ghost apart = { refl };
+}
+
 // The length of all payloads, or 2^64 - 1 where it is more.
 fn payloads_len<C: Kind>(values: &[C::Value]) -> u64
     ensures { result ≡ saturated (length (encodings C.writing.encoding (map C.Value.meaning values.now))) }
@@ -146,7 +150,7 @@ fn write_packed<C: Kind, S: EncodeSink>(
     }
 }
 
-/// A list of scalars or open enums, which is written packed. Elements in fields of their own are read too.
+/// A list of scalars or enums, which is written packed. Elements in fields of their own are read too.
 ///
 /// ```ignore
 /// visitor.visit::<Packed<Sint32>>(7, &self.steps);
@@ -161,6 +165,7 @@ impl<C: Packable> Member for Packed<C> {
     type Meaning = [<C::Value as Blank>::Meaning; 0];
 
     ghost shape = { record {
+      whole = not C.MAY_RETURN_UNKNOWN;
       meaning = λ vs. map C.Value.meaning vs.items;
       blank = [];
       takes = elements_taken C.reading;
@@ -175,7 +180,7 @@ impl<C: Packable> Member for Packed<C> {
       stays = λ d n w p x h. refl;
     } };
 
-    #[tactic(auto, using(buffa_fields_base::specs::LayoutFacts::sized_free))]
+    #[tactic(auto, using(crate::specs::LayoutFacts::sized_free))]
     fn len(number: u32, part: &Vec<C::Value>, _cache: &mut SizeCache) -> Result<u32, EncodeError> {
         Ok(packed_len::<C>(number, part.as_slice()))
     }
@@ -189,7 +194,7 @@ impl<C: Packable> Member for Packed<C> {
         write_packed::<C, S>(number, part.as_slice(), cache, sink)
     }
 
-    #[tactic(auto, unfolding(buffa_fields_base::specs::Layout::Took))]
+    #[tactic(auto, unfolding(crate::specs::Layout::Took))]
     fn merge(
         part: &mut Vec<C::Value>,
         alloc: Global,

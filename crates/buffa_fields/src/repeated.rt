@@ -1,15 +1,15 @@
 //! Members that are lists.
 
-ghost use Rattle.std.specs.Prelude.{[], map, refl};
+ghost use Rattle.std.specs.Prelude.{[], map, refl, not};
 ghost use Rattle.std.specs.List.{AllByRecursion};
 ghost use Rattle.buffa_fields.specs.Lists.{ElementsTakeMemory, check_list_wire, element_records, elements_taken};
 ghost use Rattle.buffa_fields.specs.ListFacts.{elements_back};
 ghost use Rattle.buffa_fields.specs.Refusals.{RefusesElements};
-ghost use Rattle.buffa_fields_base.specs.Values.{free};
+ghost use Rattle.buffa_fields.specs.Values.{free};
 
+use crate::kind::Kind;
 use crate::list::{elements_len, take_elements, write_elements};
-use buffa_fields_base::kind::Kind;
-use buffa_fields_base::member::Member;
+use crate::member::Member;
 use buffa_map::map_codec::{MapCodec, MapValueDecode};
 use buffa_wire::{Blank, DecodeContext, DecodeError, EncodeError, EncodeSink, SizeCache, Tag};
 use std::alloc::Global;
@@ -30,6 +30,7 @@ impl<C: Kind> Member for Repeated<C> {
     type Meaning = [<C::Value as Blank>::Meaning; 0];
 
     ghost shape = { record {
+      whole = not C.MAY_RETURN_UNKNOWN;
       meaning = λ vs. map C.Value.meaning vs.items;
       blank = [];
       takes = elements_taken C.reading;
@@ -44,7 +45,7 @@ impl<C: Kind> Member for Repeated<C> {
       stays = λ d n w p x h. refl;
     } };
 
-    #[tactic(auto, using(buffa_fields_base::specs::LayoutFacts::sized_free))]
+    #[tactic(auto, using(crate::specs::LayoutFacts::sized_free))]
     fn len(number: u32, part: &Vec<C::Value>, _cache: &mut SizeCache) -> Result<u32, EncodeError> {
         Ok(elements_len::<C>(number, part.as_slice()))
     }
@@ -59,7 +60,7 @@ impl<C: Kind> Member for Repeated<C> {
         write_elements::<C, S>(number, part.as_slice(), sink)
     }
 
-    #[tactic(auto, unfolding(buffa_fields_base::specs::Layout::Took))]
+    #[tactic(auto, unfolding(crate::specs::Layout::Took))]
     fn merge(
         part: &mut Vec<C::Value>,
         alloc: Global,

@@ -1,6 +1,6 @@
 //! Members that are lists of messages, as groups.
 
-ghost use Rattle.std.specs.Prelude.{[], ◌≡◌, IsOk, map};
+ghost use Rattle.std.specs.Prelude.{[], ◌≡◌, IsOk, map, true};
 ghost use Rattle.std.specs.List.{AllByRecursion};
 ghost use Rattle.buffa_bytes.specs.declared.wire_type.WireType.TheVariants.{StartGroup};
 ghost use Rattle.buffa_bytes.specs.Gives.{FullOnlyIf};
@@ -8,7 +8,7 @@ ghost use Rattle.buffa_bytes.specs.Number.{IsNumber};
 ghost use Rattle.buffa_wire.specs.Passes.{IsNext, IsSized};
 ghost use Rattle.buffa_bytes.specs.Front.{check_wire};
 ghost use Rattle.buffa_wire.specs.Encoding.{records_encoding};
-ghost use Rattle.buffa_fields_base.specs.Calls.{ChecksWire, TakesIn};
+ghost use Rattle.buffa_fields.specs.Calls.{ChecksWire, TakesIn};
 ghost use Rattle.buffa_fields.specs.GroupCalls.{WritesGroups};
 ghost use Rattle.buffa_fields.specs.Groups.{GroupTakesMemory, group_datum, group_merged};
 ghost use Rattle.buffa_fields.specs.Lists.{element_records};
@@ -19,7 +19,7 @@ ghost use Rattle.buffa_wire.proofs.ByPayloadLemmas.{by_payload, merged_fields};
 ghost use Rattle.buffa_fields.specs.Refusals.{RefusesTaggedField, RefusesNew};
 
 use crate::group::{group_len, take_group, write_group};
-use buffa_fields_base::member::Member;
+use crate::member::Member;
 use buffa_wire::{
     Blank, DecodeContext, DecodeError, EncodeError, EncodeSink, Message, MessageSpec, SizeCache,
     Tag, WireType, check_wire_type,
@@ -140,6 +140,7 @@ impl<N: Message> Member for RepeatedGroup<N> {
     type Meaning = [<N as Blank>::Meaning; 0];
 
     ghost shape = { record {
+      whole = true;
       meaning = λ p. map N.meaning p.items;
       blank = [];
       takes = groups_taken N.blank_is N.merged;
@@ -167,7 +168,7 @@ impl<N: Message> Member for RepeatedGroup<N> {
         write_groups(number, part.as_slice(), cache, sink)
     }
 
-    #[tactic(auto, unfolding(buffa_fields_base::specs::Layout::Took))]
+    #[tactic(auto, unfolding(crate::specs::Layout::Took))]
     fn merge(
         part: &mut Vec<N>,
         alloc: Global,

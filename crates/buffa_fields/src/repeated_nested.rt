@@ -1,6 +1,6 @@
 //! Members that are lists of messages.
 
-ghost use Rattle.std.specs.Prelude.{[], ◌≡◌, IsOk, map};
+ghost use Rattle.std.specs.Prelude.{[], ◌≡◌, IsOk, map, true};
 ghost use Rattle.std.specs.List.{AllByRecursion};
 ghost use Rattle.buffa_bytes.specs.declared.wire_type.WireType.TheVariants.{LengthDelimited};
 ghost use Rattle.buffa_bytes.specs.Gives.{FullOnlyIf};
@@ -8,15 +8,15 @@ ghost use Rattle.buffa_bytes.specs.Number.{IsNumber};
 ghost use Rattle.buffa_wire.specs.Passes.{IsNext, IsSized};
 ghost use Rattle.buffa_bytes.specs.Front.{check_wire};
 ghost use Rattle.buffa_wire.specs.Encoding.{records_encoding};
-ghost use Rattle.buffa_fields_base.specs.Calls.{ChecksWire, TakesIn};
+ghost use Rattle.buffa_fields.specs.Calls.{ChecksWire, TakesIn};
 ghost use Rattle.buffa_fields.specs.KindCalls.{WritesMessageList};
 ghost use Rattle.buffa_fields.specs.Nested.{FitsInside, MessageTakesMemory, message_merged};
 ghost use Rattle.buffa_fields.specs.RepeatedNested.{MessagesTakeMemory, messages_cost, messages_levels, messages_records, messages_slots, messages_taken};
 ghost use Rattle.buffa_fields.specs.RepeatedNestedFacts.{messages_back, messages_stay};
 ghost use Rattle.buffa_fields.specs.Refusals.{RefusesTaggedField, RefusesNew};
 
+use crate::member::Member;
 use crate::nested::{message_len, write_message};
-use buffa_fields_base::member::Member;
 use buffa_wire::{
     Blank, DecodeContext, DecodeError, EncodeError, EncodeSink, Message, MessageSpec, SizeCache,
     Tag, WireType, check_wire_type,
@@ -135,6 +135,7 @@ impl<N: Message> Member for RepeatedNested<N> {
     type Meaning = [<N as Blank>::Meaning; 0];
 
     ghost shape = { record {
+      whole = true;
       meaning = λ p. map N.meaning p.items;
       blank = [];
       takes = messages_taken N.blank_is N.merged;
@@ -162,7 +163,7 @@ impl<N: Message> Member for RepeatedNested<N> {
         write_messages(number, part.as_slice(), cache, sink)
     }
 
-    #[tactic(auto, unfolding(buffa_fields_base::specs::Layout::Took))]
+    #[tactic(auto, unfolding(crate::specs::Layout::Took))]
     fn merge(
         part: &mut Vec<N>,
         alloc: Global,

@@ -13,18 +13,18 @@ use Rattle.buffa_bytes.specs.declared.wire_type.WireType.TheVariants.{LengthDeli
 use Rattle.buffa_bytes.proofs.FieldLemmas.{is_tag}
 use Rattle.buffa_bytes.proofs.ListLemmas.{AllByRecursion-last}
 use Rattle.buffa_bytes.proofs.VarintLemmas.{IsVarint-varint_encoding}
-use Rattle.buffa_map_base.specs.Codec.{Reading, Writing, level}
+use Rattle.buffa_map.specs.Codec.{Reading, Writing, level}
 use Rattle.buffa_wire.specs.BudgetLeft.{BudgetLeft}
 use Rattle.buffa_bytes.specs.Content.Content.{bytes}
 use Rattle.buffa_wire.specs.Passes.{IsSmall}
-use Rattle.buffa_map_base.specs.Message.{meant, message_reading}
-use Rattle.buffa_map_base.specs.MessageField.{IsSmallField}
-use Rattle.buffa_map_base.specs.Scalars.{delimited_writing}
-use Rattle.buffa_map_base.specs.Entry.{IsCodecField, IsEntry, IsEntryField, blanks}
-use Rattle.buffa_map_base.specs.Pairs.{put}
-use Rattle.buffa_map_base.specs.Run.{fold_entries, IsRecord, undeclared, Run, EntryRecord, pair_entry}
-use Rattle.buffa_map_base.specs.Encoding.{AllHold, HasEncoding, entry_encoding, field_encoding, record_encoding}
-use Rattle.buffa_map_base.specs.declared.map_entry.MapEntry.{MapEntry}
+use Rattle.buffa_map.specs.Message.{meant, message_reading}
+use Rattle.buffa_map.specs.MessageField.{IsSmallField}
+use Rattle.buffa_map.specs.Scalars.{delimited_writing}
+use Rattle.buffa_map.specs.Entry.{IsCodecField, IsEntry, IsEntryField, blanks}
+use Rattle.buffa_map.specs.Pairs.{put}
+use Rattle.buffa_map.specs.Run.{fold_entries, IsRecord, undeclared, Run, EntryRecord, pair_entry}
+use Rattle.buffa_map.specs.Encoding.{AllHold, HasEncoding, entry_encoding, field_encoding, record_encoding}
+use Rattle.buffa_map.specs.declared.map_entry.MapEntry.{MapEntry}
 
 -- the record of a pair
 abbrev pub as_record : {K W : Type 0} → Writing K → Writing W → K × W → EntryRecord K W

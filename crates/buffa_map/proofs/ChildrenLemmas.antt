@@ -20,20 +20,20 @@ use Rattle.buffa_wire.specs.Encoding.{records_encoding}
 use Rattle.buffa_wire.specs.Message.{merged_in}
 use Rattle.buffa_wire.specs.Parse.{Fits}
 use Rattle.buffa_wire.specs.Records.{records_of}
-use Rattle.buffa_map_base.proofs.NeedLemmas.{entry_limited}
-use Rattle.buffa_map_base.proofs.SizeLemmas.{length-field_encoding}
-use Rattle.buffa_map_base.specs.Codec.{Writing, level}
-use Rattle.buffa_map_base.specs.Encoding.{field_encoding, field_size}
-use Rattle.buffa_map_base.specs.Entry.{IsEntry}
-use Rattle.buffa_map_base.specs.Merge.{MergesEntry, RefusesEntry, Rules, dropping, state}
-use Rattle.buffa_map_base.specs.Message.{meant, message_reading}
-use Rattle.buffa_map_base.specs.MessageFacts.{meant_no_limit}
-use Rattle.buffa_map_base.specs.MessageField.{field_slots}
-use Rattle.buffa_map_base.specs.Pairs.{SamePairs}
-use Rattle.buffa_map_base.specs.Run.{pair_entry, step}
-use Rattle.buffa_map_base.specs.ScalarFacts.{never_faulty}
-use Rattle.buffa_map_base.specs.Scalars.{delimited_writing, int32_reading, int32_writing}
-use Rattle.buffa_map_base.specs.declared.map_entry.MapEntry.{MapEntry}
+use Rattle.buffa_map.proofs.NeedLemmas.{entry_limited}
+use Rattle.buffa_map.proofs.SizeLemmas.{length-field_encoding}
+use Rattle.buffa_map.specs.Codec.{Writing, level}
+use Rattle.buffa_map.specs.Encoding.{field_encoding, field_size}
+use Rattle.buffa_map.specs.Entry.{IsEntry}
+use Rattle.buffa_map.specs.Merge.{MergesEntry, RefusesEntry, Rules, dropping, state}
+use Rattle.buffa_map.specs.Message.{meant, message_reading}
+use Rattle.buffa_map.specs.MessageFacts.{meant_no_limit}
+use Rattle.buffa_map.specs.MessageField.{field_slots}
+use Rattle.buffa_map.specs.Pairs.{SamePairs}
+use Rattle.buffa_map.specs.Run.{pair_entry, step}
+use Rattle.buffa_map.specs.ScalarFacts.{never_faulty}
+use Rattle.buffa_map.specs.Scalars.{delimited_writing, int32_reading, int32_writing}
+use Rattle.buffa_map.specs.declared.map_entry.MapEntry.{MapEntry}
 use Rattle.buffa_map.proofs.BackLemmas.{IsReadBack, entry_back}
 use Rattle.buffa_map.proofs.InsertLemmas.{is_put}
 use Rattle.buffa_map.specs.Children.{AreNormalChildren, AreShort, ChildMeaning, Children, Family, IsNormalFamily, child, child_entry, child_reading, child_record_encoding, children_in, children_encoding, children_of, children_records, family, family_encoding, family_levels, family_slots, family_height, heights, levels_below, meant_children, meant_children-is, no_child, slots_below-field}

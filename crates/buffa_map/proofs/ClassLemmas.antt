@@ -9,8 +9,8 @@ use Rattle.std.proofs.lemmas.Map.{NonePasses}
 use Rattle.std.proofs.lemmas.Map.Entries.{none_past_head}
 use Rattle.std.proofs.lemmas.List.Elements.{filter-append}
 use Rattle.std.proofs.lemmas.Map.Keys.{IsDistinct-tail}
-use Rattle.buffa_map_base.specs.Pairs.{put, SamePairs, ListsOnce}
-use Rattle.buffa_map_base.proofs.PutLemmas.{key_or, lookup_entry-put}
+use Rattle.buffa_map.specs.Pairs.{put, SamePairs, ListsOnce}
+use Rattle.buffa_map.proofs.PutLemmas.{key_or, lookup_entry-put}
 
 -- ---- a run to two readers
 

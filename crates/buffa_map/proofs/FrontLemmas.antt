@@ -5,11 +5,11 @@ use Rattle.buffa_bytes.specs.declared.error.DecodeError.{DecodeError}
 use Rattle.buffa_bytes.specs.declared.error.DecodeError.TheVariants.{ElementMemoryLimitExceeded, UnknownFieldLimitExceeded}
 use Rattle.buffa_bytes.specs.Field.{TakesDelimited}
 use Rattle.buffa_wire.specs.BudgetLeft.{Lacks, BudgetLeft}
-use Rattle.buffa_map_base.specs.Codec.{Reading}
-use Rattle.buffa_map_base.specs.Entry.{EntryFault, EntryOf, FaultOf, IsEntry, need_of}
-use Rattle.buffa_map_base.specs.declared.map_entry.MapEntry.{MapEntry}
+use Rattle.buffa_map.specs.Codec.{Reading}
+use Rattle.buffa_map.specs.Entry.{EntryFault, EntryOf, FaultOf, IsEntry, need_of}
+use Rattle.buffa_map.specs.declared.map_entry.MapEntry.{MapEntry}
 use Rattle.buffa_wire.proofs.SequenceLemmas.{ok_no_err, ok_same}
-use Rattle.buffa_map_base.proofs.EntryLemmas.{entry_complete, entry_faulty}
+use Rattle.buffa_map.proofs.EntryLemmas.{entry_complete, entry_faulty}
 
 module _ {K V : Type 0} (key : Reading K) (val : Reading V) (d : ℕ) where
   pub same_entry : (e : List ℕ) (s t : MapEntry K V) → IsEntry key val d e s → IsEntry key val d e t → s ≡ t

@@ -6,11 +6,11 @@ use Rattle.std.specs.List.Sorted.{IsStrictlySortedBy}
 use Rattle.std.specs.Map.{keys_of}
 use Rattle.std.specs.Ordering.{eq_by_cmp}
 use Rattle.std.specs.declared.cmp.Ordering.{Ordering}
-use Rattle.buffa_map_base.proofs.PutLemmas.{SamePairs-insert_entry}
-use Rattle.buffa_map_base.proofs.SortedLemmas.{same_sorted, sorted_put}
-use Rattle.buffa_map_base.specs.Pairs.{SamePairs, put}
-use Rattle.buffa_map_base.specs.Run.{step}
-use Rattle.buffa_map_base.specs.declared.map_entry.MapEntry.{MapEntry}
+use Rattle.buffa_map.proofs.PutLemmas.{SamePairs-insert_entry}
+use Rattle.buffa_map.proofs.SortedLemmas.{same_sorted, sorted_put}
+use Rattle.buffa_map.specs.Pairs.{SamePairs, put}
+use Rattle.buffa_map.specs.Run.{step}
+use Rattle.buffa_map.specs.declared.map_entry.MapEntry.{MapEntry}
 
 module _ {K V : Type 0} {order : K → K → Ordering} (total : IsTotalOrder order) (old new : List (K × V)) (s : MapEntry K V)
     (before : IsStrictlySortedBy order (keys_of old)) (after : IsStrictlySortedBy order (keys_of new)) where

@@ -1,4 +1,23 @@
 -- The lemmas that this crate hands out.
+pub mod PutLemmas
+pub mod MeaningLemmas
+pub mod HashedLemmas
+pub mod EntryLemmas
+pub mod NeedLemmas
+pub mod MemoryLemmas
+pub mod TailLemmas
+pub mod MessageLemmas
+pub mod RunLemmas
+pub mod SizeLemmas
+pub mod WalkLemmas
+pub mod OrderedLemmas
+pub mod SortedLemmas
+pub mod FieldsLemmas
+pub mod PartsLemmas
+pub mod MergeLemmas
+pub mod StepLemmas
+pub mod WriteLemmas
+pub mod MessageFieldLemmas
 pub mod FrontLemmas
 pub mod BackLemmas
 pub mod ClassLemmas
@@ -9,3 +28,4 @@ pub mod PinLemmas
 pub mod PinEncodingLemmas
 pub mod InsertLemmas
 pub mod ChildrenLemmas
+pub mod LowLemmas

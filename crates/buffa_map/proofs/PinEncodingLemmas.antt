@@ -10,27 +10,26 @@ use Rattle.buffa_bytes.specs.declared.error.DecodeError.TheVariants as decoding
 use Rattle.buffa_bytes.specs.declared.error.EncodeError.{EncodeError}
 use Rattle.buffa_bytes.specs.declared.error.EncodeError.TheVariants.{GroupRefused, MessageTooLarge, OutOfMemory}
 use Rattle.buffa_bytes.specs.declared.wire_type.WireType.TheVariants.{LengthDelimited}
-use Rattle.buffa_wire.proofs.SequenceLemmas.{ok_no_err}
+use Rattle.buffa_wire.proofs.SequenceLemmas.{ok_no_err, heads, tails}
 use Rattle.buffa_wire.specs.BudgetLeft.{BudgetLeft, nothing}
 use Rattle.buffa_wire.specs.Cache.{Cache}
 use Rattle.buffa_bytes.specs.Content.{Content}
 use Rattle.buffa_wire.specs.Records.{Datum}
 use Rattle.buffa_wire.specs.Encoding.{records_encoding}
 use Rattle.buffa_bytes.specs.Values.{tag_encoding}
-use Rattle.buffa_map_base.specs.Codec.{Writing}
-use Rattle.buffa_map_base.specs.MessageField.{IsFieldSized, IsFieldWritten, IsSmallField}
-use Rattle.buffa_map_base.specs.Merge.{Rules, state}
-use Rattle.buffa_map_base.specs.Pairs.{ListsOnce, SamePairs, put}
+use Rattle.buffa_map.specs.Codec.{Writing}
+use Rattle.buffa_map.specs.MessageField.{IsFieldSized, IsFieldWritten, IsSmallField}
+use Rattle.buffa_map.specs.Merge.{Rules, state}
+use Rattle.buffa_map.specs.Pairs.{ListsOnce, SamePairs, put}
 use Rattle.buffa_map.specs.PinnedEncodings.{MapFieldIsPinned, MessagesArePinned, NoneIsFull, PutIsPinned, RewriteIsPinned}
-use Rattle.buffa_map_base.specs.Rewrite.{RefusesDecoding, RefusesEncoding, RefusesRewrite, RewritesRun}
-use Rattle.buffa_map_base.specs.Run.{EntryRecord, ArePaid, Run, fold_entries, undeclared_records}
-use Rattle.buffa_map_base.specs.Encoding.{HasEncoding, RefusesField, WritesField, entry_encoding, field_encoding, saturated}
+use Rattle.buffa_map.specs.Rewrite.{RefusesDecoding, RefusesEncoding, RefusesRewrite, RewritesRun}
+use Rattle.buffa_map.specs.Run.{EntryRecord, ArePaid, Run, fold_entries, undeclared_records}
+use Rattle.buffa_map.specs.Encoding.{HasEncoding, RefusesField, WritesField, entry_encoding, field_encoding, saturated}
 use Rattle.buffa_map.proofs.PinLemmas.{fault_of, one_over, run_is_pinned, run_one}
-use Rattle.buffa_map_base.proofs.PutLemmas.{key_or, lookup_entry-put}
-use Rattle.buffa_map_base.proofs.RunLemmas.{run_complete, run_faulty}
-use Rattle.buffa_map_base.proofs.SizeLemmas.{length-field_encoding}
-use Rattle.buffa_map_base.proofs.WalkLemmas.{one_size, permuted}
-use Rattle.buffa_wire.proofs.SequenceLemmas.{heads, tails}
+use Rattle.buffa_map.proofs.PutLemmas.{key_or, lookup_entry-put}
+use Rattle.buffa_map.proofs.RunLemmas.{run_complete, run_faulty}
+use Rattle.buffa_map.proofs.SizeLemmas.{length-field_encoding}
+use Rattle.buffa_map.proofs.WalkLemmas.{one_size, permuted}
 
 module _ {K V : Type 0} (key : Writing K) (val : Writing V) where
   abbrev pub IsShort : K × V → Type 0

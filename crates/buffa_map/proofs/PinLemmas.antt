@@ -7,26 +7,25 @@ use Rattle.buffa_bytes.proofs.StepLemmas.{agree_ok}
 use Rattle.buffa_bytes.specs.declared.error.DecodeError.{DecodeError}
 use Rattle.buffa_bytes.specs.declared.error.DecodeError.TheVariants.{OutOfMemory}
 use Rattle.buffa_bytes.specs.declared.wire_type.WireType.TheVariants.{LengthDelimited}
-use Rattle.buffa_wire_laws.proofs.PinLemmas.{budget_is_pinned}
 use Rattle.buffa_wire.proofs.SequenceLemmas.{ok_no_err, ok_same}
-use Rattle.buffa_wire.proofs.SpentLemmas.{one_left, same_left}
+use Rattle.buffa_wire.proofs.SpentLemmas.{not_lacked, one_left, same_left}
 use Rattle.buffa_bytes.specs.Left.{past_no_tag}
 use Rattle.buffa_wire.specs.BudgetLeft.{BudgetLeft, Pays, nothing, plus, unknown_fields}
 use Rattle.buffa_bytes.specs.Content.{Content}
 use Rattle.buffa_bytes.specs.Field.{TakesDelimited}
 use Rattle.buffa_bytes.specs.Front.{delimited_at, tag_at}
-use Rattle.buffa_map_base.specs.Codec.{Reading, RefusesValue, Spends, value_at, value_need}
-use Rattle.buffa_map_base.specs.Entry.{EntryFault, inner_need, need_at, need_of, blanks}
-use Rattle.buffa_map_base.specs.Merge.{HasWholeRecord, RefusesEntry, Rules, State, StopsRun}
-use Rattle.buffa_map_base.specs.Pairs.{SamePairs}
+use Rattle.buffa_map.specs.Codec.{Reading, RefusesValue, Spends, value_at, value_need}
+use Rattle.buffa_map.specs.Entry.{EntryFault, inner_need, need_at, need_of, blanks}
+use Rattle.buffa_map.specs.Merge.{HasWholeRecord, RefusesEntry, Rules, State, StopsRun}
+use Rattle.buffa_map.specs.Pairs.{SamePairs}
 use Rattle.buffa_map.specs.Pinned.{SameState, EntryIsPinned, RunIsPinned, ValueIsPinned}
-use Rattle.buffa_map_base.specs.Run.{EntryRecord, ArePaid, RecordFault, Run, RunFault, added, fold_entries, inner_needs, record_at, record_need, step, undeclared}
-use Rattle.buffa_map_base.proofs.EntryLemmas.{Plain, need_by-nothing, value_faulty}
+use Rattle.buffa_map.specs.Run.{EntryRecord, ArePaid, RecordFault, Run, RunFault, added, fold_entries, inner_needs, record_at, record_need, step, undeclared}
+use Rattle.buffa_map.proofs.EntryLemmas.{Plain, need_by-nothing, value_faulty}
 use Rattle.buffa_map.proofs.FrontLemmas.{paid_no_fault, same_front, same_taken}
-use Rattle.buffa_map_base.proofs.NeedLemmas.{need_free}
+use Rattle.buffa_map.proofs.NeedLemmas.{need_free}
 use Rattle.buffa_bytes.proofs.ResultLemmas.{not_ok}
-use Rattle.buffa_map_base.proofs.RunLemmas.{InFault, in_faulty, run_complete, run_faulty, said_complete, said_faulty, extra_kept}
-use Rattle.buffa_map_base.proofs.TailLemmas.{no_tag, one_number, one_wire, one_after}
+use Rattle.buffa_map.proofs.RunLemmas.{InFault, in_faulty, run_complete, run_faulty, said_complete, said_faulty, extra_kept}
+use Rattle.buffa_map.proofs.TailLemmas.{no_tag, one_number, one_wire, one_after}
 
 err_one : {A : Type 0} {x y : DecodeError} {r : Result A DecodeError} → r ≡ Err x → r ≡ Err y → x ≡ y
 err_one h k = cc
@@ -156,9 +155,9 @@ module _ {K V : Type 0} (r : Rules K V)
         let none = inner_none r.key r.val r.depth r.number r.cost r.extra key_free val_free plain bs in
         let unit = ap (λ (z : BudgetLeft). z.memory) none in
         let taken = ap (λ (z : BudgetLeft). z.unknown) none in
-        same_left a.left b.left (omega (arith, h.most, k.most, h.no_unknown ne, k.no_unknown nf, taken))
-        (one_memory old.left.memory r.cost (inner_need r.key r.val r.depth bs).memory a.left.memory b.left.memory unit h.units k.units (h.charged ne p.0 p.1 t) (k.charged nf p.0 p.1 t))
-    refused_left (Err z) is = h.unspent (not_ok (delimited_at bs) z is) ∙ sym (k.unspent (not_ok (delimited_at bs) z is))
+        same_left a.left b.left (omega (arith, h.spent.most, k.spent.most, h.spent.no_unknown ne, k.spent.no_unknown nf, taken))
+        (one_memory old.left.memory r.cost (inner_need r.key r.val r.depth bs).memory a.left.memory b.left.memory unit h.spent.units k.spent.units (h.spent.charged ne p.0 p.1 t) (k.spent.charged nf p.0 p.1 t))
+    refused_left (Err z) is = h.spent.unspent (not_ok (delimited_at bs) z is) ∙ sym (k.spent.unspent (not_ok (delimited_at bs) z is))
 
     refused_one : (f ≡ g) × SameState r a b
     refused_one =
@@ -174,8 +173,8 @@ module _ {K V : Type 0} (r : Rules K V)
 
   one_rest : (old : State K V) (bs : List ℕ) (a b : State K V) (x y : List ℕ) (f g : DecodeError) → RefusesEntry r old bs a x f → RefusesEntry r old bs b y g → f ≢ OutOfMemory → g ≢ OutOfMemory →
       (z : Result (List ℕ × List ℕ) DecodeError) → delimited_at bs ≡ z → x ≡ y
-  one_rest old bs a b x y f g h k ne nf (Ok p) is = let t = agree_ok (delimited_at bs) p (delimited_sound bs) is in h.past ne p.0 p.1 t ∙ sym (k.past nf p.0 p.1 t)
-  one_rest old bs a b x y f g h k ne nf (Err z) is = h.past_no_delimited z is ∙ sym (k.past_no_delimited z is)
+  one_rest old bs a b x y f g h k ne nf (Ok p) is = let t = agree_ok (delimited_at bs) p (delimited_sound bs) is in h.unread.past ne p.0 p.1 t ∙ sym (k.unread.past nf p.0 p.1 t)
+  one_rest old bs a b x y f g h k ne nf (Err z) is = h.unread.past_no_delimited z is ∙ sym (k.unread.past_no_delimited z is)
 
   pub entry_is_pinned : EntryIsPinned r
   entry_is_pinned = record {
@@ -225,20 +224,20 @@ module _ {K V : Type 0} (r : Rules K V)
     one_unread (inl bad) =
         let is = tag_faulty h.rest f bad in
         let same = stopped_same.1 in
-        h.past_no_tag f is ∙ ap past_no_tag same ∙ sym (k.past_no_tag f (ap tag_at (sym same) ∙ is))
+        h.unread.past_no_tag f is ∙ ap past_no_tag same ∙ sym (k.unread.past_no_tag f (ap tag_at (sym same) ∙ is))
     one_unread (inr (inl (n, w, m, t, other, which))) =
         let is = tag_read h.rest m n w t in
-        h.past_tag n w m is (inl other) ∙ sym (k.past_tag n w m (ap tag_at (sym stopped_same.1) ∙ is) (inl other))
+        h.unread.past_tag n w m is (inl other) ∙ sym (k.unread.past_tag n w m (ap tag_at (sym stopped_same.1) ∙ is) (inl other))
     one_unread (inr (inr (inl (w, m, t, other, which)))) =
         let is = tag_read h.rest m r.number w t in
-        h.past_tag r.number w m is (inr other) ∙ sym (k.past_tag r.number w m (ap tag_at (sym stopped_same.1) ∙ is) (inr other))
+        h.unread.past_tag r.number w m is (inr other) ∙ sym (k.unread.past_tag r.number w m (ap tag_at (sym stopped_same.1) ∙ is) (inr other))
     one_unread (inr (inr (inr (m, t, inl bad)))) =
         let is = tag_read h.rest m r.number LengthDelimited t in
         let short = delimited_faulty m f bad in
-        h.past_no_delimited m f is short ∙ sym (k.past_no_delimited m f (ap tag_at (sym stopped_same.1) ∙ is) short)
+        h.unread.past_no_delimited m f is short ∙ sym (k.unread.past_no_delimited m f (ap tag_at (sym stopped_same.1) ∙ is) short)
     one_unread (inr (inr (inr (m, t, inr (u, e, after, v, split, bad))))) =
         let is = tag_read h.rest m r.number LengthDelimited t in
-        h.past ne m e after is (u, v, split) ∙ sym (k.past nf m e after (ap tag_at (sym stopped_same.1) ∙ is) (u, v, split))
+        h.unread.past ne m e after is (u, v, split) ∙ sym (k.unread.past nf m e after (ap tag_at (sym stopped_same.1) ∙ is) (u, v, split))
 
     module _ (plain : Plain r.key r.val r.depth) where
       stopped_over : h.over ≡ k.over
@@ -250,14 +249,14 @@ module _ {K V : Type 0} (r : Rules K V)
           let nil = record_none r.key r.val r.depth r.number r.cost r.extra key_free val_free plain k.rest in
           let rest = stopped_same.1 in
           elim (record_there r.key r.val r.depth r.number r.cost r.extra key_free val_free h.over h.rest f (h.fault ne)) [
-            | inl away ↦ h.unspent away ∙ stopped_over ∙ sym (k.unspent (λ z. away (subst (HasWholeRecord r.number) (sym rest) z)))
+            | inl away ↦ h.spent.unspent away ∙ stopped_over ∙ sym (k.spent.unspent (λ z. away (subst (HasWholeRecord r.number) (sym rest) z)))
             | inr (mid, e, after, tag, t) ↦
                 let one = ap (λ (z : BudgetLeft). z.memory) stopped_over in
                 let two = ap (λ (z : BudgetLeft). z.unknown) stopped_over in
-                let hc = h.charged ne mid e after tag t in
-                let kc = k.charged nf mid e after (subst (λ z. tag_at z ≡ Ok (r.number, LengthDelimited, mid)) rest tag) t in
-                same_left a.left b.left (omega (arith, h.most, k.most, h.no_unknown ne, k.no_unknown nf, two, ap (λ (z : BudgetLeft). z.unknown) none, ap (λ (z : BudgetLeft). z.unknown) nil))
-                (spent_one h.over.memory k.over.memory r.cost (record_need r.key r.val r.depth h.rest).memory (record_need r.key r.val r.depth k.rest).memory a.left.memory b.left.memory one (ap (λ (z : BudgetLeft). z.memory) none) (ap (λ (z : BudgetLeft). z.memory) nil) h.units k.units hc kc)
+                let hc = h.spent.charged ne mid e after tag t in
+                let kc = k.spent.charged nf mid e after (subst (λ z. tag_at z ≡ Ok (r.number, LengthDelimited, mid)) rest tag) t in
+                same_left a.left b.left (omega (arith, h.spent.most, k.spent.most, h.spent.no_unknown ne, k.spent.no_unknown nf, two, ap (λ (z : BudgetLeft). z.unknown) none, ap (λ (z : BudgetLeft). z.unknown) nil))
+                (spent_one h.over.memory k.over.memory r.cost (record_need r.key r.val r.depth h.rest).memory (record_need r.key r.val r.depth k.rest).memory a.left.memory b.left.memory one (ap (λ (z : BudgetLeft). z.memory) none) (ap (λ (z : BudgetLeft). z.memory) nil) h.spent.units k.spent.units hc kc)
           ]
 
       stopped_one : (f ≡ g) × SameState r a b
@@ -308,7 +307,7 @@ paid_once true left need x y h k = same_need left need need x y refl h k
 not_refused : {V : Type 0} (codec : Reading V) (d : ℕ) (old : V) (bs : List ℕ) (left over : BudgetLeft) (x : (V × Bool) × List ℕ) (f : DecodeError) (b : Bool) →
     value_at codec d old bs ≡ Ok x → Spends {T = Unit {0}} b (Ok tt) left (value_need codec d bs) over → RefusesValue b codec d old bs left f → ⊥
 not_refused codec d old bs left over x f false h paid k = ok_no_err (sym h ∙ k)
-not_refused codec d old bs left over x f true h paid (inl few) = (budget_is_pinned left (value_need codec d bs)).lacked over paid few
+not_refused codec d old bs left over x f true h paid (inl few) = not_lacked left (value_need codec d bs) over paid few
 not_refused codec d old bs left over x f true h paid (inr bad) = ok_no_err (sym h ∙ (value_faulty codec d old bs f bad).1)
 
 pub value_is_pinned : {V : Type 0} (codec : Reading V) → ValueIsPinned codec

@@ -2,8 +2,8 @@
 use Rattle.std.proofs.Common.{arith, ◌≡◌, ◌+◌, ◌≤◌, ◌⊎◌, inl, inr, ℕ, List, ap}
 use Rattle.buffa_bytes.specs.declared.error.DecodeError.{DecodeError}
 use Rattle.buffa_wire.specs.BudgetLeft.{BudgetLeft, nothing, units}
-use Rattle.buffa_map_base.specs.Entry.{EntryFault, inner_need, need_of}
-use Rattle.buffa_map_base.specs.Merge.{RefusesEntry, Rules, State}
+use Rattle.buffa_map.specs.Entry.{EntryFault, inner_need, need_of}
+use Rattle.buffa_map.specs.Merge.{RefusesEntry, Rules, State}
 use Rattle.buffa_map.specs.Plain.{MergesExactly, PlainFault, SpendsExactly}
 
 exact : (a b cost n : ℕ) → (b ≡ a) ⊎ ((b + cost ≤ a) × (a ≤ b + (cost + n))) → n ≡ 0 → b + cost ≤ a → b + cost ≡ a
@@ -33,9 +33,9 @@ module _ {K V : Type 0} (r : Rules K V) (need : (e : List ℕ) → need_of r.key
       let extra = ap (λ (z : BudgetLeft). z.unknown) inner in
       record {
         which = λ ne. fault_of_plain old.left f (h.fault ne);
-        units = either old.left.memory new.left.memory r.cost _ h.units unit;
-        charged = λ ne e rest t room. exact old.left.memory new.left.memory r.cost _ h.units unit (h.charged ne e rest t room);
-        most = h.most;
-        least = omega (arith, h.least, extra);
-        no_unknown = λ ne. omega (arith, h.most, h.no_unknown ne, extra);
+        units = either old.left.memory new.left.memory r.cost _ h.spent.units unit;
+        charged = λ ne e rest t room. exact old.left.memory new.left.memory r.cost _ h.spent.units unit (h.spent.charged ne e rest t room);
+        most = h.spent.most;
+        least = omega (arith, h.spent.least, extra);
+        no_unknown = λ ne. omega (arith, h.spent.most, h.spent.no_unknown ne, extra);
       }

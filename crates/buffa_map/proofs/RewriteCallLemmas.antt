@@ -7,13 +7,13 @@ use Rattle.buffa_bytes.specs.declared.error.EncodeError.TheVariants.{OutOfMemory
 use Rattle.buffa_wire.specs.BudgetLeft.{BudgetLeft}
 use Rattle.buffa_wire.specs.Records.{Datum, bytes}
 use Rattle.buffa_wire.specs.Encoding.{records_encoding}
-use Rattle.buffa_map_base.specs.Codec.{Reading, Writing}
-use Rattle.buffa_map_base.specs.Merge.{ReadsRun, Rules, State, StopsRun, keeping, state}
-use Rattle.buffa_map_base.specs.Pairs.{InOrder}
-use Rattle.buffa_map_base.specs.Rewrite.{RefusesEncoding, RefusesRewrite, RewritesRun, WritesWalk}
-use Rattle.buffa_map_base.specs.Run.{added, undeclared_records}
-use Rattle.buffa_map_base.specs.Encoding.{field_encoding}
-use Rattle.buffa_map_base.proofs.RunLemmas.{added_records}
+use Rattle.buffa_map.specs.Codec.{Reading, Writing}
+use Rattle.buffa_map.specs.Merge.{ReadsRun, Rules, State, StopsRun, keeping, state}
+use Rattle.buffa_map.specs.Pairs.{InOrder}
+use Rattle.buffa_map.specs.Rewrite.{RefusesEncoding, RefusesRewrite, RewritesRun, WritesWalk}
+use Rattle.buffa_map.specs.Run.{added, undeclared_records}
+use Rattle.buffa_map.specs.Encoding.{field_encoding}
+use Rattle.buffa_map.proofs.RunLemmas.{added_records}
 
 -- a run that is read into an emptied map
 module _ {K V : Type 0} (r : Rules K V) (cleared : List (K × V)) (records : List (ℕ × Datum)) (left : BudgetLeft) (bs : List ℕ) (new : State K V) where

@@ -17,22 +17,22 @@ use Rattle.buffa_wire.specs.BudgetLeft.{BudgetLeft, nothing, plus}
 use Rattle.buffa_bytes.specs.declared.wire_type.WireType.TheVariants.{LengthDelimited}
 use Rattle.buffa_bytes.proofs.VarintLemmas.{IsVarint-varint_encoding}
 use Rattle.buffa_wire.specs.Sequence.{ParsesEach}
-use Rattle.buffa_map_base.specs.Codec.{Reading, Writing}
-use Rattle.buffa_map_base.specs.Entry.{IsEntry, IsEntryField, blanks}
-use Rattle.buffa_map_base.specs.EnumFacts.{closed_reads_back}
-use Rattle.buffa_map_base.specs.Enums.{ClosedFits, closed_reading, closed_writing}
-use Rattle.buffa_map_base.specs.Pairs.{ListsOnce, SamePairs, put}
-use Rattle.buffa_map_base.specs.Rewrite.{IsOrderedClass, IsRewrite, KeepsMeaning, Ordered, SeenByTwo, first, is_new, last, seen}
-use Rattle.buffa_map_base.specs.Run.{fold_entries, undeclared, Run, EntryRecord, inner_needs, undeclared_records}
-use Rattle.buffa_map_base.specs.Encoding.{AllHold, field_encoding}
-use Rattle.buffa_map_base.specs.declared.map_entry.MapEntry.{MapEntry}
+use Rattle.buffa_map.specs.Codec.{Reading, Writing}
+use Rattle.buffa_map.specs.Entry.{IsEntry, IsEntryField, blanks}
+use Rattle.buffa_map.specs.EnumFacts.{closed_reads_back}
+use Rattle.buffa_map.specs.Enums.{ClosedFits, closed_reading, closed_writing}
+use Rattle.buffa_map.specs.Pairs.{ListsOnce, SamePairs, put}
+use Rattle.buffa_map.specs.Rewrite.{IsOrderedClass, IsRewrite, KeepsMeaning, Ordered, SeenByTwo, first, is_new, last, seen}
+use Rattle.buffa_map.specs.Run.{fold_entries, undeclared, Run, EntryRecord, inner_needs, undeclared_records}
+use Rattle.buffa_map.specs.Encoding.{AllHold, field_encoding}
+use Rattle.buffa_map.specs.declared.map_entry.MapEntry.{MapEntry}
 use Rattle.buffa_wire.proofs.SequenceLemmas.{ok_same}
 use Rattle.buffa_map.proofs.BackLemmas.{as_record, plain_back, run_back}
 use Rattle.buffa_bytes.proofs.FieldLemmas.{is_tag}
 use Rattle.buffa_map.proofs.ClassLemmas.{AreNew, IsLater, IsOrderedKinds, Kind, exact, first_key, older, newer, kept_meaning, last_kind, later, nothing_known, put_all}
 use Rattle.buffa_map.proofs.ClassLemmas.Kind.{Both, Later, Neither}
-use Rattle.buffa_map_base.proofs.PutLemmas.{lookup_entry-none}
-use Rattle.buffa_map_base.proofs.RunLemmas.{undeclared-append, Run-join, run_complete}
+use Rattle.buffa_map.proofs.PutLemmas.{lookup_entry-none}
+use Rattle.buffa_map.proofs.RunLemmas.{undeclared-append, Run-join, run_complete}
 
 -- ---- the declared pairs of a run
 abbrev pub declared : {K V : Type 0} → List (EntryRecord K V) → List (K × V)

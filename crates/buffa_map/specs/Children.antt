@@ -11,12 +11,12 @@ use Rattle.buffa_wire.specs.BudgetLeft.{BudgetLeft}
 use Rattle.buffa_wire.specs.Code.{stored_head, stored_tail}
 use Rattle.buffa_wire.specs.Passes.{cap}
 use Rattle.buffa_wire.specs.Records.{Datum, bytes}
-use Rattle.buffa_map_base.specs.Codec.{Reading}
-use Rattle.buffa_map_base.specs.Encoding.{entry_encoding, field_encoding, record_encoding}
-use Rattle.buffa_map_base.specs.Message.{message_reading}
-use Rattle.buffa_map_base.specs.MessageField.{field_slots}
-use Rattle.buffa_map_base.specs.Pairs.{means}
-use Rattle.buffa_map_base.specs.Scalars.{delimited_writing, int32_writing}
+use Rattle.buffa_map.specs.Codec.{Reading}
+use Rattle.buffa_map.specs.Encoding.{entry_encoding, field_encoding, record_encoding}
+use Rattle.buffa_map.specs.Message.{message_reading}
+use Rattle.buffa_map.specs.MessageField.{field_slots}
+use Rattle.buffa_map.specs.Pairs.{means}
+use Rattle.buffa_map.specs.Scalars.{delimited_writing, int32_writing}
 use base.Stored.{Gv, gnil, gcons}
 
 mutual

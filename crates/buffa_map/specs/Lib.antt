@@ -1,9 +1,25 @@
 -- The words that this crate hands out.
+pub mod Pairs
+pub mod Codec
+pub mod Scalars
+pub mod ScalarFacts
+pub mod Entry
+pub mod Fields
+pub mod Run
+pub mod Merge
+pub mod Parts
+pub mod Lent
+pub mod Encoding
+pub mod Message
+pub mod MessageFacts
+pub mod MessageField
+pub mod Enums
+pub mod Rewrite
+pub mod Calls
+pub mod EnumFacts
 pub mod Plain
 pub mod Laws
 pub mod Pinned
 pub mod PinnedEncodings
-pub mod Rewrite
-pub mod Calls
 pub mod Children
 pub mod ChildrenFacts

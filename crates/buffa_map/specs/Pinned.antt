@@ -3,11 +3,11 @@ use Rattle.std.specs.Prelude.{◌≡◌, ◌≢◌, ℕ, Bool, false, true, List
 use Rattle.buffa_bytes.specs.declared.error.DecodeError.{DecodeError}
 use Rattle.buffa_bytes.specs.declared.error.DecodeError.TheVariants.{OutOfMemory}
 use Rattle.buffa_wire.specs.BudgetLeft.{BudgetLeft}
-use Rattle.buffa_map_base.specs.Codec.{Reading, RefusesValue, Spends, value_at, value_need}
+use Rattle.buffa_map.specs.Codec.{Reading, RefusesValue, Spends, value_at, value_need}
 use Rattle.buffa_map.specs.Laws.{ArePlain}
 use Rattle.buffa_wire.specs.Records.{Datum}
-use Rattle.buffa_map_base.specs.Merge.{MergesEntry, ReadsRun, RefusesEntry, Rules, State, StopsRun, rules}
-use Rattle.buffa_map_base.specs.Pairs.{SamePairs}
+use Rattle.buffa_map.specs.Merge.{MergesEntry, ReadsRun, RefusesEntry, Rules, State, StopsRun, rules}
+use Rattle.buffa_map.specs.Pairs.{SamePairs}
 
 -- two states are one: the maps find the same pairs
 pub record SameState {K V : Type 0} (r : Rules K V) (a b : State K V) : Type 0 where

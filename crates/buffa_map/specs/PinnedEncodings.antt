@@ -7,13 +7,13 @@ use Rattle.buffa_bytes.specs.declared.error.EncodeError.{EncodeError}
 use Rattle.buffa_bytes.specs.declared.error.EncodeError.TheVariants.{OutOfMemory}
 use Rattle.buffa_wire.specs.BudgetLeft.{BudgetLeft}
 use Rattle.buffa_wire.specs.Cache.{Cache}
-use Rattle.buffa_map_base.specs.Codec.{Reading, Writing}
+use Rattle.buffa_map.specs.Codec.{Reading, Writing}
 use Rattle.buffa_map.specs.Laws.{ArePlain}
-use Rattle.buffa_map_base.specs.MessageField.{IsFieldSized, IsFieldWritten, IsSmallField}
-use Rattle.buffa_map_base.specs.Merge.{Rules, keeping}
-use Rattle.buffa_map_base.specs.Pairs.{InOrder, ListsOnce, SamePairs, put}
-use Rattle.buffa_map_base.specs.Rewrite.{RefusesDecoding, RefusesEncoding, RewritesRun}
-use Rattle.buffa_map_base.specs.Encoding.{WritesField, field_size, saturated}
+use Rattle.buffa_map.specs.MessageField.{IsFieldSized, IsFieldWritten, IsSmallField}
+use Rattle.buffa_map.specs.Merge.{Rules, keeping}
+use Rattle.buffa_map.specs.Pairs.{InOrder, ListsOnce, SamePairs, put}
+use Rattle.buffa_map.specs.Rewrite.{RefusesDecoding, RefusesEncoding, RewritesRun}
+use Rattle.buffa_map.specs.Encoding.{WritesField, field_size, saturated}
 
 -- two answers, of which none is told as out of memory
 abbrev pub NoneIsFull : {T : Type 0} → Result T EncodeError → Result T EncodeError → Type 0

@@ -5,11 +5,11 @@ use Rattle.buffa_wire.specs.BudgetLeft.{BudgetLeft}
 use Rattle.buffa_bytes.specs.Varint.{IsVarint}
 use Rattle.buffa_bytes.specs.declared.error.DecodeError.{DecodeError}
 use Rattle.buffa_bytes.specs.declared.error.DecodeError.TheVariants.{ElementMemoryLimitExceeded, OutOfMemory, UnknownFieldLimitExceeded}
-use Rattle.buffa_map_base.specs.Codec.{Reading}
-use Rattle.buffa_map_base.specs.Entry.{FaultOf, IsEntry}
+use Rattle.buffa_map.specs.Codec.{Reading}
+use Rattle.buffa_map.specs.Entry.{FaultOf, IsEntry}
 use Rattle.buffa_wire.specs.Records.{Datum}
-use Rattle.buffa_map_base.specs.Merge.{MergesEntry, RefusesEntry, Rules, State, rules}
-use Rattle.buffa_map_base.specs.declared.map_entry.MapEntry.{MapEntry}
+use Rattle.buffa_map.specs.Merge.{MergesEntry, RefusesEntry, Rules, State, rules}
+use Rattle.buffa_map.specs.declared.map_entry.MapEntry.{MapEntry}
 
 -- f is the first fault: of the length; of the units; of the fields; of the unknown fields left
 abbrev pub PlainFault : {K V : Type 0} → Reading K → Reading V → ℕ → ℕ → ℕ → BudgetLeft → List ℕ → DecodeError → Type 0

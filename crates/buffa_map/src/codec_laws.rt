@@ -1,14 +1,14 @@
 //! Which codec each public name is: of scalars, strings, bytes, enums and messages.
 
 ghost use Rattle.std.specs.Prelude.{◌≡◌, ◌↔◌, ℕ, ℤ, List, [], None, Some, false, true};
-ghost use Rattle.buffa_map_base.specs.Scalars.{IsLengthy, IsText};
+ghost use Rattle.buffa_map.specs.Scalars.{IsLengthy, IsText};
 ghost use Rattle.buffa_wire.specs.Enums.{numbers};
-ghost use Rattle.buffa_map_base.specs.Codec.{Coded, Codes, Every};
-ghost use Rattle.buffa_map_base.specs.Enums.{ClosedFits, OpenFits, OpenNormal, closed_reading, closed_writing};
-ghost use Rattle.buffa_map_base.specs.Enums.{open_reading, open_writing};
-ghost use Rattle.buffa_map_base.specs.Message.{message_reading};
-ghost use Rattle.buffa_map_base.specs.Scalars.{bytes_reading, delimited_writing, number_reading, number_writing};
-ghost use Rattle.buffa_map_base.specs.Scalars.{eight_writing, four_writing, string_reading, varint_writing};
+ghost use Rattle.buffa_map.specs.Codec.{Coded, Codes, Every};
+ghost use Rattle.buffa_map.specs.Enums.{ClosedFits, OpenFits, OpenNormal, closed_reading, closed_writing};
+ghost use Rattle.buffa_map.specs.Enums.{open_reading, open_writing};
+ghost use Rattle.buffa_map.specs.Message.{message_reading};
+ghost use Rattle.buffa_map.specs.Scalars.{bytes_reading, delimited_writing, number_reading, number_writing};
+ghost use Rattle.buffa_map.specs.Scalars.{eight_writing, four_writing, string_reading, varint_writing};
 ghost use Rattle.std.specs.Prelude.{pos};
 ghost use Rattle.std.specs.Int.{cast_unsigned, from_bool, w32, w64};
 ghost use Rattle.buffa_bytes.specs.Scalars.{bool_of, int64_of, sfixed32_of, sfixed64_of, sint32_of, sint64_of};

@@ -4,13 +4,12 @@ ghost use Rattle.std.specs.Prelude.{◌≡◌, ◌↔◌, List, Some, true};
 ghost use Rattle.buffa_bytes.specs.Pinned.{IsCopied, SameIsOne};
 ghost use Rattle.buffa_map.specs.Rewrite.{rewrite_error_text};
 ghost use Rattle.buffa_map.specs.declared.rewrite.RewriteError.{RewriteError};
-ghost use Rattle.buffa_map_base.specs.Pairs.{means};
+ghost use Rattle.buffa_map.specs.Pairs.{means};
 
 pub use crate::codec_laws::{
     codecs_are_these, coded_is_this, scalars_are_these, scalars_cost_so_much,
     strings_and_bytes_are_these,
 };
-// By the public names, so that the laws say what a user's names stand for.
 use crate::map_codec::{Map, MapStorage, MapValueDecodeStatus, RewriteError, StableOrder};
 pub use crate::map_laws::{
     entries_are_read, limits_are_told_where_needs_are_not_left, newer_enums_take_it_too,
@@ -22,8 +21,7 @@ pub use crate::pin_laws::{
     entries_are_pinned, map_fields_are_pinned, message_fields_are_pinned, puts_are_pinned,
     rewrites_are_pinned, runs_are_pinned, values_are_pinned,
 };
-pub use buffa_map_base::field_laws::fields_are_these;
-pub use buffa_map_base::storage_laws::{
+pub use crate::storage_laws::{
     hashed_maps_are_these, index_maps_are_these, ordered_maps_are_these, ordered_maps_have_one_walk,
 };
 use buffa_wire::{Blank, MapKey};

@@ -2,16 +2,38 @@
 //!
 //! A map field is a run of records of one number, each of them a length and an entry, a small message of a
 //! key field and a value field. [`map_codec`] has the public surface, and [`laws`] what the definitions say
-//! together. What stands behind them is in crates of its own: `buffa_map_base` (what a map field means, storages, the
-//! traits of codecs), `buffa_map_codecs` (codecs), `buffa_map_read` (records, entries and their fields are read into a
-//! storage) and `buffa_map_write` (a storage is sized and written).
+//! together.
+//!
+//! Read: records from the buffer (`run`), of each its entry (`entry`), of that its fields (`fields`), by the codecs of
+//! key and value (`codec`, `scalar`, `scalars`, `message`); and the pair is put into a storage (`storage`). Written:
+//! from a walk of a storage by way of a size (`size`) into an encoding (`write`).
 #![tactic(auto)]
 
+mod codec;
 mod codec_laws;
+mod entry;
+mod fields;
+mod hashed;
+mod indexed;
+mod keep;
 pub mod laws;
 pub mod map_codec;
+pub mod map_entry;
 mod map_laws;
+mod map_write;
+mod merge_value;
+mod message;
+mod message_merge;
+mod message_size;
+mod message_write;
+mod ordered;
 mod pin_laws;
 mod rewrite;
-
-pub use buffa_map_base::map_entry;
+mod run;
+mod scalar;
+mod scalars;
+mod size;
+mod sized;
+mod storage;
+mod storage_laws;
+mod write;

@@ -8,21 +8,21 @@
 //! merge_entry::<Str, Int32, _, _>(alloc, &mut map, &mut rest, ctx)?;
 //! ```
 
+pub use crate::codec::{MapCodec, MapValueDecode, MapValueDecodeStatus};
+pub use crate::entry::{merge_entry, merge_entry_with_unknowns};
+pub use crate::indexed::Map;
+pub use crate::map_write::MapWrite;
+pub use crate::message::Msg;
+pub use crate::message_merge::merge_message_entry_by;
+pub use crate::message_size::{message_field_len, message_field_len_by};
+pub use crate::message_write::{write_message_field, write_message_field_by};
 pub use crate::rewrite::{RewriteError, rewrite_map_field};
-pub use buffa_map_base::codec::{MapCodec, MapValueDecode, MapValueDecodeStatus};
-pub use buffa_map_base::indexed::Map;
-pub use buffa_map_base::storage::{MapStorage, MapWalk, StableOrder, StableWalk};
-pub use buffa_map_codecs::message::Msg;
-pub use buffa_map_codecs::scalars::{
+pub use crate::run::read_map_field;
+pub use crate::scalars::{
     Bool, BytesBuf, BytesVec, ClosedEnum, Fixed32, Fixed64, Int32, Int64, OpenEnum, ProtoBytesMap,
     ProtoStringMap, Sfixed32, Sfixed64, Sint32, Sint64, Str, Uint32, Uint64,
 };
-pub use buffa_map_read::entry::{merge_entry, merge_entry_with_unknowns};
-pub use buffa_map_read::message_merge::merge_message_entry_by;
-pub use buffa_map_read::run::read_map_field;
-pub use buffa_map_write::map_write::MapWrite;
-pub use buffa_map_write::message_size::{message_field_len, message_field_len_by};
-pub use buffa_map_write::message_write::{write_message_field, write_message_field_by};
-pub use buffa_map_write::size::field_len;
-pub use buffa_map_write::sized::size_and_write_field;
-pub use buffa_map_write::write::write_field;
+pub use crate::size::field_len;
+pub use crate::sized::size_and_write_field;
+pub use crate::storage::{MapStorage, MapWalk, StableOrder, StableWalk};
+pub use crate::write::write_field;

@@ -3,14 +3,14 @@
 
 ghost use Rattle.buffa_wire.specs.Parse.{Fits};
 ghost use Rattle.buffa_wire.specs.Records.{records_of};
-ghost use Rattle.buffa_map_base.specs.Message.{message_reading};
+ghost use Rattle.buffa_map.specs.Message.{message_reading};
 ghost use Rattle.buffa_map.specs.Laws.{EntriesAreRead, LimitsAreTrue, NeedsUnits, OneReading, RewriteMeans};
 ghost use Rattle.buffa_map.specs.Laws.{RunsAreRead, RunsJoin, SizeIsLength, ValuesAreRead, WalksAgree, WrittenIsRead};
 ghost use Rattle.buffa_map.specs.Laws.{MessagesAreRead, NewerTakes};
 ghost use Rattle.buffa_map.specs.Plain.{EntriesAreExact};
 
-use buffa_map_base::codec::{MapCodec, MapValueDecode};
-use buffa_map_base::storage::MapStorage;
+use crate::codec::{MapCodec, MapValueDecode};
+use crate::storage::MapStorage;
 use buffa_wire::MessageSpec;
 
 /// A payload is read exactly where its wire type has one that the codec takes, and refused exactly where not.

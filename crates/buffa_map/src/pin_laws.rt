@@ -4,8 +4,8 @@
 ghost use Rattle.buffa_map.specs.Pinned.{EntriesArePinned, RunsArePinned, ValueIsPinned};
 ghost use Rattle.buffa_map.specs.PinnedEncodings.{MapFieldIsPinned, MessagesArePinned, PutIsPinned, RewritesArePinned};
 
-use buffa_map_base::codec::{MapCodec, MapValueDecode};
-use buffa_map_base::storage::MapStorage;
+use crate::codec::{MapCodec, MapValueDecode};
+use crate::storage::MapStorage;
 use buffa_wire::MessageSpec;
 
 /// A payload is merged in one way only. Open is which fault a malformed message has, and where memory runs out.

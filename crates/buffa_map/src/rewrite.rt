@@ -1,15 +1,15 @@
 //! The rewrite of a map field by a reader that doesn't know all its values.
 
-ghost use Rattle.std.specs.Prelude.{◌≡◌, IfErr, OnOk};
+ghost use Rattle.std.specs.Prelude.{◌≡◌, ◌+◌, [], IfErr, OnOk};
 ghost use Rattle.buffa_bytes.specs.Number.{IsNumber};
-ghost use Rattle.buffa_map.specs.Calls.{ReadsAnew, RefusesRunRewriteIn, RewritesRunIn, StopsAnew, WritesWalkIn};
-ghost use Rattle.buffa_map.specs.Rewrite.{rewrite_error_text};
+ghost use Rattle.buffa_wire.specs.BudgetLeft.{budget_left};
+ghost use Rattle.buffa_map.specs.Merge.{ReadsRun, StopsRun, keeping, state};
+ghost use Rattle.buffa_map.specs.Rewrite.{MatchRefusal, RefusesDecoding, RefusesEncoding, RewritesRun, WritesWalk, rewrite_error_text};
 
-use buffa_map_base::codec::MapCodec;
-use buffa_map_base::field::{Field, Rewrites};
-use buffa_map_base::storage::MapStorage;
-use buffa_map_read::run::read_run_by;
-use buffa_map_write::map_write::MapWrite;
+use crate::codec::MapCodec;
+use crate::map_write::MapWrite;
+use crate::run::read_run_by;
+use crate::storage::MapStorage;
 use buffa_wire::{Buf, DecodeContext, DecodeError, EncodeError, EncodeSink, UnknownFields};
 use std::alloc::Global;
 use std::error::Error;
@@ -54,10 +54,14 @@ fn read_anew<KC: MapCodec, VC: MapCodec, C: MapStorage<Key = KC::Value, Value = 
     ctx: DecodeContext<'_>,
     aside: &mut UnknownFields,
 ) -> Result<(), DecodeError>
-    ensures ok { OnOk result (ReadsAnew ⟦<Field<KC, VC, C> as Rewrites>⟧.rewriter number map.new
-        B.unread buf.old buf.new ctx.entry ctx.exit aside.old aside.new) }
-    ensures err { IfErr result (StopsAnew ⟦<Field<KC, VC, C> as Rewrites>⟧.rewriter number map.new
-        B.unread buf.old buf.new ctx.entry ctx.exit aside.old aside.new) }
+    ensures ok { OnOk result (ReadsRun (keeping KC.reading VC.reading C.equal C.keeps_order ctx.entry.depth number
+        (KC.COST + VC.COST))
+        (state [] aside.old.records ctx.entry.budget.now) (B.unread buf.old)
+        (state (C.pairs map.new) aside.new.records (budget_left ctx.exit)) (B.unread buf.new)) }
+    ensures err { IfErr result (StopsRun (keeping KC.reading VC.reading C.equal C.keeps_order ctx.entry.depth number
+        (KC.COST + VC.COST))
+        (state [] aside.old.records ctx.entry.budget.now) (B.unread buf.old)
+        (state (C.pairs map.new) aside.new.records (budget_left ctx.exit)) (B.unread buf.new)) }
     ensures kept { B.beyond buf.new ≡ B.beyond buf.old }
 {
     map.storage_clear();
@@ -72,8 +76,8 @@ fn write_with<
     S: EncodeSink,
 >(map: &C, number: u32, aside: &UnknownFields, sink: &mut S) -> Result<(), EncodeError>
     requires { IsNumber number }
-    ensures { WritesWalkIn C.equal C.walks C.pairs map.now KC.writing VC.writing KC.fits VC.fits number
-        aside.now.records S.written S.room sink.old sink.new result }
+    ensures { WritesWalk C.equal (C.walks map.now) KC.writing VC.writing KC.fits VC.fits number (C.pairs map.now)
+        aside.now.records (S.written sink.old) (S.room sink.old) result (S.written sink.new) (S.room sink.new) }
 {
     map.storage_write::<KC, VC, S>(number, sink)?;
     aside.write_to(sink)
@@ -112,10 +116,20 @@ pub fn rewrite_map_field<
     sink: &mut S,
 ) -> Result<(), RewriteError>
     requires { IsNumber number }
-    ensures ok { OnOk result (RewritesRunIn ⟦<Field<KC, VC, C> as Rewrites>⟧.rewriter number map.new
-        B.unread buf.old buf.new ctx.entry ctx.exit S.written S.room sink.old sink.new) }
-    ensures refused { IfErr result (RefusesRunRewriteIn ⟦<Field<KC, VC, C> as Rewrites>⟧.rewriter number map.new
-        B.unread buf.old buf.new ctx.entry ctx.exit S.written S.room sink.old sink.new) }
+    ensures ok { OnOk result (RewritesRun (keeping KC.reading VC.reading C.equal C.keeps_order ctx.entry.depth number
+        (KC.COST + VC.COST))
+        KC.writing VC.writing KC.fits VC.fits (C.walks map.new) ctx.entry.budget.now (B.unread buf.old) (C.pairs map.new)
+        (budget_left ctx.exit) (B.unread buf.new) (S.written sink.old) (S.written sink.new) (S.room sink.old)
+        (S.room sink.new)) }
+    ensures refused { IfErr result (λ e. MatchRefusal e
+        (RefusesDecoding (keeping KC.reading VC.reading C.equal C.keeps_order ctx.entry.depth number
+        (KC.COST + VC.COST))
+        ctx.entry.budget.now (B.unread buf.old) (C.pairs map.new) (budget_left ctx.exit) (B.unread buf.new)
+        (S.written sink.old) (S.written sink.new))
+        (RefusesEncoding (keeping KC.reading VC.reading C.equal C.keeps_order ctx.entry.depth number
+        (KC.COST + VC.COST))
+        KC.writing VC.writing (C.walks map.new) ctx.entry.budget.now (B.unread buf.old) (C.pairs map.new)
+        (budget_left ctx.exit) (B.unread buf.new) (S.written sink.old) (S.written sink.new) (S.room sink.old))) }
     ensures kept { B.beyond buf.new ≡ B.beyond buf.old }
 {
     let mut aside = UnknownFields::new(alloc);

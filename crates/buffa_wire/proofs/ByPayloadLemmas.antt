@@ -63,6 +63,10 @@ module _ {X : Type 0} {takes : Taker X} {need : Need} {merged : ℕ → X → Li
   pub merged_fields : (d : ℕ) (v w : X) (b : List ℕ) → merged d v b ≡ Some w → Join (SomeField d) b
   merged_fields d v w b h = merged_of_fields takes d v w b (sym (by.merged_is d v b) ∙ h)
 
+  pub merged_none : (d : ℕ) (v : X) (b : List ℕ) (o : Option X) → merged d v b ≡ o → (Join (SomeField d) b → ⊥) → o ≡ None
+  merged_none d v b None is never = refl
+  merged_none d v b (Some w) is never = absurd (never (merged_fields d v w b is))
+
   -- a field, and then what follows it
   pub merged_next : (d : ℕ) (v : X) (f r : List ℕ) → SomeField d f → merged d v (f ++ r) ≡ option_and_then (λ w. merged d w r) (merged d v f)
   merged_next d v f r h = by.merged_is d v (f ++ r) ∙ merged_of_next takes d v f r h ∙ (λ i. option_and_then (λ w. sym (by.merged_is d w r) i) (sym (by.merged_is d v f) i))

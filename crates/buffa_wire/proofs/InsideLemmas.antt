@@ -1,5 +1,5 @@
 -- A message inside a field, whose bytes are given to a function.
-use Rattle.std.proofs.Common.{◌≡◌, ◌≢◌, inl, inr, ℕ, zero, suc, ◌-◌, ◌<◌, List, [], length, Option, Some, Result, Ok, Err, refl, sym, ap, subst, ◌∙◌, arith, IsOk}
+use Rattle.std.proofs.Common.{◌≡◌, ◌≢◌, ◌⊎◌, inl, inr, ℕ, zero, suc, ◌-◌, ◌<◌, List, [], length, Option, Some, Result, Ok, Err, refl, sym, ap, subst, ◌∙◌, arith, IsOk}
 use denote.Param.Members.{Mut}
 use denote.Ref.{Bor}
 use Rattle.std.specs.Fn.{Called}
@@ -15,7 +15,7 @@ use Rattle.buffa_wire.proofs.ByPayloadLemmas.{ByPayload, cost_empty, merged_empt
 use Rattle.buffa_wire.proofs.SpentLemmas.{PaysAtMost_nothing}
 use Rattle.buffa_wire.specs.BudgetLeft.{BudgetLeft, Pays, PaysAtMost, nothing}
 use Rattle.buffa_wire.specs.Takes.{Need, Taker}
-use Rattle.buffa_wire.specs.Message.{BeginsField, IsInside, IsMerged, MergeFault, MessageFault, cost_in, cost_of_payload, merged_in}
+use Rattle.buffa_wire.specs.Message.{BeginsField, FieldRefused, IsInside, IsMerged, MergeFault, MessageFault, Stands, StandsInside, cost_in, cost_of_payload, merged_in}
 
 module _ {F X T : Type 0} (g : Mut F (Bor (List ℕ) × Unit {0}) (Result T DecodeError)) (merged : ℕ → X → List ℕ → Option X) (cost : ℕ → List ℕ → BudgetLeft) where
   -- a call of f merges the bytes that it is given, one level down
@@ -67,6 +67,24 @@ module _ {F X T : Type 0} (g : Mut F (Bor (List ℕ) × Unit {0}) (Result T Deco
   pub inside_full : (d : ℕ) (f f' : F) (bs left : List ℕ) (r : Result T DecodeError) → d ≢ 0 → Lends g f (delimited_at bs) r f' left → FullOnlyIf r ((0 < d) × IsOk (delimited_at bs))
   inside_full d f f' bs left (Ok x) deep h = tt
   inside_full d f f' bs left (Err x) deep h = λ full. (omega (arith, deep), lent_full g f f' (Err x) bs left h full)
+
+  -- what stands of those bytes where a call is refused
+  abbrev Leaves : FieldRefused X → ℕ → F → X → BudgetLeft → Result T DecodeError → F → X → Type 0
+  Leaves Refused d f old before r f' new = (p : Bor (List ℕ)) → Called g f (p, tt) r f' → IfErr r (λ e. Stands merged cost Refused (d - 1) old p.now before e new)
+
+  stands_by : (Refused : FieldRefused X) (d c : ℕ) (f f' : F) (old new : X) (b rest left : List ℕ) (before : BudgetLeft) (e : DecodeError) → d ≡ suc c → Lends g f (Ok (b, rest)) (Err e) f' left →
+      Leaves Refused d f old before (Err e) f' new → (f' ≡ f → new ≡ old) → Stands merged cost Refused c old b before e new ⊎ ((e ≡ error.OutOfMemory) × (new ≡ old))
+  stands_by Refused d c f f' old new b rest left before e level (inl l) leaves same = let k : d - 1 ≡ c = omega (arith, level) in inl (rw (k, l.0.shows) at (leaves l.0.shown l.0.called))
+  stands_by Refused d c f f' old new b rest left before e level (inr n) leaves same = inr (let q = n.0 in cc, same n.1)
+
+  -- last is what the value is at the end: the one that the call left
+  pub inside_stands : (Refused : FieldRefused X) (d : ℕ) (f f' : F) (old new last : X) (bs left : List ℕ) (before : BudgetLeft) (r : Result T DecodeError) → Lends g f (delimited_at bs) r f' left →
+      Leaves Refused d f old before r f' new → (f' ≡ f → new ≡ old) → new ≡ last → IfErr r (λ e. StandsInside merged cost Refused d old bs before e last)
+  inside_stands Refused d f f' old new last bs left before (Ok x) h leaves same is = tt
+  inside_stands Refused d f f' old new last bs left before (Err e) h leaves same is =
+      λ c b rest level at.
+      subst (λ z. Stands merged cost Refused c old b before e z ⊎ ((e ≡ error.OutOfMemory) × (z ≡ old))) is
+      (stands_by Refused d c f f' old new b rest left before e level (subst (λ z. Lends g f z (Err e) f' left) at h) leaves same)
 
 -- what merging promises of a refusal
 pub merged_tells : {X T : Type 0} (meant : Option X) (need before after : BudgetLeft) (new : X) (r : Result T DecodeError) → IsMerged meant need before r new after → IfErr r (λ x. x ≢ error.OutOfMemory → MergeFault meant need before x)

@@ -19,3 +19,5 @@ pub mod ByPayloadLemmas
 pub mod MergeLoopLemmas
 pub mod KeepLemmas
 mod ShortLemmas
+pub mod PinLemmas
+pub mod FaultLemmas

@@ -1,13 +1,16 @@
 -- Merging the fields of a message one after the other: how far it came, and why it stops.
-use Rattle.std.proofs.Common.{◌≡◌, ◌≢◌, ◌⊎◌, inl, inr, ℕ, ◌<◌, ◌≤◌, List, [], ◌++◌, length, Option, Some, Ok, Err, refl, sym, ap, subst, ◌∙◌, arith, append_assoc, append-nil, length-append}
+use Rattle.std.proofs.Common.{◌≡◌, ◌≢◌, ◌⊎◌, inl, inr, ℕ, ◌<◌, ◌≤◌, List, [], ◌++◌, drop, length, Option, Some, Ok, Err, refl, sym, ap, subst, ◌∙◌, arith, append_assoc, append-nil, length-append}
 use Rattle.std.proofs.lemmas.List.{nil_from_length}
+use Rattle.std.proofs.Math.Seq.{drop-append_seam}
 use Rattle.std.proofs.lemmas.Option.{same_Some}
 use Rattle.std.specs.Option.{option_and_then}
-use Rattle.buffa_bytes.proofs.FieldLemmas.{tag_complete, tag_some, tag_sound}
+use Rattle.buffa_bytes.proofs.FieldLemmas.{tag_complete, tag_falls, tag_some, tag_sound}
 use Rattle.buffa_bytes.proofs.StepLemmas.{agree_ok}
+use Rattle.buffa_bytes.proofs.TailLemmas.{tail_dropped}
 use Rattle.buffa_bytes.specs.Field.{Payload, SomeField, TakesTag}
 use Rattle.buffa_bytes.specs.Front.{tag_at}
 use Rattle.buffa_bytes.specs.Join.{Join}
+use Rattle.buffa_bytes.specs.Unread.{IsTailOf}
 use Rattle.buffa_bytes.specs.Join.Join.{none, more}
 use Rattle.buffa_bytes.specs.declared.error.DecodeError.{DecodeError}
 use Rattle.buffa_bytes.specs.declared.error.DecodeError.TheVariants.{OutOfMemory}
@@ -16,7 +19,7 @@ use Rattle.buffa_bytes.specs.declared.wire_type.WireType.TheVariants.{EndGroup}
 use Rattle.buffa_wire.proofs.ByPayloadLemmas.{ByPayload, cost_empty, cost_join, judged_all, merged_empty, merged_join, untagged}
 use Rattle.buffa_wire.proofs.MessageLemmas.{join_more, loop_fault, reaches_tag}
 use Rattle.buffa_wire.specs.BudgetLeft.{BudgetLeft, Pays, PaysAtMost, plus}
-use Rattle.buffa_wire.specs.Message.{BeginsField, IsFieldMerged, MergeFault}
+use Rattle.buffa_wire.specs.Message.{BeginsField, FieldRefused, IsFieldMerged, MergeFault, Stands}
 use Rattle.buffa_wire.specs.Takes.{Need, Taker}
 use Rattle.buffa_wire.specs.Pinned.{done, refusal}
 
@@ -70,6 +73,9 @@ module _ {X : Type 0} {takes : Taker X} {need : Need} {merged : ℕ → X → Li
       | inr begins_it ↦ absurd (never begins_it)
     ]
 
+    pub tail : IsTailOf rest all
+    tail = tail_dropped (length came.front) all rest (sym (ap (drop (length came.front)) came.split ∙ drop-append_seam came.front rest))
+
     -- why all bytes aren't merged, and what was spent
     abbrev Refuses : DecodeError → BudgetLeft → Type 0
     Refuses e over = PaysAtMost first (cost d all) over × (e ≢ OutOfMemory → MergeFault (merged d old all) (cost d all) first e)
@@ -84,6 +90,10 @@ module _ {X : Type 0} {takes : Taker X} {need : Need} {merged : ℕ → X → Li
     -- no tag is next
     pub no_tag : (e : DecodeError) → 0 < length rest → tag_at rest ≡ Err e → Refuses e left
     no_tag e some untold = stopped e left ((omega arith, omega arith, omega arith, omega arith), λ ne. untagged by d now rest left e some untold)
+
+    -- what stands then
+    pub stands_untagged : (Refused : FieldRefused X) (e : DecodeError) → 0 < length rest → tag_at rest ≡ Err e → Stands merged cost Refused d old all first e now
+    stands_untagged Refused e some untold = record { front = came.front; rest = rest; split = came.split; some = some; mid = now; means = came.means; left = left; pays = came.pays; next = inl (untold, refl) }
 
     module _ (n : ℕ) (w : WireType) (bs : List ℕ) (tag : tag_at rest ≡ Ok (n, w, bs)) where
       took : TakesTag rest n w bs
@@ -112,6 +122,20 @@ module _ {X : Type 0} {takes : Taker X} {need : Need} {merged : ℕ → X → Li
       refused_next e new x over why =
           stopped e over (subst (λ (z : List ℕ). PaysAtMost left (cost d z) over × (e ≢ OutOfMemory → MergeFault (merged d now z) (cost d z) left e)) (sym took.2)
           (judged_all by d now n w bs left over e why took.0 took.1))
+
+      -- what stands then
+      pub stands_refused : (Refused : FieldRefused X) (e : DecodeError) (new : X) (x : List ℕ) (over : BudgetLeft) → IsFieldMerged merged cost d now n w bs left (refusal e) new over x → Refused d now n w bs new → Stands merged cost Refused d old all first e new
+      stands_refused Refused e new x over why leaves = record {
+        front = came.front;
+        rest = rest;
+        split = came.split;
+        some = omega (arith, tag_falls rest (n, w, bs) tag);
+        mid = now;
+        means = came.means;
+        left = left;
+        pays = came.pays;
+        next = inr (n, w, bs, tag, leaves, λ t p is judged ne. (why t p is judged).1 ne);
+      }
 
       -- it is no end of a group
       pub reached : w ≢ EndGroup → BeginsField all

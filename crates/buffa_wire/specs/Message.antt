@@ -1,5 +1,5 @@
 -- What merging a message promises: what bytes make of a value, and what they cost, is said by the message's type.
-use Rattle.std.specs.Prelude.{◌≡◌, ◌≢◌, ℕ, zero, suc, ◌⊎◌, List, ◌++◌, Option, Some, None, Result, Ok, Err, MatchResult}
+use Rattle.std.specs.Prelude.{◌≡◌, ◌≢◌, ◌<◌, ℕ, zero, suc, ◌⊎◌, List, ◌++◌, length, Option, Some, None, Result, Ok, Err, MatchResult}
 use Rattle.buffa_bytes.specs.declared.error.DecodeError.{DecodeError}
 use Rattle.buffa_bytes.specs.declared.error.DecodeError.TheVariants.{ElementMemoryLimitExceeded, OutOfMemory, RecursionLimitExceeded, UnknownFieldLimitExceeded}
 use Rattle.buffa_bytes.specs.declared.wire_type.WireType.{WireType}
@@ -63,6 +63,39 @@ IsFieldMerged merged cost d old n w bs before r new after rest =
 -- the same in a context
 abbrev pub MergesField : {X T : Type 0} → (ℕ → X → List ℕ → Option X) → (ℕ → List ℕ → BudgetLeft) → DecodeContext → X → ℕ → WireType → List ℕ → Result T DecodeError → X → BudgetLeft → List ℕ → Type 0
 MergesField merged cost ctx old n w bs r new after rest = IsFieldMerged merged cost ctx.depth old n w bs ctx.budget.now r new after rest
+
+-- What a type says of a field that was refused, at a depth: of the old value, the number, the wire type and the bytes
+-- behind the tag; and of the value that stands then.
+abbrev pub FieldRefused : Type 0 → Type 1
+FieldRefused X = ℕ → X → ℕ → WireType → List ℕ → X → Type 0
+
+-- it leaves the value as it was
+abbrev pub Unchanged : {X : Type 0} → FieldRefused X
+Unchanged d old n w bs new = new ≡ old
+
+-- What stands where merging bytes was refused by an error: fields at the front were merged, and paid for; what follows
+-- them begins with no tag, and the value is what they made; or with the tag of a field that is refused, and there
+-- stands what that field leaves of it.
+pub record Stands {X : Type 0} (merged : ℕ → X → List ℕ → Option X) (cost : ℕ → List ℕ → BudgetLeft) (Refused : FieldRefused X) (d : ℕ) (old : X) (bytes : List ℕ) (before : BudgetLeft) (e : DecodeError) (new : X) : Type 0 where
+  pub front : List ℕ
+  pub rest : List ℕ
+  pub split : bytes ≡ front ++ rest
+  pub some : 0 < length rest
+  pub mid : X
+  pub means : merged d old front ≡ Some mid
+  pub left : BudgetLeft
+  pub pays : Pays before (cost d front) left
+  pub next :
+      ((tag_at rest ≡ Err e) × (new ≡ mid))
+      ⊎ ((n : ℕ) × (w : WireType) × (more : List ℕ) × (tag_at rest ≡ Ok (n, w, more)) × Refused d mid n w more new
+      × ((t p : List ℕ) → IsTag t n w → IsJudged d n w more p → e ≢ OutOfMemory → MergeFault (merged d mid (t ++ p)) (cost d (t ++ p)) left e))
+
+-- The same of a message inside a field, one level down, where its length and so many bytes are there; or memory ran out
+-- before any of it was merged.
+abbrev pub StandsInside : {X : Type 0} → (ℕ → X → List ℕ → Option X) → (ℕ → List ℕ → BudgetLeft) → FieldRefused X → ℕ → X → List ℕ → BudgetLeft → DecodeError → X → Type 0
+StandsInside merged cost Refused d old bs before e new =
+    (c : ℕ) (b rest : List ℕ) → d ≡ suc c → delimited_at bs ≡ Ok (b, rest) →
+    Stands merged cost Refused c old b before e new ⊎ ((e ≡ OutOfMemory) × (new ≡ old))
 
 -- What a type says, besides, of the field that was merged, at a depth: of the message that stood, the number, the wire type,
 -- the bytes and the budget; and of the answer, the message, the budget and the bytes that it left.

@@ -1,10 +1,10 @@
 //! Types whose reading and writing as messages another type says, once for all of them.
 
 ghost use Rattle.std.specs.Prelude.{◌≡◌, ◌≢◌, ◌<◌, ◌≤◌, ℕ, List, Option, Some, refl};
-ghost use Rattle.std.specs.Prelude.{IsOk};
+ghost use Rattle.std.specs.Prelude.{IsOk, OnErr};
 ghost use Rattle.buffa_bytes.specs.Gives.{FullOnlyIf};
 ghost use Rattle.buffa_wire.specs.BudgetLeft.{BudgetLeft, budget_left};
-ghost use Rattle.buffa_wire.specs.Message.{FieldTaken, MergesField, TakesMessageField};
+ghost use Rattle.buffa_wire.specs.Message.{FieldRefused, FieldTaken, MergesField, TakesMessageField};
 ghost use Rattle.buffa_wire.specs.Parse.{Fits};
 ghost use Rattle.buffa_wire.specs.Passes.{IsNext, IsSized, IsWritten};
 ghost use Rattle.buffa_wire.specs.Records.{Datum, records_of};
@@ -43,6 +43,9 @@ pub trait MessageForm<M: Blank> {
 
     /// At a depth, what merging bytes costs, malformed ones too.
     ghost cost: { ℕ → List ℕ → BudgetLeft };
+
+    /// At a depth, what may stand of a value where a field of it is refused.
+    ghost Refused: { FieldRefused M.Meaning };
 
     /// The records that a value is written as.
     ghost records: { M.Meaning → List (ℕ × Datum) };
@@ -121,6 +124,8 @@ pub trait MessageForm<M: Blank> {
     ) -> Result<(), DecodeError>
         ensures merged { MergesField merged cost ctx.entry (M.meaning message.old) tag.number tag.wire_type buf.old.now
             result (M.meaning message.new) (budget_left ctx.exit) buf.new.now }
+        ensures refused { OnErr result (Refused ctx.entry.depth (M.meaning message.old) tag.number tag.wire_type
+            buf.old.now (M.meaning message.new)) }
         ensures full { FullOnlyIf result (tag.wire_type ≢ WireType.EndGroup) }
         ensures taken { TakesMessageField Taken ctx.entry message.old tag.number tag.wire_type buf.old.now result message.new
             (budget_left ctx.exit) buf.new.now };
@@ -161,6 +166,8 @@ where
     ghost merged = { M.Form.merged };
 
     ghost cost = { M.Form.cost };
+
+    ghost Refused = { M.Form.Refused };
 
     ghost encoding = { λ v. records_encoding (M.Form.records v) };
 
@@ -216,6 +223,8 @@ where
     ) -> Result<(), DecodeError>
         ensures merged { MergesField M.Form.merged M.Form.cost ctx.entry (M.meaning self.old) tag.number tag.wire_type
             buf.old.now result (M.meaning self.new) (budget_left ctx.exit) buf.new.now }
+        ensures refused { OnErr result (M.Form.Refused ctx.entry.depth (M.meaning self.old) tag.number tag.wire_type
+            buf.old.now (M.meaning self.new)) }
         ensures full { FullOnlyIf result (tag.wire_type ≢ WireType.EndGroup) }
         ensures taken { TakesMessageField M.Form.Taken ctx.entry self.old tag.number tag.wire_type buf.old.now result self.new
             (budget_left ctx.exit) buf.new.now }

@@ -8,6 +8,7 @@ pub mod context;
 pub mod enumeration;
 pub mod form;
 pub mod formed;
+pub mod laws;
 pub mod message;
 pub mod scalar;
 pub mod scalars;

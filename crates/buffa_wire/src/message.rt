@@ -7,14 +7,14 @@ ghost use Rattle.buffa_bytes.specs.Gives.{FullOnlyIf};
 ghost use Rattle.buffa_bytes.specs.Left.{LeavesUnlessFull, past_no_delimited};
 ghost use Rattle.buffa_bytes.specs.Front.{delimited_at};
 ghost use Rattle.buffa_bytes.specs.Unread.{IsTailOf};
-ghost use Rattle.buffa_wire.specs.BudgetLeft.{BudgetLeft, PaysAtMost, budget_left};
+ghost use Rattle.buffa_wire.specs.BudgetLeft.{BudgetLeft, PaysAtMost, budget_left, defaults};
 ghost use Rattle.buffa_bytes.specs.declared.error.EncodeError.TheVariants as error;
 ghost use Rattle.buffa_wire.specs.Parse.{Fits};
 ghost use Rattle.buffa_wire.specs.Passes.{IsNext, IsSized, IsWritten, cap};
 ghost use Rattle.buffa_wire.specs.Records.{Datum, records_of};
 ghost use Rattle.buffa_wire.specs.Encoding.{records_encoding};
-ghost use Rattle.buffa_wire.specs.Message.{BeginsField, IsMergedAlone, MergesBytes, MergesField, MergesInside};
-ghost use Rattle.buffa_wire.specs.Message.{MessageFault, cost_of_payload};
+ghost use Rattle.buffa_wire.specs.Message.{BeginsField, FieldRefused, IsMergedAlone, MergesBytes, MergesField, MergesInside};
+ghost use Rattle.buffa_wire.specs.Message.{MessageFault, Stands, StandsInside, cost_of_payload};
 ghost use Rattle.buffa_wire.specs.Takes.{Need, Stays, Taker, cost_of, merged_of};
 
 use crate::budget::{Budget, DEFAULT_UNKNOWN_FIELD_LIMIT};
@@ -70,6 +70,9 @@ pub trait MessageSpec: Blank {
 
     /// At a depth, what merging bytes costs, malformed ones too.
     ghost cost: { ℕ → List ℕ → BudgetLeft };
+
+    /// At a depth, what may stand of a value where a field of it is refused; a type may leave it open.
+    ghost Refused: { FieldRefused Self.Meaning };
 
     /// The encoding of a value.
     ghost encoding: { Self.Meaning → List ℕ };
@@ -185,7 +188,8 @@ pub trait Message: MessageSpec {
     ///
     /// # Errors
     /// Those of [`Message::merge`], of this field alone where its payload is whole; never
-    /// [`DecodeError::OutOfMemory`] for an end tag. The value is then some value of its type.
+    /// [`DecodeError::OutOfMemory`] for an end tag. The value is then one that its type lets stand after this field was
+    /// refused.
     ///
     /// ```ignore
     /// message.merge_field(alloc, tag, buf, ctx)?;
@@ -199,32 +203,39 @@ pub trait Message: MessageSpec {
     ) -> Result<(), DecodeError>
         ensures merged { MergesField Self.merged Self.cost ctx.entry (Self.meaning self.old) tag.number tag.wire_type
             buf.old.now result (Self.meaning self.new) (budget_left ctx.exit) buf.new.now }
+        ensures refused { OnErr result (Self.Refused ctx.entry.depth (Self.meaning self.old) tag.number tag.wire_type
+            buf.old.now (Self.meaning self.new)) }
         ensures full { FullOnlyIf result (tag.wire_type ≢ WireType.EndGroup) };
 
-    /// Merges the fields that the bytes are, all of them.
+    /// Merges the fields that the bytes are, all of them: none is left.
     ///
     /// # Errors
     /// Where the bytes mean no value, any error but those of a budget, [`DecodeError::UnknownFieldLimitExceeded`] and
     /// [`DecodeError::ElementMemoryLimitExceeded`]; where what they cost isn't left, any error. And
-    /// [`DecodeError::OutOfMemory`], only where a tag that is no end tag begins the bytes. The value is then some value
-    /// of its type.
+    /// [`DecodeError::OutOfMemory`], only where a tag that is no end tag begins the bytes. The fields before the refused
+    /// one are merged then, and of that one there stands what [`Message::merge_field`] leaves. The buffer stands
+    /// anywhere in the bytes.
     ///
     /// ```ignore
-    /// let answer = message.merge(alloc, bytes, DecodeContext::new(1, &mut budget));
+    /// let answer = message.merge(alloc, &mut bytes, DecodeContext::new(1, &mut budget));
     /// ```
     fn merge(
         &mut self,
         alloc: Global,
-        bytes: &[u8],
+        buf: &mut &[u8],
         ctx: DecodeContext<'_>,
     ) -> Result<(), DecodeError>
-        ensures merged { MergesBytes Self.merged Self.cost ctx.entry.depth (Self.meaning self.old) bytes.now
+        ensures merged { MergesBytes Self.merged Self.cost ctx.entry.depth (Self.meaning self.old) buf.old.now
             ctx.entry.budget.now result (Self.meaning self.new) (budget_left ctx.exit) }
-        ensures full { FullOnlyIf result (BeginsField bytes.now) }
+        ensures stands { IfErr result (λ e. Stands Self.merged Self.cost Self.Refused ctx.entry.depth
+            (Self.meaning self.old) buf.old.now ctx.entry.budget.now e (Self.meaning self.new)) }
+        ensures full { FullOnlyIf result (BeginsField buf.old.now) }
+        ensures read { OnOk result (buf.new.now ≡ []) }
+        ensures tail { IsTailOf buf.new.now buf.old.now }
     {
         let DecodeContext { depth, budget } = ctx;
-        let mut rest = bytes;
-        while rest.remaining() > 0 {
+        let mut rest = *buf;
+        'fields: while rest.remaining() > 0 {
             let tag = Tag::decode(&mut rest)?;
             let lent = DecodeContext {
                 depth,
@@ -232,13 +243,14 @@ pub trait Message: MessageSpec {
             };
             self.merge_field(alloc, tag, &mut rest, lent)?;
         }
+        *buf = rest;
         Ok(())
     }
 
     /// Merges the fields that the bytes are, at most [`RECURSION_LIMIT`] deep, under a default budget of its own.
     ///
     /// # Errors
-    /// Those of [`Message::merge`]. The value is then some value of its type.
+    /// Those of [`Message::merge`], and the value is then as it says.
     ///
     /// ```ignore
     /// message.merge_from_slice(alloc, bytes)?;
@@ -246,12 +258,15 @@ pub trait Message: MessageSpec {
     fn merge_from_slice(&mut self, alloc: Global, bytes: &[u8]) -> Result<(), DecodeError>
         ensures merged { IsMergedAlone (Self.merged RECURSION_LIMIT (Self.meaning self.old) bytes.now)
             (Self.cost RECURSION_LIMIT bytes.now) result (Self.meaning self.new) }
+        ensures stands { IfErr result (λ e. Stands Self.merged Self.cost Self.Refused RECURSION_LIMIT
+            (Self.meaning self.old) bytes.now defaults e (Self.meaning self.new)) }
         ensures full { FullOnlyIf result (BeginsField bytes.now) }
     {
         let mut budget = Budget::new(DEFAULT_UNKNOWN_FIELD_LIMIT);
+        let mut buf = bytes;
         self.merge(
             alloc,
-            bytes,
+            &mut buf,
             DecodeContext::new(RECURSION_LIMIT, &mut budget),
         )
     }
@@ -262,7 +277,8 @@ pub trait Message: MessageSpec {
     ///
     /// # Errors
     /// In this order: [`DecodeError::RecursionLimitExceeded`] where no level is left; the length's faults;
-    /// those of [`Message::merge`]. What follows a length that passes the end stays unread then, and what follows the
+    /// those of [`Message::merge`], and the value is then as it says; before the message it is as it was, and where
+    /// memory ran out it may be. What follows a length that passes the end stays unread then, and what follows the
     /// message.
     ///
     /// ```ignore
@@ -279,6 +295,8 @@ pub trait Message: MessageSpec {
         ensures fault { IfErr result (λ e. e ≢ OutOfMemory →
             MessageFault Self.merged Self.cost ctx.entry.depth (Self.meaning self.old) (B.unread buf.old)
             ctx.entry.budget.now e) }
+        ensures stands { IfErr result (λ e. StandsInside Self.merged Self.cost Self.Refused ctx.entry.depth
+            (Self.meaning self.old) (B.unread buf.old) ctx.entry.budget.now e (Self.meaning self.new)) }
         ensures spent { OnErr result (PaysAtMost ctx.entry.budget.now
             (cost_of_payload Self.cost ctx.entry.depth (delimited_at (B.unread buf.old))) (budget_left ctx.exit)) }
         ensures full { FullOnlyIf result ((0 < ctx.entry.depth) × IsOk (delimited_at (B.unread buf.old))) }
@@ -302,8 +320,13 @@ pub trait Message: MessageSpec {
             &mut |payload: &[u8]|
                 ensures merged { MergesBytes Self.merged Self.cost inside (Self.meaning self.entry.now) payload.now
                     budget.entry.now result (Self.meaning self.exit.now) budget.exit.now }
+                ensures stands { IfErr result (λ e. Stands Self.merged Self.cost Self.Refused inside
+                    (Self.meaning self.entry.now) payload.now budget.entry.now e (Self.meaning self.exit.now)) }
                 ensures full { FullOnlyIf result (BeginsField payload.now) }
-            { self.merge(alloc, payload, DecodeContext::new(inside, &mut *budget)) },
+            {
+                let mut bytes = payload;
+                self.merge(alloc, &mut bytes, DecodeContext::new(inside, &mut *budget))
+            },
         )
     }
 }

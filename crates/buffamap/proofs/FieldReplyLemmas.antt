@@ -1,9 +1,9 @@
 -- What is answered of pairs that a field was written of.
 use Rattle.std.proofs.Common.{◌≡◌, ℕ, ◌^◌, true, List, [], ◌∷◌, length, refl, sym}
 use Rattle.std.proofs.lemmas.Bool.{lt-ltb}
-use Rattle.buffa_map_base.specs.Codec.{Writing}
-use Rattle.buffa_map_base.specs.Encoding.{HasEncoding, entry_encoding, field_encoding}
-use Rattle.buffa_map_base.specs.Scalars.{int32_writing, text_writing}
+use Rattle.buffa_map.specs.Codec.{Writing}
+use Rattle.buffa_map.specs.Encoding.{HasEncoding, entry_encoding, field_encoding}
+use Rattle.buffa_map.specs.Scalars.{int32_writing, text_writing}
 use Rattle.buffamap.specs.Lines.{Pair}
 use Rattle.buffamap.specs.Reply.{success, hex_line}
 use Rattle.buffamap.specs.Write.{field_reply, has_field}

@@ -7,14 +7,14 @@ use Rattle.buffa_bytes.specs.Content.{number_in}
 use Rattle.buffa_wire.specs.Sequence.{ParsesEach}
 use Rattle.buffa_bytes.proofs.ScalarLemmas.{int32_fits}
 use Rattle.buffa_bytes.specs.Values.{int32_of}
-use Rattle.buffa_map_base.specs.Entry.{IsEntryField, blanks}
-use Rattle.buffa_map_base.specs.Enums.{ClosedFits}
-use Rattle.buffa_map_base.specs.Pairs.{put}
-use Rattle.buffa_map_base.specs.Run.{Run, fold_entries}
-use Rattle.buffa_map_base.specs.Encoding.{AllHold}
+use Rattle.buffa_map.specs.Entry.{IsEntryField, blanks}
+use Rattle.buffa_map.specs.Enums.{ClosedFits}
+use Rattle.buffa_map.specs.Pairs.{put}
+use Rattle.buffa_map.specs.Run.{Run, fold_entries}
+use Rattle.buffa_map.specs.Encoding.{AllHold}
 use Rattle.buffa_map.specs.declared.map_entry.MapEntry.{MapEntry}
 use Rattle.buffamap.specs.Choice.{two_numbers}
-use Rattle.buffa_map_base.specs.Scalars.{int32_reading}
+use Rattle.buffa_map.specs.Scalars.{int32_reading}
 use Rattle.buffamap.specs.Rewrite.{Entry, ChoicePair, choice_reading}
 
 -- the key of an entry is an int32, and its value one that is declared, if it is known

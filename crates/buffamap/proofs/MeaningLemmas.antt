@@ -9,12 +9,12 @@ use Rattle.buffa_bytes.specs.declared.error.DecodeError.{DecodeError}
 use Rattle.buffa_wire.specs.BudgetLeft.{BudgetLeft, defaults}
 use Rattle.buffa_wire.specs.Enums.{Numbers, Refines}
 use Rattle.buffa_bytes.specs.Number.{IsNumber}
-use Rattle.buffa_map_base.specs.Enums.{ClosedFits, closed_reading, closed_writing}
+use Rattle.buffa_map.specs.Enums.{ClosedFits, closed_reading, closed_writing}
 use Rattle.buffa_map.specs.Laws.{OneReading, RewriteMeans, RunsAreRead}
 use Rattle.buffa_map.specs.Rewrite.{IsRewrite, KeepsMeaning}
-use Rattle.buffa_map_base.specs.Run.{Run}
+use Rattle.buffa_map.specs.Run.{Run}
 use Rattle.buffamap.specs.Choice.{two_numbers}
-use Rattle.buffa_map_base.specs.Scalars.{int32_reading, int32_writing}
+use Rattle.buffa_map.specs.Scalars.{int32_reading, int32_writing}
 use Rattle.buffamap.specs.Reply.{Reply, success, hex_line}
 use Rattle.buffamap.specs.Rewrite.{Entry, IsRewritten, IsRewrittenOf, RewriteKeepsMeaning, choice_reading, choice_run}
 

@@ -9,8 +9,8 @@ use Rattle.std.specs.declared.cmp.Ordering.{Ordering}
 use Rattle.std.specs.declared.cmp.Ordering.TheVariants.{Less, Equal, Greater}
 use Rattle.std.proofs.lemmas.Map.Keys.{IsDistinct-from_sorted}
 use Rattle.buffa_bytes.proofs.ListLemmas.{AllByRecursion-weaker}
-use Rattle.buffa_map_base.specs.Pairs.{ListsOnce}
-use Rattle.buffa_map_base.specs.Encoding.{AllHold}
+use Rattle.buffa_map.specs.Pairs.{ListsOnce}
+use Rattle.buffa_map.specs.Encoding.{AllHold}
 
 cond_twice : {A : Type 0} (b c : Bool) (x y z : A) → b ≡ c → cond b x z ≡ cond b x (cond c y z)
 cond_twice true c x y z h = refl

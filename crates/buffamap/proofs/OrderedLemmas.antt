@@ -10,13 +10,13 @@ use Rattle.std.specs.List.Sorted.{IsStrictlySortedBy}
 use Rattle.std.specs.BTreeMap.{insert_entry}
 use Rattle.std.specs.declared.cmp.Ordering.TheVariants.{Less, Equal, Greater}
 use Rattle.std.proofs.lemmas.Map.Keys.{IsDistinct-from_sorted}
-use Rattle.buffa_map_base.specs.Pairs.{SamePairs}
-use Rattle.buffa_map_base.specs.Pairs as maps
-use Rattle.buffa_map_base.proofs.PutLemmas.{SamePairs-insert_entry, SamePairs-put}
+use Rattle.buffa_map.specs.Pairs.{SamePairs}
+use Rattle.buffa_map.specs.Pairs as maps
+use Rattle.buffa_map.proofs.PutLemmas.{SamePairs-insert_entry, SamePairs-put}
 use Rattle.buffa_fields.proofs.OrderedLemmas.{sorted_means}
-use Rattle.buffa_node.specs.NodeMeaning.{text_cmp}
+use Rattle.sample_node.specs.NodeMeaning.{text_cmp}
 use Rattle.buffamap.specs.Lines.{ListedInOrder, Pair, pairs_of, with_pair, same_key}
-use Rattle.buffa_map_base.proofs.SortedLemmas.{same_sorted}
+use Rattle.buffa_map.proofs.SortedLemmas.{same_sorted}
 
 -- keys are one key where they are one in the order
 pub same_test : eq_by_cmp text_cmp ≡ same_key

@@ -11,17 +11,17 @@ use Rattle.buffa_wire.specs.BudgetLeft.{BudgetLeft, defaults}
 use Rattle.buffa_wire.specs.Message.{MergeFault}
 use Rattle.buffa_wire.specs.Records.{Datum}
 use Rattle.buffa_wire.specs.Encoding.{records_encoding}
-use Rattle.buffa_map_base.specs.Enums.{closed_writing}
-use Rattle.buffa_map_base.specs.Pairs.{ListsOnce}
-use Rattle.buffa_map_base.specs.Run.{EntryRecord, fold_entries, undeclared_records}
-use Rattle.buffa_map_base.specs.Encoding.{HasEncoding, field_encoding}
+use Rattle.buffa_map.specs.Enums.{closed_writing}
+use Rattle.buffa_map.specs.Pairs.{ListsOnce}
+use Rattle.buffa_map.specs.Run.{EntryRecord, fold_entries, undeclared_records}
+use Rattle.buffa_map.specs.Encoding.{HasEncoding, field_encoding}
 use Rattle.buffa.specs.Branch.{blank_node}
 use Rattle.buffa.specs.NodeMeaning.{node_cost, node_merged}
 use Rattle.buffa.specs.NodeEncoding.{node_encoding}
 use Rattle.buffa.specs.Set.{set_cost, set_merged, set_encoding}
 use Rattle.buffamap.specs.Again.{IsEncoded, IsReadAgainIn, RefusesMessageBytes, RepliesToAgain, encoding_reply}
-use Rattle.buffa_map_base.specs.Scalars.{int32_writing}
-use Rattle.buffa_map_base.proofs.SortedLemmas.{same_sorted}
+use Rattle.buffa_map.specs.Scalars.{int32_writing}
+use Rattle.buffa_map.proofs.SortedLemmas.{same_sorted}
 use Rattle.buffamap.specs.declared.command.Command.{Command}
 use Rattle.buffamap.specs.declared.command.Command.TheVariants.{AgainNode, AgainSet, Ext, Item, Read, Rewrite, Write}
 use Rattle.buffamap.specs.Command.{command_of, texts}
@@ -198,17 +198,17 @@ known_reply c f input a (inl h) memory whole = rw (sym h.1) h.2
 known_reply c f input a (inr (inl h)) memory whole = absurd (memory (ap (λ (r : Reply). r.status) h))
 known_reply c f input a (inr (inr h)) memory whole = absurd (whole h.0 h.1)
 
-reply_one : (o : Option Command) (f : Bool) (input : List ℕ) (a b : Reply) → Answers o (having f input) a → Answers o (having f input) b → (a.status ≢ 4) × (b.status ≢ 4) →
-    (a ≡ broken → f ≡ true → ⊥) × (b ≡ broken → f ≡ true → ⊥) → AreOne o a b
-reply_one None f input a b h k memory whole = inl (h ∙ sym k)
-reply_one (Some c) f input a b h k memory whole = command_one c input a b (known_reply c f input a h memory.0 whole.0) (known_reply c f input b k memory.1 whole.1)
+reply_one : (o : Option Command) (f g : Bool) (input : List ℕ) (a b : Reply) → Answers o (having f input) a → Answers o (having g input) b → (a.status ≢ 4) × (b.status ≢ 4) →
+    (a ≡ broken → f ≡ true → ⊥) × (b ≡ broken → g ≡ true → ⊥) → AreOne o a b
+reply_one None f g input a b h k memory whole = inl (h ∙ sym k)
+reply_one (Some c) f g input a b h k memory whole = command_one c input a b (known_reply c f input a h memory.0 whole.0) (known_reply c g input b k memory.1 whole.1)
 
 grown : (old text : List ℕ) (a : Known) → Appends (Some old) a text → a ≡ Some (old ++ text)
 grown old text None h = absurd h
 grown old text (Some ys) h = ap Some h
 
 -- what is given of a reply where no output has failed, and what where nothing fails
-given : (r : Reply) (out err : StreamChange) (s : ℕ) → GivesReply r out err s → (s ≡ 3 → out.may_fail ≡ true → ⊥) → (s ≡ r.status) × WritesAll out r.text × WritesOrBreaks err r.complaint
+given : (r : Reply) (out err : StreamChange) (s : ℕ) → GivesReply r out err s → (s ≡ 3 → out.failed ≡ true → ⊥) → (s ≡ r.status) × WritesAll out r.text × WritesOrBreaks err r.complaint
 given r out err s (inl h) whole = h
 given r out err s (inr h) whole = absurd (whole h.0 h.1.1)
 
@@ -231,18 +231,18 @@ sure_pinned words input out err a b p q s t h k (x, y) =
     let g = given h.0 (holding false out a) (holding false err p) s h.2 (λ _ e. absurd (false≢true e)) in
     let f = given k.0 (holding false out b) (holding false err q) t k.2 (λ _ e. absurd (false≢true e)) in
     let o : Option Command = command_of (texts words) in
-    let same : AreOne o h.0 k.0 = reply_one o false input h.0 k.0 h.1 k.1 (λ e. x (g.0 ∙ e), λ e. y (f.0 ∙ e)) (λ _ e. absurd (false≢true e), λ _ e. absurd (false≢true e)) in (
+    let same : AreOne o h.0 k.0 = reply_one o false false input h.0 k.0 h.1 k.1 (λ e. x (g.0 ∙ e), λ e. y (f.0 ∙ e)) (λ _ e. absurd (false≢true e), λ _ e. absurd (false≢true e)) in (
       g.0 ∙ one_status o h.0 k.0 same ∙ sym f.0,
       one_output words out h.0 k.0 a b s same g.0 (grown out h.0.text a g.1) (grown out k.0.text b f.1),
       told_whole err h.0.complaint p g.2 ∙ ap (λ z. Some (err ++ z)) (one_complaint o h.0 k.0 same) ∙ sym (told_whole err k.0.complaint q f.2),
     )
 
 any_pinned : (words : List (Bor (List ℕ))) (input out err : List ℕ) → AnyCallIsPinned words input out err
-any_pinned words input out err m n l a b p q s t h k x y =
+any_pinned words input out err m n l u v w a b p q s t h k x y =
     let g = given h.0 (holding n out a) (holding l err p) s h.2 (λ e _. x.0 e) in
-    let f = given k.0 (holding n out b) (holding l err q) t k.2 (λ e _. y.0 e) in
+    let f = given k.0 (holding v out b) (holding w err q) t k.2 (λ e _. y.0 e) in
     let o : Option Command = command_of (texts words) in
-    let same : AreOne o h.0 k.0 = reply_one o m input h.0 k.0 h.1 k.1 (λ e. x.1 (g.0 ∙ e), λ e. y.1 (f.0 ∙ e))
+    let same : AreOne o h.0 k.0 = reply_one o m u input h.0 k.0 h.1 k.1 (λ e. x.1 (g.0 ∙ e), λ e. y.1 (f.0 ∙ e))
     (λ e _. x.0 (g.0 ∙ ap (λ (r : Reply). r.status) e), λ e _. y.0 (f.0 ∙ ap (λ (r : Reply). r.status) e)) in (
       g.0 ∙ one_status o h.0 k.0 same ∙ sym f.0,
       one_output words out h.0 k.0 a b s same g.0 (grown out h.0.text a g.1) (grown out k.0.text b f.1),

@@ -8,9 +8,9 @@ use Rattle.std.specs.String.{string_cmp}
 use Rattle.std.proofs.lemmas.Result.{on_ok_weaker}
 use Rattle.buffa_bytes.specs.declared.error.DecodeError.{DecodeError}
 use Rattle.buffa_wire.specs.BudgetLeft.{BudgetLeft}
-use Rattle.buffa_map_base.specs.Pairs.{SamePairs}
+use Rattle.buffa_map.specs.Pairs.{SamePairs}
 use Rattle.buffa_wire.specs.Records.{Datum}
-use Rattle.buffa_map_base.specs.Run.{fold_entries, EntryRecord, added}
+use Rattle.buffa_map.specs.Run.{fold_entries, EntryRecord, added}
 use Rattle.buffamap.specs.Lines.{Pair, lines_of, pairs_of, same_key}
 use Rattle.buffamap.specs.Read.{ArePairsOfRun, RepliesToRun, run_from}
 use Rattle.buffamap.specs.Reply.{Reply, success}

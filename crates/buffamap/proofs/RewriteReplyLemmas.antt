@@ -10,17 +10,17 @@ use Rattle.buffa_bytes.specs.declared.error.DecodeError.{DecodeError}
 use Rattle.buffa_bytes.specs.declared.error.EncodeError.TheVariants.{GroupRefused, MessageTooLarge, OutOfMemory}
 use Rattle.buffa_wire.specs.BudgetLeft.{BudgetLeft, defaults}
 use Rattle.buffa_wire.specs.Records.{bytes}
-use Rattle.buffa_map_base.specs.Enums.{ClosedFits, closed_writing}
-use Rattle.buffa_map_base.specs.Merge.{keeping}
+use Rattle.buffa_map.specs.Enums.{ClosedFits, closed_writing}
+use Rattle.buffa_map.specs.Merge.{keeping}
 use Rattle.buffa_map.specs.Rewrite.{MatchRefusal, RefusesDecoding, RefusesEncoding, RewritesRun}
-use Rattle.buffa_map_base.specs.Run.{ArePaid, Run}
-use Rattle.buffa_map_base.specs.Encoding.{HasEncoding, entry_encoding}
+use Rattle.buffa_map.specs.Run.{ArePaid, Run}
+use Rattle.buffa_map.specs.Encoding.{HasEncoding, entry_encoding}
 use Rattle.buffa_map.specs.declared.rewrite.RewriteError.{RewriteError}
 use Rattle.buffa_map.specs.declared.rewrite.RewriteError.TheVariants.{Decode, Encode}
-use Rattle.buffa_map_base.proofs.RunLemmas.{run_complete}
+use Rattle.buffa_map.proofs.RunLemmas.{run_complete}
 use Rattle.buffamap.specs.declared.choice.Choice.{Choice}
 use Rattle.buffamap.specs.Choice.{two_numbers}
-use Rattle.buffa_map_base.specs.Scalars.{int32_reading, int32_writing}
+use Rattle.buffa_map.specs.Scalars.{int32_reading, int32_writing}
 use Rattle.buffamap.specs.Reply.{success, hex_line}
 use Rattle.buffamap.specs.Rewrite.{Entry, IsRewritten, ChoicePair, IsRewriteError, RunHasNoRewrite, RunRewritesTo, choice_reading, choices_of, choice_run}
 use Rattle.buffamap.proofs.RunReplyLemmas.{stops}

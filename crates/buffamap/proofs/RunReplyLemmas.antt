@@ -7,11 +7,11 @@ use Rattle.buffa_bytes.specs.declared.error.DecodeError.TheVariants.{OutOfMemory
 use Rattle.buffa_wire.specs.BudgetLeft.{BudgetLeft, defaults, nothing}
 use Rattle.buffa_bytes.specs.Content.{Content}
 use Rattle.buffa_wire.specs.Records.{Datum}
-use Rattle.buffa_map_base.specs.Codec.{Reading}
-use Rattle.buffa_map_base.specs.Pairs.{SamePairs}
-use Rattle.buffa_map_base.specs.Merge.{ReadsRun, StopsRun, rules, state}
-use Rattle.buffa_map_base.specs.Run.{fold_entries, ArePaid, Run, EntryRecord, added, run_of}
-use Rattle.buffa_map_base.proofs.RunLemmas.{run_complete, run_faulty}
+use Rattle.buffa_map.specs.Codec.{Reading}
+use Rattle.buffa_map.specs.Pairs.{SamePairs}
+use Rattle.buffa_map.specs.Merge.{ReadsRun, StopsRun, rules, state}
+use Rattle.buffa_map.specs.Run.{fold_entries, ArePaid, Run, EntryRecord, added, run_of}
+use Rattle.buffa_map.proofs.RunLemmas.{run_complete, run_faulty}
 
 module _ {K V : Type 0} (key : Reading K) (val : Reading V) (eq : K → K → Bool) (cost slot : ℕ) (adds : ℕ → List ℕ → List (ℕ × Datum))
     (key_free : key.nested ≡ false → (d : ℕ) (c : Content) → key.cost d c ≡ nothing) (val_free : val.nested ≡ false → (d : ℕ) (c : Content) → val.cost d c ≡ nothing)

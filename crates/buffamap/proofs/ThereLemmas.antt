@@ -11,14 +11,14 @@ use Rattle.buffa_wire.specs.BudgetLeft.{BudgetLeft, Lacks, defaults}
 use Rattle.buffa_bytes.specs.ErrorText.{decode_error_text}
 use Rattle.buffa_wire.specs.Records.{Datum}
 use Rattle.buffa_wire.specs.Encoding.{records_encoding}
-use Rattle.buffa_map_base.specs.Enums.{ClosedFits, closed_writing}
+use Rattle.buffa_map.specs.Enums.{ClosedFits, closed_writing}
 use Rattle.buffa_map.specs.Laws.{RunsAreRead}
-use Rattle.buffa_map_base.specs.Pairs.{ListsOnce}
-use Rattle.buffa_map_base.specs.Run.{EntryRecord, fold_entries, undeclared_records}
-use Rattle.buffa_map_base.specs.Encoding.{AllHold, HasEncoding, entry_encoding, field_encoding}
+use Rattle.buffa_map.specs.Pairs.{ListsOnce}
+use Rattle.buffa_map.specs.Run.{EntryRecord, fold_entries, undeclared_records}
+use Rattle.buffa_map.specs.Encoding.{AllHold, HasEncoding, entry_encoding, field_encoding}
 use Rattle.buffamap.specs.Again.{IsEncoded, IsReadAgainIn, RefusesMessageBytes, RepliesToAgain, encoding_reply}
 use Rattle.buffamap.specs.Choice.{two_numbers}
-use Rattle.buffa_map_base.specs.Scalars.{int32_reading, int32_writing}
+use Rattle.buffa_map.specs.Scalars.{int32_reading, int32_writing}
 use Rattle.buffamap.specs.Ext.{IsShown, IsShownOf, RepliesToExt, ext_text, records_from}
 use Rattle.buffamap.specs.Forms.{hex_bytes, without_newline}
 use Rattle.buffamap.specs.Item.{IsFound, IsFoundIn, RepliesToItem, item_of_input, item_lines}

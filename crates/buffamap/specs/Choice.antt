@@ -6,9 +6,9 @@ use Rattle.buffamap.specs.declared.choice.Choice.{Choice}
 use Rattle.buffamap.specs.declared.choice.Choice.TheVariants.{A, B}
 
 -- the number of a value
-abbrev pub number_of : Choice → ℤ
-number_of A = pos 0
-number_of B = pos 1
+abbrev pub choice_number : Choice → ℤ
+choice_number A = pos 0
+choice_number B = pos 1
 
 -- the value that has a number
 abbrev pub choice_of : ℤ → Option Choice

@@ -1,5 +1,5 @@
 -- Why a call has no answer, and what is told of it.
-use Rattle.std.specs.Prelude.{◌≡◌, ◌≢◌, ℕ, Bool, true, ◌⊎◌, Option, None}
+use Rattle.std.specs.Prelude.{◌≡◌, ◌≢◌, ℕ, Bool, true, false, ◌⊎◌, Option, None}
 use Rattle.hex.specs.declared.error.FromHexError.{FromHexError}
 use Rattle.hex.specs.declared.error.FromHexError.TheVariants as of_digits
 use Rattle.buffa_bytes.specs.declared.error.DecodeError.{DecodeError}
@@ -39,7 +39,7 @@ fault_reply (RefusedEncoding e) = fault (encode_error_text e)
 
 -- why a reader wasn't read to its end: memory, or a call that failed
 abbrev pub StopsReading : Bool → Fault → Type 0
-StopsReading may_fail f = (f ≡ OutOfMemory) ⊎ ((f ≡ Stream) × (may_fail ≡ true))
+StopsReading failed f = ((f ≡ OutOfMemory) × (failed ≡ false)) ⊎ ((f ≡ Stream) × (failed ≡ true))
 
 -- memory aside, what is told of the fault is a P
 abbrev pub TellsReply : (Reply → Type 0) → Fault → Type 0

@@ -28,12 +28,12 @@ pub record ReplyIsPinnedButForFaults (R : List ℕ → Reply → Type 0) : Type 
 abbrev pub HasReply : (List ℕ → Reply → Type 0) → Type 0
 HasReply R = (input : List ℕ) → (reply : Reply) × R input reply
 
--- a reader that has these bytes; and a writer that held these, and holds those
+-- a reader that had these bytes; and a writer that held these, and holds those; and whether a call of it failed
 abbrev pub having : Bool → List ℕ → Source
-having may_fail input = record { bytes = Some input; may_fail = may_fail }
+having failed input = record { bytes = Some input; failed = failed }
 
 abbrev pub holding : Bool → List ℕ → Known → StreamChange
-holding may_fail old new = record { old = Some old; new = new; may_fail = may_fail }
+holding failed old new = record { old = Some old; new = new; failed = failed }
 
 -- which fault is told of bytes that are refused is open, of these commands alone
 abbrev pub LeavesFaultOpen : Option Command → Type 0
@@ -52,7 +52,7 @@ MayDiffer words out a b status =
 
 -- what is said of two answers to one call
 module _ (words : List (Bor (List ℕ))) (input out err : List ℕ) where
-  -- streams that never fail: where memory doesn't run out, one status, and the writers are left in one way, but for the
+  -- streams that don't fail: where memory doesn't run out, one status, and the writers are left in one way, but for the
   -- name of such a fault
   abbrev pub SureCallIsPinned : Type 0
   SureCallIsPinned =
@@ -61,12 +61,12 @@ module _ (words : List (Bor (List ℕ))) (input out err : List ℕ) where
       AnswersCall words (having false input) (holding false out b) (holding false err q) t →
       (s ≢ 4) × (t ≢ 4) → (s ≡ t) × ((a ≡ b) ⊎ MayDiffer words out a b s) × (p ≡ q)
 
-  -- any streams: where memory doesn't run out, and no stream may have failed, one status, and one output
+  -- any streams, whichever fail: where memory doesn't run out, and no stream is told as failed, one status, and one output
   abbrev pub AnyCallIsPinned : Type 0
   AnyCallIsPinned =
-      (f g h : Bool) (a b p q : Known) (s t : ℕ) →
+      (f g h i j k : Bool) (a b p q : Known) (s t : ℕ) →
       AnswersCall words (having f input) (holding g out a) (holding h err p) s →
-      AnswersCall words (having f input) (holding g out b) (holding h err q) t →
+      AnswersCall words (having i input) (holding j out b) (holding k err q) t →
       (s ≢ 3) × (s ≢ 4) → (t ≢ 3) × (t ≢ 4) → (s ≡ t) × ((a ≡ b) ⊎ MayDiffer words out a b s)
 
 -- one call has one answer

@@ -11,16 +11,16 @@ use Rattle.buffa_bytes.specs.declared.error.EncodeError.TheVariants as of_encodi
 use Rattle.buffa_wire.specs.BudgetLeft.{BudgetLeft, defaults}
 use Rattle.buffa_wire.specs.Enums.{Numbers, Refines}
 use Rattle.buffa_bytes.specs.ErrorText.{decode_error_text}
-use Rattle.buffa_map_base.specs.Codec.{Reading}
-use Rattle.buffa_map_base.specs.Enums.{ClosedFits, closed_reading, closed_writing}
-use Rattle.buffa_map_base.specs.Pairs.{ListsOnce, means}
+use Rattle.buffa_map.specs.Codec.{Reading}
+use Rattle.buffa_map.specs.Enums.{ClosedFits, closed_reading, closed_writing}
+use Rattle.buffa_map.specs.Pairs.{ListsOnce, means}
 use Rattle.buffa_map.specs.Rewrite.{IsRewrite, KeepsMeaning}
-use Rattle.buffa_map_base.specs.Run.{EntryRecord, Run, fold_entries, run_of}
-use Rattle.buffa_map_base.specs.Encoding.{HasEncoding}
+use Rattle.buffa_map.specs.Run.{EntryRecord, Run, fold_entries, run_of}
+use Rattle.buffa_map.specs.Encoding.{HasEncoding}
 use Rattle.buffa_map.specs.declared.rewrite.RewriteError.{RewriteError}
 use Rattle.buffa_map.specs.declared.rewrite.RewriteError.TheVariants.{Decode, Encode}
-use Rattle.buffamap.specs.Choice.{number_of, two_numbers}
-use Rattle.buffa_map_base.specs.Scalars.{int32_reading, int32_writing}
+use Rattle.buffamap.specs.Choice.{choice_number, two_numbers}
+use Rattle.buffa_map.specs.Scalars.{int32_reading, int32_writing}
 use Rattle.buffamap.specs.Forms.{hex_bytes, without_newline}
 use Rattle.buffamap.specs.Reply.{Reply, bad_input, success, fault, hex_line}
 use Rattle.buffamap.specs.declared.choice.Choice.{Choice}
@@ -43,7 +43,7 @@ choice_run n bytes = run_of int32_reading choice_reading 100 n 8 1 defaults byte
 
 -- what is seen of a map's entries
 abbrev pub choices_of : List (ℤ × Choice) → List ChoicePair
-choices_of es = means (λ k. k) number_of es
+choices_of es = means (λ k. k) choice_number es
 
 -- out is a rewrite of the entries, the pairs of their map in the order of the keys
 abbrev pub RewritesTo : ℕ → List Entry → List ℕ → Type 0

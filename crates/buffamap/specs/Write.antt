@@ -1,9 +1,9 @@
 -- What `write N` answers: the field of a map whose pairs are given in lines.
 use Rattle.std.specs.Prelude.{◌≡◌, ℕ, nat_lt, Bool, List, length, ◌^◌, codes, Option, Some, None, if◌then◌else◌}
 use Rattle.std.specs.List.{list_all}
-use Rattle.buffa_map_base.specs.Codec.{Writing}
-use Rattle.buffa_map_base.specs.Encoding.{entry_encoding, field_encoding}
-use Rattle.buffa_map_base.specs.Scalars.{int32_writing, text_writing}
+use Rattle.buffa_map.specs.Codec.{Writing}
+use Rattle.buffa_map.specs.Encoding.{entry_encoding, field_encoding}
+use Rattle.buffa_map.specs.Scalars.{int32_writing, text_writing}
 use Rattle.buffamap.specs.Lines.{ListedInOrder, Pair, map_in}
 use Rattle.buffamap.specs.Reply.{Reply, bad_input, success, fault, hex_line}
 

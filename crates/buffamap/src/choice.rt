@@ -1,6 +1,6 @@
 // The enum whose values `rewrite N` knows.
 ghost use Rattle.std.specs.Prelude.{pos, refl};
-ghost use Rattle.buffamap.specs.Choice.{choice_of, number_of};
+ghost use Rattle.buffamap.specs.Choice.{choice_of, choice_number};
 
 use buffa::{Blank, Enumeration};
 use std::alloc::Global;
@@ -17,7 +17,7 @@ pub enum Choice {
 impl Blank for Choice {
     type Meaning = i32;
 
-    ghost meaning = { number_of };
+    ghost meaning = { choice_number };
 
     ghost blank_is = { pos 0 };
 

@@ -1,9 +1,11 @@
 //! What the definitions of the program say together: each law is a function with nothing to do, whose contract is
 //! the law.
 
-ghost use Rattle.std.specs.Prelude.{◌≡◌, false};
+ghost use Rattle.std.specs.Prelude.{◌≡◌, ℤ, None, Some, if◌then◌else◌, pos, false};
+ghost use Rattle.std.specs.Ordering.{int_eq};
 ghost use Rattle.buffa_bytes.specs.Number.{IsNumber};
 ghost use Rattle.buffamap.specs.Again.{RepliesToAgain};
+ghost use Rattle.buffamap.specs.Choice.{choice_of, choice_number};
 ghost use Rattle.buffamap.specs.Ext.{RepliesToExt};
 ghost use Rattle.buffamap.specs.Fault.{IsOfBytes, IsOfDigits, IsOfRewrite, IsOfEncoding};
 ghost use Rattle.buffamap.specs.Item.{RepliesToItem};
@@ -12,14 +14,14 @@ ghost use Rattle.buffamap.specs.Read.{RepliesToRead};
 ghost use Rattle.buffamap.specs.Rewrite.{RepliesToRewrite, RewriteKeepsMeaning};
 ghost use Rattle.buffamap.specs.Write.{RepliesToWrite};
 
-use crate::calls::{ReadCalls, SureCalls, WriteCalls};
+use crate::calls::{ReadCalls, WriteCalls};
 use crate::choice::Choice;
 use crate::fault::Fault;
 use buffa::map_codec::{ClosedEnum, Int32, RewriteError};
-use buffa::{DecodeError, EncodeError, MessageSpec};
+use buffa::{Blank, DecodeError, EncodeError, Enumeration, MessageSpec};
 use hex::FromHexError;
 use std::alloc::{AllocError, AllocFailed};
-use std::io::Sink;
+use std::io::{Read, Sink, Write};
 
 /// `read N` has one reply to each input. Memory is left open: the reply may be that it ran out.
 pub fn one_reply_to_read(number: u32)
@@ -72,6 +74,15 @@ pub fn one_reply_to_again<M: MessageSpec>()
     ensures there { HasReply (RepliesToAgain M.merged M.cost M.encoding M.blank_is) }
 {}
 
+/// Which numbers the enum of `rewrite N` declares, and no others, by which values, and its default. Nothing is open.
+pub fn choices_are_these()
+    ensures declared { (n : ℤ) → choice_of n
+        ≡ (if int_eq n (pos 0) then Some Choice.A else if int_eq n (pos 1) then Some Choice.B else None) }
+    ensures enumeration { ⟦<Choice as Enumeration>⟧.of_number ≡ choice_of }
+    ensures numbers { (choice_number Choice.A ≡ pos 0) × (choice_number Choice.B ≡ pos 1) }
+    ensures blank { ⟦<Choice as Blank>⟧.blank_is ≡ pos 0 }
+{}
+
 /// Which fault an error of a layer below is: no other, and out of memory where memory ran out. Nothing is open.
 pub fn faults_are_these<T: Drop>()
     ensures none { (e : AllocError) (f : Fault) → ⟦<Fault as From<AllocError>>⟧.from_gives e f → f ≡ Fault.OutOfMemory }
@@ -83,16 +94,19 @@ pub fn faults_are_these<T: Drop>()
     ensures rewrite { (e : RewriteError) (f : Fault) → ⟦<Fault as From<RewriteError>>⟧.from_gives e f → IsOfRewrite e f }
 {}
 
-/// A call of bytes in memory, as a reader, or of a sink that keeps nothing, as a writer, never fails. Nothing is open.
+/// A call of bytes in memory, as a reader, or of a sink that keeps nothing, as a writer, never fails; what is left to read is
+/// these bytes, and what a sink has is what std says of it. Nothing is open.
 pub fn sure_calls_never_fail()
-    ensures reader { ⟦<SureCalls as ReadCalls<&'static [u8]>>⟧.may_fail ≡ false }
-    ensures writer { ⟦<SureCalls as WriteCalls<Sink>>⟧.may_fail ≡ false }
+    ensures reader { (bytes : _) → ⟦<&'static [u8] as ReadCalls>⟧.failed bytes ≡ false }
+    ensures writer { (sink : _) → ⟦<Sink as WriteCalls>⟧.failed sink ≡ false }
+    ensures bytes { ⟦<&'static [u8] as ReadCalls>⟧.remaining ≡ ⟦<&'static [u8] as Read>⟧.remaining }
+    ensures contents { ⟦<Sink as WriteCalls>⟧.contents ≡ ⟦<Sink as Write>⟧.contents }
 {}
 
-/// One call of the program has one status, and leaves its output and its errors in one way, where no call of its
-/// streams may fail; where one may, it has one output still, if its status is neither 3 nor 4. Left open: that memory
-/// ran out; which fault `again` tells of bytes that it refuses; whether a stream that may fail did, and what of a line
-/// stands then, which is a beginning of it; and a reader or a writer that doesn't tell its bytes.
+/// One call of the program has one status, and leaves its output and its errors in one way, where no call of its streams
+/// failed; whichever failed, it has one output, if its status is neither 3 nor 4. Left open: that memory ran out; which
+/// fault `again` tells of bytes that it refuses; how much of a line stands on a stream that failed; and a reader or a
+/// writer that doesn't tell its bytes.
 pub fn one_answer_to_a_call(words: &[&str])
     ensures { CallIsPinned words.now }
 {}

@@ -2,7 +2,7 @@
 use Rattle.std.proofs.Common.{ℕ, zero, suc, arith}
 use Rattle.buffa_wire.specs.Parse.{Fits}
 use Rattle.buffa_wire.specs.Records.{records_of}
-use Rattle.buffa_samples.specs.Count.{count_records}
+use Rattle.sample_types.specs.Count.{count_records}
 
 pub count_fits : (n : ℕ) → Fits (records_of (count_records n))
 count_fits zero = tt

@@ -1,14 +1,14 @@
 // Which messages are read back.
 
-use buffa_fields_base::message::members_read_back;
+use buffa_fields::message::members_read_back;
 use buffa_map::map_codec::{Int32, MapCodec};
-use buffa_samples::count::CountMsg;
-use buffa_samples::flat::FlatMsg;
-use buffa_samples::keep::BudgetMsg;
-use buffa_samples::two::TestMsg;
 use buffa_wire::RECURSION_LIMIT;
 use conformance_extensions::normal::Normal;
 use conformance_extensions::written::are_written;
+use sample_types::count::CountMsg;
+use sample_types::flat::FlatMsg;
+use sample_types::keep::BudgetMsg;
+use sample_types::two::TestMsg;
 use std::marker::PhantomData;
 
 /// Says which samples are read back.

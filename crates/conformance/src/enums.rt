@@ -1,6 +1,5 @@
 // Values of an enum and their numbers.
 
-use buffa_samples::hues::Old;
 use buffa_wire::EnumValue;
 use conformance_rows::case::Case;
 use conformance_rows::fault::Fault;
@@ -8,6 +7,7 @@ use conformance_rows::mark::Mark;
 use conformance_rows::outcome::{Outcome, got, two_in_words};
 use conformance_rows::words::Worded;
 use conformance_words::Samples;
+use sample_types::hues::Old;
 use std::alloc::Global;
 
 // A value as it is read.

@@ -3,11 +3,6 @@
 use crate::back::{Back, Kept};
 use buffa_ext::codecs::EnumCodec;
 use buffa_ext::record::{Delimited, Grouped};
-use buffa_samples::count::CountMsg;
-use buffa_samples::flat::FlatMsg;
-use buffa_samples::hues::Old;
-use buffa_samples::keep::BudgetMsg;
-use buffa_samples::two::TestMsg;
 use buffa_wire::EnumValue;
 use conformance_extensions::{message as of_message, packable};
 use conformance_rows::case::Case;
@@ -15,6 +10,11 @@ use conformance_rows::fault::Fault;
 use conformance_rows::mark::Mark;
 use conformance_rows::outcome::Outcome;
 use conformance_words::Samples;
+use sample_types::count::CountMsg;
+use sample_types::flat::FlatMsg;
+use sample_types::hues::Old;
+use sample_types::keep::BudgetMsg;
+use sample_types::two::TestMsg;
 use std::alloc::Global;
 
 /// What comes of a row on an extension.

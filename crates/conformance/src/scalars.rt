@@ -1,12 +1,5 @@
 // Calls on scalars, strings, bytes and tags, and on defaults: those of samples too.
 
-use buffa_samples::count::CountMsg;
-use buffa_samples::flat::FlatMsg;
-use buffa_samples::hues::{New, Old};
-use buffa_samples::keep::BudgetMsg;
-use buffa_samples::tree::Tree;
-use buffa_samples::two::TestMsg;
-use buffa_samples::word::Word;
 use buffa_wire::{Buf, EnumValue};
 use conformance_rows::case::Case;
 use conformance_rows::fault::Fault;
@@ -15,6 +8,13 @@ use conformance_rows::outcome::Outcome;
 use conformance_wire::scalars::payload::{blank, decode, spell};
 use conformance_wire::scalars::texts::{OwnString, own_string};
 use conformance_words::Samples;
+use sample_types::count::CountMsg;
+use sample_types::flat::FlatMsg;
+use sample_types::hues::{New, Old};
+use sample_types::keep::BudgetMsg;
+use sample_types::tree::Tree;
+use sample_types::two::TestMsg;
+use sample_types::word::Word;
 use std::alloc::Global;
 
 /// What comes of a row that reads a scalar, a string, bytes or a tag.

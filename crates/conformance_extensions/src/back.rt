@@ -3,13 +3,13 @@
 use crate::sets::put;
 use crate::told::{Told, are_same, carrier_of, is_full, stand_told, words_of};
 use buffa_ext::{Extension, ExtensionCodec, set_then_read};
-use buffa_options::Carrier;
 use buffa_wire::{EncodeError, UnknownFields};
 use conformance_rows::case::Case;
 use conformance_rows::fault::Fault;
 use conformance_rows::mark::Mark;
 use conformance_rows::outcome::{Outcome, records_told, written};
 use conformance_rows::words::records_of;
+use sample_validator::Carrier;
 use std::alloc::Global;
 
 // The carrier then, and what was read.

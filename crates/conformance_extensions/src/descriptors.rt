@@ -2,13 +2,13 @@
 
 use crate::told::{carrier_of, found_told, got_told, words_of, words_told};
 use buffa_ext::{Extension, ExtensionCodec, ExtensionSet, NoDefault};
-use buffa_options::Carrier;
 use buffa_wire::Blank;
 use conformance_rows::case::Case;
 use conformance_rows::fault::Fault;
 use conformance_rows::mark::Mark;
 use conformance_rows::outcome::{Outcome, in_words};
 use conformance_rows::words::{Worded, joined};
+use sample_validator::Carrier;
 use std::alloc::{AllocError, Global};
 
 // A number and an extendee.

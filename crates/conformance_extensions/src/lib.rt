@@ -2,13 +2,13 @@
 #![tactic(auto)]
 
 mod back;
-mod changes;
 mod codecs;
 mod descriptors;
 mod messages;
 pub mod normal;
 mod reads;
 mod sets;
+mod steps;
 mod told;
 pub mod written;
 
@@ -152,8 +152,8 @@ pub fn extension<By>(alloc: Global, case: &Case<'_>, mark: &mut Mark) -> Result<
         "fixed32" => packable::<By, u32, Fixed32>(alloc, case, mark),
         "sfixed32" => packable::<By, i32, Sfixed32>(alloc, case, mark),
         "number" => packable::<By, i32, EnumI32>(alloc, case, mark),
-        "-" if case.call == "changes" => changes::changes(alloc, case, mark),
-        "-" if case.call == "replace" => changes::replaced(alloc, case, mark),
+        "-" if case.call == "steps" => steps::steps(alloc, case, mark),
+        "-" if case.call == "replace" => steps::replaced(alloc, case, mark),
         _ => of_longs::<By>(alloc, case, mark),
     }
 }

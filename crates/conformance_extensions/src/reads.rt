@@ -2,11 +2,11 @@
 
 use crate::told::{Told, carrier_of, found_told, got_told};
 use buffa_ext::{Extension, ExtensionCodec, ExtensionSet};
-use buffa_options::Carrier;
 use conformance_rows::case::Case;
 use conformance_rows::fault::Fault;
 use conformance_rows::mark::Mark;
 use conformance_rows::outcome::{Outcome, in_words, records_told, two_in_words};
+use sample_validator::Carrier;
 use std::alloc::{AllocError, Global};
 
 /// What a carrier's extension is read as.

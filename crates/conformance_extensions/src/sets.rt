@@ -3,13 +3,13 @@
 use crate::reads::read;
 use crate::told::{Told, asks_to_try, carrier_of, is_full, stand_told, words_of, written_told};
 use buffa_ext::{Extension, ExtensionCodec, ExtensionSet};
-use buffa_options::Carrier;
 use buffa_wire::{EncodeError, UnknownFields};
 use conformance_rows::case::Case;
 use conformance_rows::fault::Fault;
 use conformance_rows::mark::Mark;
 use conformance_rows::outcome::{Outcome, records_told};
 use conformance_rows::words::{records_of, records_word};
+use sample_validator::Carrier;
 use std::alloc::{AllocError, Global};
 
 /// Sets a value, by one of two calls that are alike.

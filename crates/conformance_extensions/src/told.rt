@@ -1,11 +1,11 @@
 // What codecs read, and what stands after a call, in words.
 
-use buffa_options::Carrier;
 use buffa_wire::{EncodeError, UnknownFields};
 use conformance_rows::case::Case;
 use conformance_rows::fault::Fault;
 use conformance_rows::outcome::{Outcome, got, records_told, written};
 use conformance_rows::words::{Worded, copied, joined, records_of, records_word};
+use sample_validator::Carrier;
 use std::alloc::{AllocError, Global};
 
 /// What a codec reads, in words, and the values that it writes, of words.

@@ -19,7 +19,8 @@ fn together<M: Message>(
     bytes: &[u8],
     ctx: DecodeContext<'_>,
 ) -> Result<(), DecodeError> {
-    message.merge(alloc, bytes, ctx)
+    let mut rest = bytes;
+    message.merge(alloc, &mut rest, ctx)
 }
 
 // The message that bytes are read as.

@@ -3,7 +3,7 @@
 ghost use Rattle.std.specs.Prelude.{◌≡◌, length};
 ghost use Rattle.buffa_bytes.specs.Number.{IsNumber};
 ghost use Rattle.buffa_wire.specs.Passes.{IsNext};
-ghost use Rattle.buffa_map_base.specs.MessageField.{IsFieldSized, field_slots};
+ghost use Rattle.buffa_map.specs.MessageField.{IsFieldSized, field_slots};
 
 use crate::slots::{sized_outcome, with_slots, with_slots_behind};
 use buffa_map::map_codec::{

@@ -4,7 +4,7 @@ ghost use Rattle.std.specs.Prelude.{◌≡◌, false};
 ghost use Rattle.std.specs.BTreeMap.{BTreeMap};
 ghost use Rattle.std.specs.HashMap.{HashMap};
 ghost use Rattle.std.specs.List.Sorted.{IsPermutation};
-ghost use Rattle.buffa_map_base.specs.Pairs.{means};
+ghost use Rattle.buffa_map.specs.Pairs.{means};
 
 use buffa_map::map_codec::{Map, MapCodec, MapStorage, MapWrite};
 use buffa_wire::{Blank, EncodeError, EncodeSink, MapKey};

@@ -26,7 +26,8 @@ fn merged<KC: MapCodec, M: Message, C: MapStorage<Key = KC::Value, Value = M>, B
         buf,
         ctx,
         |message: &mut M, bytes: &[u8], depth: u32, budget: &mut Budget| {
-            message.merge(alloc, bytes, DecodeContext { depth, budget })
+            let mut rest = bytes;
+            message.merge(alloc, &mut rest, DecodeContext { depth, budget })
         },
     )
 }

@@ -6,13 +6,6 @@ use crate::entries::{Entries, Runs};
 use crate::sizes::Written;
 use crate::storages::{OnMap, OnMessages, hashed, ordered, stored, stored_messages};
 use buffa_map::map_codec::{ClosedEnum, Int32, OpenEnum, ProtoStringMap, Str};
-use buffa_samples::count::CountMsg;
-use buffa_samples::flat::FlatMsg;
-use buffa_samples::hues::{New, Old};
-use buffa_samples::keep::BudgetMsg;
-use buffa_samples::tree::Tree;
-use buffa_samples::two::TestMsg;
-use buffa_samples::word::Word;
 use buffa_wire::Buf;
 use conformance_rows::calls::Kind;
 use conformance_rows::case::Case;
@@ -20,6 +13,13 @@ use conformance_rows::fault::Fault;
 use conformance_rows::mark::Mark;
 use conformance_rows::outcome::Outcome;
 use conformance_words::Samples;
+use sample_types::count::CountMsg;
+use sample_types::flat::FlatMsg;
+use sample_types::hues::{New, Old};
+use sample_types::keep::BudgetMsg;
+use sample_types::tree::Tree;
+use sample_types::two::TestMsg;
+use sample_types::word::Word;
 use std::alloc::Global;
 
 // A key that compares without regard to case.

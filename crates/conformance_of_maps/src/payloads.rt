@@ -1,13 +1,13 @@
 // Payloads of values that are no messages: those of enums and words too.
 
 use buffa_map::map_codec::{ClosedEnum, OpenEnum, ProtoStringMap};
-use buffa_samples::hues::{New, Old};
-use buffa_samples::word::Word;
 use conformance_rows::case::Case;
 use conformance_rows::fault::Fault;
 use conformance_rows::mark::Mark;
 use conformance_rows::outcome::Outcome;
 use conformance_words::{OnCodec, Samples};
+use sample_types::hues::{New, Old};
+use sample_types::word::Word;
 use std::alloc::Global;
 
 /// What comes of a row on the payload of a value.

@@ -2,16 +2,16 @@
 
 mod words;
 
-use buffa_kinds::explicit::Explicit;
-use buffa_kinds::implicit::Implicit;
-use buffa_kinds::joined::Joined;
-use buffa_kinds::separate::Separate;
 use conformance_messages::parted;
 use conformance_rows::calls::Kind;
 use conformance_rows::case::Case;
 use conformance_rows::fault::Fault;
 use conformance_rows::mark::Mark;
 use conformance_rows::outcome::Outcome;
+use sample_members::explicit::Explicit;
+use sample_members::implicit::Implicit;
+use sample_members::joined::Joined;
+use sample_members::separate::Separate;
 use std::alloc::Global;
 
 /// The words of messages of all scalars.

@@ -2,23 +2,25 @@
 
 mod words;
 
-use buffa_inventory::assorted::Assorted;
-use buffa_inventory::depot::Depot;
-use buffa_inventory::inventory::Inventory;
-use buffa_inventory::ledger::Ledger;
-use buffa_inventory::load::Load;
-use buffa_inventory::order::Order;
-use buffa_inventory::pallet::Pallet;
-use buffa_inventory::parcel::Parcel;
-use buffa_inventory::store::Store;
-use buffa_inventory::train::Train;
-use buffa_inventory::wagon::Wagon;
 use conformance_messages::parted;
 use conformance_rows::calls::Kind;
 use conformance_rows::case::Case;
 use conformance_rows::fault::Fault;
 use conformance_rows::mark::Mark;
 use conformance_rows::outcome::Outcome;
+use sample_inventory::assorted::Assorted;
+use sample_inventory::depot::Depot;
+use sample_inventory::inventory::Inventory;
+use sample_inventory::ledger::Ledger;
+use sample_inventory::load::Load;
+use sample_inventory::order::Order;
+use sample_inventory::pallet::Pallet;
+use sample_inventory::parcel::Parcel;
+use sample_inventory::store::Store;
+use sample_inventory::train::Train;
+use sample_inventory::wagon::Wagon;
+use sample_palette::palette::Palette;
+use sample_palette::swatch::Swatch;
 use std::alloc::Global;
 
 /// The words of messages from their fields.
@@ -39,9 +41,11 @@ pub fn on_members(
         "ledger" => parted::<Members, Ledger>(alloc, case, kind, mark, bytes),
         "load" => parted::<Members, Load>(alloc, case, kind, mark, bytes),
         "order" => parted::<Members, Order>(alloc, case, kind, mark, bytes),
+        "palette" => parted::<Members, Palette>(alloc, case, kind, mark, bytes),
         "pallet" => parted::<Members, Pallet>(alloc, case, kind, mark, bytes),
         "parcel" => parted::<Members, Parcel>(alloc, case, kind, mark, bytes),
         "store" => parted::<Members, Store>(alloc, case, kind, mark, bytes),
+        "swatch" => parted::<Members, Swatch>(alloc, case, kind, mark, bytes),
         "train" => parted::<Members, Train>(alloc, case, kind, mark, bytes),
         "wagon" => parted::<Members, Wagon>(alloc, case, kind, mark, bytes),
         _ => Err(Fault::Form),

@@ -7,8 +7,6 @@ mod words;
 use crate::nodes::merges::merge;
 use crate::nodes::sets::extension;
 use buffa_map::map_codec::Msg;
-use buffa_node::node::Node;
-use buffa_set_msg::SetMsg;
 use buffa_wire::{Buf, Message};
 use conformance_messages::{delimited, message};
 use conformance_rows::calls::Kind;
@@ -18,6 +16,8 @@ use conformance_rows::mark::Mark;
 use conformance_rows::outcome::Outcome;
 use conformance_rows::words::Worded;
 use conformance_words::payload;
+use sample_node::node::Node;
+use sample_set_msg::SetMsg;
 use std::alloc::Global;
 
 /// The words of nodes and MessageSets.

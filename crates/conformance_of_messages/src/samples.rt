@@ -1,11 +1,6 @@
 // Calls on samples that are messages.
 
 use buffa_map::map_codec::Msg;
-use buffa_samples::count::CountMsg;
-use buffa_samples::flat::FlatMsg;
-use buffa_samples::keep::BudgetMsg;
-use buffa_samples::tree::Tree;
-use buffa_samples::two::TestMsg;
 use buffa_wire::{Buf, Message};
 use conformance_messages::delimited;
 use conformance_rows::calls::Kind;
@@ -15,6 +10,11 @@ use conformance_rows::mark::Mark;
 use conformance_rows::outcome::Outcome;
 use conformance_rows::words::Worded;
 use conformance_words::{Samples, payload};
+use sample_types::count::CountMsg;
+use sample_types::flat::FlatMsg;
+use sample_types::keep::BudgetMsg;
+use sample_types::tree::Tree;
+use sample_types::two::TestMsg;
 use std::alloc::Global;
 
 // A length and so many bytes: merged into a message, or read as the payload of a value that is one.

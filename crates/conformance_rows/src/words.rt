@@ -1,6 +1,9 @@
 // Values as the words of a table.
 
-use buffa_wire::{Blank, UnknownFields};
+use buffa_wire::{
+    Blank, Budget, DEFAULT_UNKNOWN_FIELD_LIMIT, DecodeContext, DecodeError, RECURSION_LIMIT, Tag,
+    UnknownField, UnknownFields, decode_unknown_field,
+};
 use bytes::Bytes;
 use conformance_tables::fault::Fault;
 use conformance_tables::outcome::in_words;
@@ -106,13 +109,34 @@ impl<By> Worded<By> for Bytes {
     }
 }
 
-/// The records that hexadecimal digits are.
-pub fn records_of(alloc: Global, digits: &str) -> Result<UnknownFields, Fault> {
-    let text = hex::decode(alloc, digits)?;
-    match UnknownFields::decode_from_slice(alloc, text.as_slice()) {
-        Ok(fields) => Ok(fields),
+// The next record of bytes, which may hold as many as a budget allows.
+fn next_record(alloc: Global, bytes: &mut &[u8]) -> Result<UnknownField, DecodeError> {
+    let mut budget = Budget::new(DEFAULT_UNKNOWN_FIELD_LIMIT);
+    let tag = Tag::decode(bytes)?;
+    let ctx = DecodeContext::new(RECURSION_LIMIT, &mut budget);
+    decode_unknown_field(alloc, tag, bytes, ctx)
+}
+
+// Puts the next record of bytes behind others.
+fn push_next(alloc: Global, fields: &mut UnknownFields, bytes: &mut &[u8]) -> Result<(), Fault> {
+    match next_record(alloc, bytes) {
+        Ok(field) => Ok(fields.push(field)?),
         Err(_) => Err(Fault::Form),
     }
+}
+
+/// The records that hexadecimal digits are; more of them than a budget allows, where no record alone has more.
+pub fn records_of(alloc: Global, digits: &str) -> Result<UnknownFields, Fault> {
+    let text = hex::decode(alloc, digits)?;
+    let mut bytes = text.as_slice();
+    let mut fields = UnknownFields::new(alloc);
+    for _ in 0..text.len() {
+        if bytes.is_empty() {
+            return Ok(fields);
+        }
+        push_next(alloc, &mut fields, &mut bytes)?;
+    }
+    Ok(fields)
 }
 
 /// The hexadecimal digits of records.

@@ -27,7 +27,7 @@ pub enum Group {
     Kinds,
     /// It writes a map, or puts a pair into it; the map stands in any storage.
     Writes,
-    /// It writes the payload of a value.
+    /// It writes the payload of a value, or measures it.
     Spelled,
     /// It is done with records.
     Records,
@@ -67,7 +67,7 @@ pub fn group_of(call: &str) -> Group {
         Group::Kinds
     } else if is_among(call, "write size size-and-write put") {
         Group::Writes
-    } else if is_among(call, "spell-payload") {
+    } else if is_among(call, "spell-payload payload-len") {
         Group::Spelled
     } else if is_among(call, "records twice retain") {
         Group::Records

@@ -7,7 +7,7 @@
 //! [`runs`] runs the rows on standard input, and tells which of them don't hold. Without a word each row is run whole,
 //! cut in every way, and where it is accepted each beginning of it. With the word `refused` each row is run with its
 //! requests for memory refused, one after the other, by `tests/refuse.c`. A row that says `ways=once` is run whole
-//! alone. What does the call of a row is a program's own: a type that is [`on_bytes::CallsOnBytes`].
+//! alone, and of its requests the first fifty are refused, and the last ten. What does the call of a row is a program's own: a type that is [`on_bytes::CallsOnBytes`].
 #![tactic(auto)]
 
 pub mod calls;

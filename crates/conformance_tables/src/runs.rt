@@ -29,12 +29,11 @@ fn run_by<C: CallsOnBytes>(
     refusing: bool,
     tally: &mut Tally,
 ) {
-    if run.case.says("ways", "once") {
-        run.whole::<C>(alloc, bytes, tally);
-    } else if refusing {
-        run.refused::<C>(alloc, bytes, tally);
-    } else {
-        run.each_way::<C>(alloc, bytes, tally);
+    match (run.case.says("ways", "once"), refusing) {
+        (true, true) => run.refused_at_ends::<C>(alloc, bytes, tally),
+        (true, false) => run.whole::<C>(alloc, bytes, tally),
+        (false, true) => run.refused::<C>(alloc, bytes, tally),
+        (false, false) => run.each_way::<C>(alloc, bytes, tally),
     }
 }
 

@@ -3,7 +3,7 @@
 use crate::calls::{Kind, keeps_a_map, reads_a_buffer, reads_bytes, reads_to_the_end};
 use crate::case::{Case, given};
 use crate::fault::Fault;
-use crate::mark::Mark;
+use crate::mark::{Mark, NO_REQUEST};
 use crate::on_bytes::CallsOnBytes;
 use crate::outcome::{Found, Outcome, and};
 use crate::tally::Tally;
@@ -449,6 +449,15 @@ impl Run<'_> {
         tally.add(false);
     }
 
+    // Counts whether an outcome is the row's, and no request was made that could be refused.
+    fn tell_none(&self, alloc: Global, found: Found, tally: &mut Tally) {
+        if let Some(outcome) = tally.kept(found) {
+            let right = self.is_right(alloc, &outcome);
+            tally.add(!outcome.refused);
+            tally.add_told(right);
+        }
+    }
+
     // All requests refused of a row in two.
     fn in_two_with_none<C: CallsOnBytes>(
         &self,
@@ -458,22 +467,22 @@ impl Run<'_> {
         tally: &mut Tally,
     ) {
         let parts: [&[u8]; 2] = [front, back];
-        self.tell(alloc, self.pieces::<C>(alloc, &parts, Some(0)), tally);
+        self.tell_none(alloc, self.pieces::<C>(alloc, &parts, Some(0)), tally);
     }
 
-    // All requests refused of a row that takes none, cut: in single bytes, and in two.
+    // All requests refused of a row that makes none, cut: in single bytes, and in two.
     fn cut_with_none<C: CallsOnBytes>(&self, alloc: Global, bytes: &[u8], tally: &mut Tally) {
-        self.tell(alloc, self.by::<C>(alloc, bytes, true, 0), tally);
+        self.tell_none(alloc, self.by::<C>(alloc, bytes, true, 0), tally);
         for cut in 0..=bytes.len() {
             self.in_two_with_none::<C>(alloc, &bytes[..cut], &bytes[cut..], tally);
         }
     }
 
-    // All requests refused of a row that says that it takes none (`none`), or none of bytes in one piece (`whole`).
+    // All requests refused of a row that says that it makes none (`none`), or none of bytes in one piece (`whole`).
     fn with_none<C: CallsOnBytes>(&self, alloc: Global, bytes: &[u8], tally: &mut Tally) {
         let none = self.case.says("memory", "none");
         if none || self.case.says("memory", "whole") {
-            self.tell(alloc, self.by::<C>(alloc, bytes, false, 0), tally);
+            self.tell_none(alloc, self.by::<C>(alloc, bytes, false, 0), tally);
         }
         if none {
             self.cut_with_none::<C>(alloc, bytes, tally);
@@ -481,11 +490,77 @@ impl Run<'_> {
     }
 
     /// Each request for memory refused in turn, whole and in single bytes; and all of them, where the row says that
-    /// it takes none.
+    /// it makes none, and it is seen that it made none.
     pub fn refused<C: CallsOnBytes>(&self, alloc: Global, bytes: &[u8], tally: &mut Tally) {
         let may = self.may_stand::<C>(alloc, bytes, tally);
         self.refused_by::<C>(alloc, bytes, false, may.as_str(), tally);
         self.refused_by::<C>(alloc, bytes, true, may.as_str(), tally);
         self.with_none::<C>(alloc, bytes, tally);
+    }
+
+    // Whether records of a length end at a place near one of both ends of bytes: of the first sixty-four, or the last
+    // twelve.
+    fn is_near_an_end(&self, place: usize, step: usize, len: usize) -> bool {
+        place.checked_rem(step) == Some(0)
+            && (place < step.saturating_mul(64)
+                || len.saturating_sub(place) < step.saturating_mul(12))
+    }
+
+    // What may stand where one of the first or last requests is refused: what stood before, and where the row says how
+    // long each of its records is what those near both ends make.
+    fn may_stand_at_ends<C: CallsOnBytes>(
+        &self,
+        alloc: Global,
+        bytes: &[u8],
+        step: usize,
+        tally: &mut Tally,
+    ) -> String {
+        let mut lines = String::new(alloc);
+        tally.note(push_line(&mut lines, self.start(alloc)));
+        for cut in 0..=bytes.len() {
+            if self.is_near_an_end(cut, step, bytes.len()) {
+                self.push_standing::<C>(alloc, &bytes[..cut], &mut lines, tally);
+            }
+        }
+        lines
+    }
+
+    // How many requests the call makes where none is refused.
+    fn count<C: CallsOnBytes>(&self, alloc: Global, bytes: &[u8], tally: &mut Tally) -> u64 {
+        self.tell(
+            alloc,
+            self.slice::<C>(alloc, bytes, Some(NO_REQUEST)),
+            tally,
+        );
+        Mark::new(self.errors, Some(0)).requests(alloc)
+    }
+
+    // Some of the requests of a call refused in turn.
+    fn some_refused<C: CallsOnBytes>(
+        &self,
+        alloc: Global,
+        bytes: &[u8],
+        which: (u64, u64),
+        may: &str,
+        tally: &mut Tally,
+    ) {
+        for nth in which.0..=which.1 {
+            let found = self.slice::<C>(alloc, bytes, Some(nth));
+            if !self.tell_refused(alloc, found, may, tally) {
+                tally.add(false);
+            }
+        }
+    }
+
+    /// The first fifty requests for memory refused in turn, and the last ten, of a row that is run once.
+    pub fn refused_at_ends<C: CallsOnBytes>(&self, alloc: Global, bytes: &[u8], tally: &mut Tally) {
+        let Ok(step) = self.case.number_or("step", 0) else {
+            return tally.add(false);
+        };
+        let may = self.may_stand_at_ends::<C>(alloc, bytes, step as usize, tally);
+        let all = self.count::<C>(alloc, bytes, tally);
+        self.some_refused::<C>(alloc, bytes, (1, all.min(50)), may.as_str(), tally);
+        let last = all.saturating_sub(9).max(51);
+        self.some_refused::<C>(alloc, bytes, (last, all), may.as_str(), tally);
     }
 }

@@ -9,7 +9,7 @@ use buffa_wire::{Budget, Buf, DecodeContext, DecodeError, EncodeError};
 use conformance_rows::case::Case;
 use conformance_rows::fault::Fault;
 use conformance_rows::mark::Mark;
-use conformance_rows::outcome::{Outcome, in_words, left, text_told, told, written};
+use conformance_rows::outcome::{Outcome, got, in_words, left, text_told, told, written};
 use conformance_rows::words::{Worded, copied, joined};
 use std::alloc::Global;
 
@@ -112,6 +112,24 @@ where
     Outcome::of_words(alloc, written(alloc, answer), words, text, refused)
 }
 
+// What comes of a row that asks how long the payload of a value is; nothing is written.
+fn measure<By, VC: MapCodec>(
+    alloc: Global,
+    case: &Case<'_>,
+    mark: &mut Mark,
+) -> Result<Outcome, Fault>
+where
+    VC::Value: Worded<By>,
+{
+    let value = <VC::Value as Worded<By>>::of_word(alloc, case.input())?;
+    mark.begin(alloc);
+    let len = VC::encoded_len(&value);
+    let refused = mark.end();
+    let words = in_words(alloc, &len);
+    let none = Ok(String::new(alloc));
+    Outcome::of_words(alloc, got(alloc, true), words, none, refused)
+}
+
 /// What a row does with the codec that its type names.
 pub trait OnCodec<By>: Drop {
     /// What comes of it.
@@ -146,7 +164,7 @@ impl<By, B: Buf> OnCodec<By> for Read<'_, B> {
     }
 }
 
-/// A payload that is written.
+/// A payload that is written, or measured.
 #[derive(Drop)]
 pub struct Spelled;
 
@@ -160,7 +178,10 @@ impl<By> OnCodec<By> for Spelled {
     where
         VC::Value: Worded<By>,
     {
-        spell::<By, VC>(alloc, case, mark)
+        match case.call {
+            "payload-len" => measure::<By, VC>(alloc, case, mark),
+            _ => spell::<By, VC>(alloc, case, mark),
+        }
     }
 }
 

@@ -2,19 +2,19 @@
 
 use crate::Samples;
 use buffa_map::map_codec::MapWalk;
-use buffa_samples::count::CountMsg;
-use buffa_samples::flat::FlatMsg;
-use buffa_samples::hues::{New, Old};
-use buffa_samples::keep::BudgetMsg;
-use buffa_samples::tree::Tree;
-use buffa_samples::two::TestMsg;
-use buffa_samples::word::Word;
 use buffa_wire::{EnumValue, Enumeration};
 use conformance_rows::fault::Fault;
 use conformance_rows::outcome::in_words;
 use conformance_rows::words::{
     Worded, copied, joined, records_of, records_word, text_word, unknown_word, word_text,
 };
+use sample_types::count::CountMsg;
+use sample_types::flat::FlatMsg;
+use sample_types::hues::{New, Old};
+use sample_types::keep::BudgetMsg;
+use sample_types::tree::Tree;
+use sample_types::two::TestMsg;
+use sample_types::word::Word;
 use std::alloc::Global;
 
 impl Worded<Samples> for Word {

@@ -1,13 +1,13 @@
 // Messages of all scalars as words; no message is read of a word.
 
 use crate::kinds::Kinds;
-use buffa_kinds::explicit::Explicit;
-use buffa_kinds::implicit::Implicit;
-use buffa_kinds::joined::Joined;
-use buffa_kinds::separate::Separate;
 use conformance_messages::{Parted, Parts, parted_word};
 use conformance_rows::fault::Fault;
 use conformance_rows::words::Worded;
+use sample_members::explicit::Explicit;
+use sample_members::implicit::Implicit;
+use sample_members::joined::Joined;
+use sample_members::separate::Separate;
 use std::alloc::Global;
 
 impl Parted<Kinds> for Explicit {

@@ -1,23 +1,26 @@
 // Messages from their fields as words; no message is read of a word.
 
 use crate::members::Members;
-use buffa_inventory::assorted::Assorted;
-use buffa_inventory::depot::Depot;
-use buffa_inventory::inventory::Inventory;
-use buffa_inventory::ledger::Ledger;
-use buffa_inventory::load::Load;
-use buffa_inventory::order::Order;
-use buffa_inventory::pallet::Pallet;
-use buffa_inventory::parcel::Parcel;
-use buffa_inventory::state::State;
-use buffa_inventory::store::Store;
-use buffa_inventory::train::Train;
-use buffa_inventory::wagon::Wagon;
-use buffa_wire::EnumValue;
+use buffa_wire::{EnumValue, Enumeration};
 use conformance_messages::{Parted, Parts, parted_word};
 use conformance_rows::fault::Fault;
 use conformance_rows::outcome::in_words;
 use conformance_rows::words::{Worded, unknown_word};
+use sample_inventory::assorted::Assorted;
+use sample_inventory::depot::Depot;
+use sample_inventory::inventory::Inventory;
+use sample_inventory::ledger::Ledger;
+use sample_inventory::load::Load;
+use sample_inventory::order::Order;
+use sample_inventory::pallet::Pallet;
+use sample_inventory::parcel::Parcel;
+use sample_inventory::state::State;
+use sample_inventory::store::Store;
+use sample_inventory::train::Train;
+use sample_inventory::wagon::Wagon;
+use sample_palette::palette::Palette;
+use sample_palette::shade::Shade;
+use sample_palette::swatch::Swatch;
 use std::alloc::Global;
 
 // A declared value is known; any other stands behind a question mark.
@@ -30,6 +33,17 @@ impl Worded<Members> for EnumValue<State> {
     }
 
     fn of_word(_alloc: Global, _word: &str) -> Result<EnumValue<State>, Fault> {
+        Err(Fault::Form)
+    }
+}
+
+// A closed enum has declared values alone.
+impl Worded<Members> for Shade {
+    fn word(&self, alloc: Global) -> Result<String, Fault> {
+        in_words(alloc, &self.to_i32())
+    }
+
+    fn of_word(_alloc: Global, _word: &str) -> Result<Shade, Fault> {
         Err(Fault::Form)
     }
 }
@@ -159,6 +173,30 @@ impl Worded<Members> for Order {
     }
 }
 
+impl Parted<Members> for Palette {
+    fn parts(&self, parts: &mut Parts<Members>) {
+        parts.value(1, &self.total);
+        parts.map(3, &self.shades);
+        parts.maybe(4, &self.s);
+        parts.list(5, self.list.as_slice());
+        parts.list(6, self.packed.as_slice());
+        parts.map(7, &self.ordered);
+        parts.maybe(8, &self.swatch);
+        parts.maybe(9, &self.patch);
+        parts.kept(&self.rest);
+    }
+}
+
+impl Worded<Members> for Palette {
+    fn word(&self, alloc: Global) -> Result<String, Fault> {
+        parted_word::<Members, _>(alloc, self)
+    }
+
+    fn of_word(_alloc: Global, _word: &str) -> Result<Palette, Fault> {
+        Err(Fault::Form)
+    }
+}
+
 impl Parted<Members> for Pallet {
     fn parts(&self, parts: &mut Parts<Members>) {
         parts.value(1, &self.mark);
@@ -207,6 +245,24 @@ impl Worded<Members> for Store {
     }
 
     fn of_word(_alloc: Global, _word: &str) -> Result<Store, Fault> {
+        Err(Fault::Form)
+    }
+}
+
+impl Parted<Members> for Swatch {
+    fn parts(&self, parts: &mut Parts<Members>) {
+        parts.maybe(1, &self.shade);
+        parts.list(2, self.others.as_slice());
+        parts.kept(&self.rest);
+    }
+}
+
+impl Worded<Members> for Swatch {
+    fn word(&self, alloc: Global) -> Result<String, Fault> {
+        parted_word::<Members, _>(alloc, self)
+    }
+
+    fn of_word(_alloc: Global, _word: &str) -> Result<Swatch, Fault> {
         Err(Fault::Form)
     }
 }

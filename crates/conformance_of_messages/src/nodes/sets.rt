@@ -3,7 +3,6 @@
 use crate::nodes::Nodes;
 use buffa_ext::codecs::{BytesCodec, Int32, Repeated, StringCodec};
 use buffa_ext::{Extension, ExtensionCodec, ExtensionSet};
-use buffa_set_msg::SetMsg;
 use buffa_wire::{EncodeError, Message};
 use conformance_messages::merges::standing;
 use conformance_rows::case::Case;
@@ -11,6 +10,7 @@ use conformance_rows::fault::Fault;
 use conformance_rows::mark::Mark;
 use conformance_rows::outcome::{Outcome, got, text_told, two_in_words, written};
 use conformance_rows::words::{Worded, copied, joined};
+use sample_set_msg::SetMsg;
 use std::alloc::{AllocError, Global};
 
 // What a codec reads, in words.

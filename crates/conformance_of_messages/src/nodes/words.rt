@@ -2,13 +2,13 @@
 
 use crate::nodes::Nodes;
 use buffa_map::map_codec::MapWalk;
-use buffa_node::node::Node;
-use buffa_node::shade::Shade;
-use buffa_set_msg::SetMsg;
 use buffa_wire::Enumeration;
 use conformance_rows::fault::Fault;
 use conformance_rows::outcome::in_words;
 use conformance_rows::words::{Worded, copied, joined, records_word, text_word};
+use sample_node::node::Node;
+use sample_node::shade::Shade;
+use sample_set_msg::SetMsg;
 use std::alloc::Global;
 use std::collections::BTreeMap;
 

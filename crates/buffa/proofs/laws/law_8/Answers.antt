@@ -1,5 +1,5 @@
-use Rattle.buffa_map_base.proofs.SizeLemmas.{length-field_encoding}
-use Rattle.buffa_map_base.specs.Scalars.{delimited_writing}
+use Rattle.buffa_map.proofs.SizeLemmas.{length-field_encoding}
+use Rattle.buffa_map.specs.Scalars.{delimited_writing}
 use Rattle.buffa.proofs.laws.law_8.Goals as goal
 
 pub returns-clause-messages : goal.returns-clause-messages

@@ -1,5 +1,5 @@
 use Rattle.std.proofs.Common.{◌≡◌, length, map, take}
-use Rattle.buffa_map_base.specs.Encoding.{saturated}
+use Rattle.buffa_map.specs.Encoding.{saturated}
 use Rattle.buffa_fields.proofs.packed.payloads_len.Given as goal
 use Rattle.buffa_wire.specs.Encoding.{encodings}
 

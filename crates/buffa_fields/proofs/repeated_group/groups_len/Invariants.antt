@@ -1,7 +1,7 @@
 use Rattle.std.proofs.Common.{map, take}
 use Rattle.buffa_wire.specs.Passes.{IsSized}
 use Rattle.buffa_wire.specs.Encoding.{records_encoding}
-use Rattle.buffa_fields_base.specs.LayoutFacts.{sum}
+use Rattle.buffa_fields.specs.LayoutFacts.{sum}
 use Rattle.buffa_fields.specs.Groups.{group_datum}
 use Rattle.buffa_fields.specs.Lists.{element_records}
 use Rattle.buffa_fields.specs.RepeatedNested.{messages_slots}

@@ -1,7 +1,7 @@
 use Rattle.std.proofs.Common.{map, take}
 use Rattle.buffa_wire.specs.Passes.{IsSized}
 use Rattle.buffa_wire.specs.Encoding.{records_encoding}
-use Rattle.buffa_fields_base.specs.LayoutFacts.{sum}
+use Rattle.buffa_fields.specs.LayoutFacts.{sum}
 use Rattle.buffa_fields.specs.RepeatedNested.{messages_records, messages_slots}
 use Rattle.buffa_fields.proofs.repeated_nested.messages_len.Given as goal
 

@@ -1,4 +1,4 @@
-use Rattle.buffa_map_base.proofs.NeedLemmas.{entry_limited}
+use Rattle.buffa_map.proofs.NeedLemmas.{entry_limited}
 use Rattle.buffa_map.proofs.map_laws.limits_are_told_where_needs_are_not_left.Goals as goal
 
 pub returns : goal.returns

@@ -1,8 +1,8 @@
 use Rattle.std.proofs.Common.{◌∙◌, sym, ap}
 use Rattle.buffa_wire.specs.BudgetLeft.{BudgetLeft, plus}
-use Rattle.buffa_map_base.specs.Run.{inner_needs}
+use Rattle.buffa_map.specs.Run.{inner_needs}
 use Rattle.buffa_wire.proofs.SequenceLemmas.{ok_same, ok_no_err}
-use Rattle.buffa_map_base.proofs.RunLemmas.{run_complete, run_faulty}
+use Rattle.buffa_map.proofs.RunLemmas.{run_complete, run_faulty}
 use Rattle.std.proofs.Common.{arith}
 use Rattle.buffa_map.proofs.FrontLemmas.{entry_no_fault, paid_no_fault, same_entry, same_front}
 use Rattle.buffa_map.proofs.map_laws.one_reading.Goals as goal

@@ -1,5 +1,5 @@
 use Rattle.buffa_map.proofs.PlainLemmas.{exact_merge, exact_refusal}
-use Rattle.buffa_map_base.specs.Merge.{rules}
+use Rattle.buffa_map.specs.Merge.{rules}
 use Rattle.buffa_map.proofs.map_laws.plain_entries_are_exact.Goals as goal
 
 pub returns : goal.returns

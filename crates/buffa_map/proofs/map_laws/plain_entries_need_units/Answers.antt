@@ -1,10 +1,10 @@
 use Rattle.std.proofs.Common.{◌≡◌, ◌+◌, ap, arith}
 use Rattle.buffa_wire.specs.BudgetLeft.{units}
 use Rattle.buffa_bytes.specs.Front.{delimited_at, tag_at}
-use Rattle.buffa_map_base.specs.Entry.{blanks, inner_need, need_at}
-use Rattle.buffa_map_base.proofs.EntryLemmas.{need_by-nothing}
-use Rattle.buffa_map_base.proofs.NeedLemmas.{need_free}
-use Rattle.buffa_map_base.proofs.RunLemmas.{inner_free}
+use Rattle.buffa_map.specs.Entry.{blanks, inner_need, need_at}
+use Rattle.buffa_map.proofs.EntryLemmas.{need_by-nothing}
+use Rattle.buffa_map.proofs.NeedLemmas.{need_free}
+use Rattle.buffa_map.proofs.RunLemmas.{inner_free}
 use Rattle.buffa_map.proofs.map_laws.plain_entries_need_units.Goals as goal
 
 pub returns : goal.returns

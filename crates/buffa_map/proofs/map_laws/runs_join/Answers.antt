@@ -1,4 +1,4 @@
-use Rattle.buffa_map_base.proofs.RunLemmas.{fold_entries-append, undeclared-append, Run-join}
+use Rattle.buffa_map.proofs.RunLemmas.{fold_entries-append, undeclared-append, Run-join}
 use Rattle.buffa_map.proofs.map_laws.runs_join.Goals as goal
 
 pub returns : goal.returns

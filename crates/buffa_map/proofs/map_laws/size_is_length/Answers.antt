@@ -1,4 +1,4 @@
-use Rattle.buffa_map_base.proofs.SizeLemmas.{length-field_encoding}
+use Rattle.buffa_map.proofs.SizeLemmas.{length-field_encoding}
 use Rattle.buffa_map.proofs.map_laws.size_is_length.Goals as goal
 
 pub returns : goal.returns

@@ -1,7 +1,7 @@
 use Rattle.std.proofs.Common.{◌≡◌, ℕ, List, Ok, subst, sym}
 use Rattle.buffa_bytes.proofs.StepLemmas.{agree_err, agree_ok}
-use Rattle.buffa_map_base.specs.Codec.{value_at}
-use Rattle.buffa_map_base.proofs.EntryLemmas.{value_complete, value_sound}
+use Rattle.buffa_map.specs.Codec.{value_at}
+use Rattle.buffa_map.proofs.EntryLemmas.{value_complete, value_sound}
 use Rattle.buffa_map.proofs.map_laws.values_are_read.Goals as goal
 
 pub returns : goal.returns

@@ -1,4 +1,4 @@
-use Rattle.buffa_map_base.proofs.WalkLemmas.{one_size, permuted}
+use Rattle.buffa_map.proofs.WalkLemmas.{one_size, permuted}
 use Rattle.buffa_map.proofs.map_laws.walks_agree.Goals as goal
 
 pub returns : goal.returns

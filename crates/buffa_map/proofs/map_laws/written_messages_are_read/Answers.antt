@@ -3,8 +3,8 @@ use Rattle.std.proofs.Common.{◌∙◌, ◌<◌, arith, refl, sym, map}
 use Rattle.buffa_wire.specs.Parse.{Fits}
 use Rattle.buffa_wire.specs.Passes.{IsSmall}
 use Rattle.buffa_wire.specs.Records.{records_of}
-use Rattle.buffa_map_base.specs.Message.{message_reading}
-use Rattle.buffa_map_base.specs.Scalars.{delimited_writing}
+use Rattle.buffa_map.specs.Message.{message_reading}
+use Rattle.buffa_map.specs.Scalars.{delimited_writing}
 use Rattle.buffa_map.proofs.BackLemmas.{all_declared, all_small, as_record, both_hold, fold_back, message_back, plain_back, run_back, small_encoding}
 use Rattle.buffa_map.proofs.map_laws.written_messages_are_read.Goals as goal
 

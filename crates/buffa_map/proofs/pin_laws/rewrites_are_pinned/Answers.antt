@@ -1,4 +1,4 @@
-use Rattle.buffa_map_base.specs.Merge.{keeping}
+use Rattle.buffa_map.specs.Merge.{keeping}
 use Rattle.buffa_map.proofs.PinEncodingLemmas.{rewrite_is_pinned}
 use Rattle.buffa_map.proofs.pin_laws.rewrites_are_pinned.Goals as goal
 

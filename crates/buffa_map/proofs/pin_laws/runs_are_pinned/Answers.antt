@@ -1,4 +1,4 @@
-use Rattle.buffa_map_base.specs.Merge.{rules}
+use Rattle.buffa_map.specs.Merge.{rules}
 use Rattle.buffa_map.proofs.PinLemmas.{run_is_pinned}
 use Rattle.buffa_map.proofs.pin_laws.runs_are_pinned.Goals as goal
 

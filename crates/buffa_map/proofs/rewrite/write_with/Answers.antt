@@ -1,7 +1,7 @@
 use Rattle.std.proofs.lemmas.Result.{err_from_is_err_and}
 use Rattle.buffa_wire.specs.Encoding.{records_encoding}
 use Rattle.buffa_bytes.proofs.ResultLemmas.{OnOk-always}
-use Rattle.buffa_map_write.proofs.WriteLemmas.{no_room_for_both, rewrite_refused, rewrite_written, room_of_both}
+use Rattle.buffa_map.proofs.WriteLemmas.{no_room_for_both, rewrite_refused, rewrite_written, room_of_both}
 use Rattle.buffa_map.proofs.rewrite.write_with.Goals as goal
 
 pub returns-in_err-storage_write : goal.returns-in_err-storage_write

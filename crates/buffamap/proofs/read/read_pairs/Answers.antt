@@ -2,7 +2,7 @@ use Rattle.std.proofs.Common.{ap, ◌∙◌, ◌≡◌, [], refl}
 use Rattle.std.specs.Prelude.{nat_eq}
 use Rattle.std.specs.Cmp.Lexicographic.{pointwise}
 use Rattle.buffa_wire.specs.BudgetLeft.{BudgetLeft, defaults}
-use Rattle.buffa_map_base.specs.Scalars.{int32_reading, text_reading}
+use Rattle.buffa_map.specs.Scalars.{int32_reading, text_reading}
 use Rattle.buffamap.specs.Lines.{pairs_of}
 use Rattle.buffamap.proofs.ReadReplyLemmas.{means}
 use Rattle.buffamap.proofs.RunReplyLemmas.{ran, stopped}

@@ -5,4 +5,4 @@ use Rattle.buffamap.proofs.stream.read_whole.Goals as goal
 pub returns-in-Ok-eq0-clause-bytes : goal.returns-in-Ok-eq0-clause-bytes
 returns-in-Ok-eq0-clause-bytes g c =
     let read = rw c.in-Ok-eq0.field-0-test at c.in-Ok-eq0.ensures.bytes in
-    read_to_end _ _ _ c.loop.bytes.items c.loop.invariant read.0 (read.1 refl (search rules))
+    read_to_end _ _ _ c.loop.bytes.items c.loop.invariant.so_far read.0 (read.1 refl (search rules))

@@ -1,6 +1,6 @@
 use Rattle.std.proofs.Common.{rules, ◌≡◌, ◌∙◌, ap, sym}
-use Rattle.buffa_map_base.specs.Encoding.{field_encoding}
-use Rattle.buffa_map_base.specs.Scalars.{int32_writing, text_writing}
+use Rattle.buffa_map.specs.Encoding.{field_encoding}
+use Rattle.buffa_map.specs.Scalars.{int32_writing, text_writing}
 use Rattle.buffamap.specs.Lines.{pairs_of}
 use Rattle.buffamap.specs.Reply.{success, hex_line}
 use Rattle.buffamap.proofs.FieldReplyLemmas.{written}

@@ -1,5 +1,5 @@
 use Rattle.std.proofs.Common.{refl}
-use Rattle.buffa_wire_laws.proofs.PinLemmas.{slots_are_next}
+use Rattle.buffa_wire.proofs.PinLemmas.{slots_are_next}
 use Rattle.conformance_messages.proofs.passes.both_passes.Goals as goal
 
 pub write_field-requires : goal.write_field-requires

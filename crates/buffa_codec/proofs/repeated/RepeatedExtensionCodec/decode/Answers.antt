@@ -1,8 +1,7 @@
-use Rattle.buffa_wire.specs.View.{records_in}
+use Rattle.buffa_wire.specs.View.{records_in, datum_of}
 use Rattle.buffa_codec.specs.Decoded.{AsksInList}
 use Rattle.buffa_codec.proofs.TakesLemmas.{has_record}
 use Rattle.std.proofs.Common.{sym, ap, ◌∙◌, subst, map}
-use Rattle.buffa_wire.specs.View.{datum_of}
 use Rattle.buffa_wire.specs.BudgetLeft.{defaults}
 use Rattle.buffa_codec.proofs.TurnLemmas.{reads_one_more, passes_one_over}
 use Rattle.buffa_codec.proofs.repeated.RepeatedExtensionCodec.decode.Goals.{then-field-number+in_ok-read_one, else-field-number}

@@ -11,5 +11,5 @@ returns-clause-full g c =
       | in-Ok w ↦ rw w.result-is tt
       | in-Err w ↦
           rw w.result-is (λ full. subst (λ o. IfSome o BeginsField) (sym (ap (λ d. bytes_held (datum_of d)) c.in-LengthDelimited.is))
-          (subst BeginsField c.as_slice.ensures.value (w.in-Err.ensures.full full)))
+          (subst BeginsField c.as_slice-bytes.ensures.value (w.in-Err.ensures.full full)))
     ]

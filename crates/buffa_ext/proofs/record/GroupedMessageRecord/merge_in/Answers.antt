@@ -9,5 +9,5 @@ use Rattle.buffa_ext.proofs.record.GroupedMessageRecord.merge_in.Goals as goal
 pub returns-clause-full : goal.returns-clause-full
 returns-clause-full g c full =
     subst HasByte (sym (ap (λ d. group_held (datum_of d)) c.in-Group.is))
-    (λ none. tag_has_byte c.as_slice.result.now (c.in-Err.ensures.full full)
-    (c.as_slice.ensures.value ∙ c.in-Ok.ensures.writes ∙ ap (λ l. l ++ records_encoding c.in-Group.fields.records) c.new-bytes.ensures.items ∙ none))
+    (λ none. tag_has_byte c.as_slice-encoding.result.now (c.in-Err.ensures.full full)
+    (c.as_slice-encoding.ensures.value ∙ c.in-Ok.ensures.writes ∙ ap (λ l. l ++ records_encoding c.in-Group.fields.records) c.new-bytes.ensures.items ∙ none))

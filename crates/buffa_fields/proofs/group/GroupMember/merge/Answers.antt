@@ -1,6 +1,6 @@
 use Rattle.std.proofs.Common.{ap}
 use Rattle.std.specs.Option.{option_map}
-use Rattle.buffa_fields_base.specs.Layout.{Took}
+use Rattle.buffa_fields.specs.Layout.{Took}
 use Rattle.buffa_bytes.specs.declared.wire_type.WireType.TheVariants.{StartGroup}
 use Rattle.buffa_wire.specs.Message.{BeginsField}
 use Rattle.buffa_fields.specs.Groups.{GroupTakesMemory, group_cost, group_merged}

@@ -1,4 +1,4 @@
-use Rattle.buffa_map_base.specs.Pairs.{means}
+use Rattle.buffa_map.specs.Pairs.{means}
 use Rattle.buffa_fields.proofs.NestedMapLemmas.{all_sized}
 use Rattle.buffa_fields.proofs.map_nested.MapOfNestedMember.len.Goals as goal
 

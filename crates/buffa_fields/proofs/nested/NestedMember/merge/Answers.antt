@@ -1,6 +1,6 @@
 use Rattle.std.proofs.Common.{ap}
 use Rattle.std.specs.Option.{option_map}
-use Rattle.buffa_fields_base.specs.Layout.{Took}
+use Rattle.buffa_fields.specs.Layout.{Took}
 use Rattle.buffa_bytes.specs.declared.wire_type.WireType.TheVariants.{LengthDelimited}
 use Rattle.buffa_fields.specs.Nested.{MessageTakesMemory, message_cost, message_merged}
 use Rattle.buffa_fields.specs.Refusals.{IsDelimited}

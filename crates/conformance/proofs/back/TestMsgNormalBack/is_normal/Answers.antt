@@ -1,9 +1,9 @@
-use Rattle.std.proofs.Common.{[], ◌∷◌, ◌++◌, arith, refl}
+use Rattle.std.proofs.Common.{[], ◌∷◌, ◌++◌, arith}
 use Rattle.std.specs.Int.{cast_unsigned, w64}
 use Rattle.buffa_bytes.proofs.IntLemmas.{int32_below}
-use Rattle.buffa_fields_base.specs.KindFacts.{is_zero}
-use Rattle.buffa_fields_base.specs.MemberRecords.{plain_records}
-use Rattle.buffa_fields_base.specs.Values.{records_unless}
+use Rattle.buffa_fields.specs.KindFacts.{is_zero}
+use Rattle.buffa_fields.specs.MemberRecords.{plain_records}
+use Rattle.buffa_fields.specs.Values.{records_unless}
 use Rattle.buffa_wire.specs.Records.{varint}
 use Rattle.conformance.proofs.NumberLemmas.{unless_fits}
 use Rattle.conformance.proofs.back.TestMsgNormalBack.is_normal.Goals as goal
@@ -16,7 +16,7 @@ returns c = λ _.
     let first = c.encoded_len-a.ensures.fits in
     let second = c.encoded_len-b.ensures.fits in
     let more = records_unless (is_zero b) ((2, varint (cast_unsigned w64 b)) ∷ []) ++ [] in (
-      (c.members_read_back.ensures, ((first, tt), ((second, tt), tt, tt), (refl, tt))),
+      (c.members_read_back.ensures, ((first, tt), ((second, tt), tt, tt), tt)),
       omega arith,
       unless_fits (is_zero a) 1 (cast_unsigned w64 a) more (omega arith, omega arith) (int32_below a first)
           (unless_fits (is_zero b) 2 (cast_unsigned w64 b) [] (omega arith, omega arith) (int32_below b second) tt),

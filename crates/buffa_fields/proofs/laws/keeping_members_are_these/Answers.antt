@@ -1,0 +1,5 @@
+use Rattle.buffa_fields.proofs.KeptLawLemmas.{goes_aside}
+use Rattle.buffa_fields.proofs.laws.keeping_members_are_these.Goals as goal
+
+pub returns-clause-behind : goal.returns-clause-behind
+returns-clause-behind g c = λ k get keeps. goes_aside k get g.N.Member.shape g.N.Keeping.aside g.M.Fields.layout keeps

@@ -1,0 +1,77 @@
+-- Members that put aside what they don't understand: into the records that their message keeps, behind those that it has.
+-- A field of a closed enum does so with a number that isn't declared, a map of such enums with the whole entry.
+-- Source: the protobuf language guide, "Enumerations"; the protobuf encoding guide, "Maps".
+use Rattle.std.specs.Prelude.{◌≡◌, ℕ, ◌==◌, ◌≤◌, max, List, [], ◌∷◌, ◌++◌, Some, Result, Err, if◌then◌else◌}
+use Rattle.std.specs.Option.{option_map}
+use Rattle.buffa_bytes.specs.declared.wire_type.WireType.{WireType}
+use Rattle.buffa_bytes.specs.declared.error.DecodeError.{DecodeError}
+use Rattle.buffa_bytes.specs.Gives.{FullOnlyIf}
+use Rattle.buffa_bytes.specs.Number.{IsNumber}
+use Rattle.buffa_wire.specs.BudgetLeft.{BudgetLeft}
+use Rattle.buffa_wire.specs.Parse.{Fits, IsPayload}
+use Rattle.buffa_wire.specs.Records.{Datum, records_of}
+use Rattle.buffa_wire.specs.Encoding.{records_encoding, wire_of}
+use Rattle.buffa_wire.specs.Takes.{Asks, IsTaken, Need, ReadsBack, Stays, Taker}
+use Rattle.buffa_fields.specs.Layout.{Choice, Shape}
+
+-- records that a message keeps
+abbrev pub Kept : Type 0
+Kept = List (ℕ × Datum)
+
+-- records put behind those that are kept beside a value; and among those that the others of a message keep
+abbrev pub kept_behind : {X : Type 0} → Kept → X × Kept → X × Kept
+kept_behind kept x = (x.0, kept ++ x.1)
+
+abbrev pub kept_among : {A B : Type 0} → (B → Kept → B) → B → A × Kept → A × B
+kept_among adds b x = (x.0, adds b x.1)
+
+-- What a member of a kind puts aside, where its value means an X: what a payload makes of the value and of the records that are
+-- kept beside it, where that may ask for memory with so many unknown fields left, and what it costs, an unknown field for each
+-- record that is put aside too; what is said of a refused field, which puts nothing aside; which data may have been put aside
+-- under its number, and the levels at which they are again. All else is as the member's shape has it: the value's own records,
+-- which alone are written in its place, its slots, its levels.
+pub record Aside (X : Type 0) : Type 1 where
+  pub takes : Taker (X × Kept)
+  pub asks : ℕ → Asks
+  pub need : Need
+  pub refuses : ℕ → X → ℕ → WireType → List ℕ → DecodeError → X → Type 0
+  pub IsAside : Datum → Type 0
+  pub levels : Datum → ℕ
+  pub stays : Stays need
+  -- records are put behind those that are kept, whatever these are
+  pub behind : (d : ℕ) (v : X) (kept : Kept) (n : ℕ) (w : WireType) (p : List ℕ) → takes d (v, kept) n w p ≡ option_map (kept_behind kept) (takes d (v, []) n w p)
+
+-- The value's own records read back to it, and nothing of them is put aside; what may have been put aside is so again, and
+-- the value stays.
+pub record ReadsBackBeside {P X : Type 0} (s : Shape P X) (a : Aside X) : Type 0 where
+  pub back : (k : ℕ) → IsNumber k → (d : ℕ) (v : X) → Fits (records_of (s.records k v)) → s.normal v → s.levels v ≤ d →
+      ReadsBack a.takes (λ n. n == k) d (s.blank, []) (records_encoding (s.records k v)) (v, [])
+  pub again : (k d : ℕ) (v : X) (x : Datum) (p : List ℕ) → a.IsAside x → a.levels x ≤ d → IsPayload d k x p →
+      a.takes d (v, []) k (wire_of x) p ≡ Some (v, (k, x) ∷ [])
+
+-- a member takes the field whose tag was read, beside these records, or tells the fault of its wire type, and then nothing has
+-- changed, and the field is unread; memory runs out only where it may be asked for; a field is refused as the member says, and
+-- what is kept stays
+unfoldable pub TookBeside : {P X : Type 0} → Shape P X → Aside X → ℕ → P → Kept → ℕ → WireType → List ℕ → BudgetLeft → Result (Unit {0}) DecodeError → P → Kept → BudgetLeft → List ℕ → Type 0
+TookBeside s a d old kept n w bs before r new keeps after rest =
+    IsTaken a.takes a.need d (s.meaning old, kept) n w bs before r (s.meaning new, keeps) after rest
+    × FullOnlyIf r (a.asks before.unknown d n w bs)
+    × ((e : DecodeError) → s.checks n w ≡ Err e → (r ≡ Err e) × (s.meaning old ≡ s.meaning new) × (kept ≡ keeps) × (bs ≡ rest))
+    × ((e : DecodeError) → r ≡ Err e → a.refuses d (s.meaning old) n w bs e (s.meaning new) × (kept ≡ keeps))
+
+-- ---- in a list of members
+
+-- a field, which puts records aside among those that the others keep, and the others
+abbrev pub beside_take : {A B : Type 0} → ℕ → Taker (A × Kept) → (B → Kept → B) → Taker B → Taker (A × B)
+beside_take k f adds g d v n w p =
+    if n == k then option_map (kept_among adds v.1) (f d (v.0, []) n w p) else option_map (λ y. (v.0, y)) (g d v.1 n w p)
+
+-- of the records that are kept those of number k may have been put aside
+abbrev pub AllAside : ℕ → (Datum → Type 0) → Kept → Type 0
+AllAside k P [] = Unit {0}
+AllAside k P (y ∷ ys) = Choice (y.0 == k) (P y.1) (Unit {0}) × AllAside k P ys
+
+-- how many levels these have
+abbrev pub aside_levels : ℕ → (Datum → ℕ) → Kept → ℕ
+aside_levels k levels [] = 0
+aside_levels k levels (y ∷ ys) = max (if y.0 == k then levels y.1 else 0) (aside_levels k levels ys)

@@ -1,0 +1,60 @@
+-- What a message says of a field that it took, as laws tell it. Source: the protobuf encoding guide, "Message Structure".
+use Rattle.std.specs.Prelude.{◌≡◌, ◌↔◌, ℕ, ◌==◌, List, [], ◌++◌, length, Some, Result}
+use Rattle.buffa_bytes.specs.declared.wire_type.WireType.{WireType}
+use Rattle.buffa_bytes.specs.declared.error.DecodeError.{DecodeError}
+use Rattle.buffa_bytes.specs.Field.{Payload}
+use Rattle.buffa_wire.specs.BudgetLeft.{BudgetLeft, plus, unknown_fields}
+use Rattle.buffa_wire.specs.Message.{FieldTaken}
+use Rattle.buffa_wire.specs.Records.{Datum}
+use Rattle.buffa_wire.specs.Takes.{Asks, Need, Taker}
+use Rattle.buffa_fields.specs.Aside.{Aside, Kept, TookBeside}
+use Rattle.buffa_fields.specs.Layout.{Choice, IsFieldKept, Layout, Passed, Shape, Took}
+use Rattle.buffa_fields.specs.Refusals.{Refusal}
+
+-- two say the same of each field
+abbrev pub TakeAlike : {M : Type 0} → FieldTaken M → FieldTaken M → Type 0
+TakeAlike {M = M} says tells =
+    (d : ℕ) (old : M) (n : ℕ) (w : WireType) (bs : List ℕ) (before : BudgetLeft) (r : Result (Unit {0}) DecodeError) (new : M) (after : BudgetLeft) (rest : List ℕ) →
+    says d old n w bs before r new after rest ↔ tells d old n w bs before r new after rest
+
+-- it is kept, among these
+abbrev pub AmongKept : {M : Type 0} → (M → List (ℕ × Datum)) → FieldTaken M
+AmongKept get d old n w bs before r new after rest = IsFieldKept d (get old) n w bs before r (get new) after rest
+
+-- it is passed over
+abbrev pub PassedOver : {M : Type 0} → FieldTaken M
+PassedOver d old n w bs before r new after rest = Passed d n w bs before r after rest
+
+-- the member of the number takes it, and the others stay; or they take it, and the member stays
+abbrev pub MemberOrOthers : {M P A B : Type 0} → ℕ → (M → P) → Shape P A → Layout M B → FieldTaken M
+MemberOrOthers k get s l d old n w bs before r new after rest =
+    Choice (n == k) (Took s d (get old) n w bs before r (get new) after rest × l.Same old new) ((get new ≡ get old) × l.Taken d old n w bs before r new after rest)
+
+-- the same of a member that puts records aside, among those that the others keep
+abbrev pub KeepingOrOthers : {M P A B : Type 0} → ℕ → (M → P) → Shape P A → Aside A → Layout M B → FieldTaken M
+KeepingOrOthers k get s a l d old n w bs before r new after rest =
+    Choice (n == k) (TookBeside s a d (get old) (l.kept (l.meaning old)) n w bs before r (get new) (l.kept (l.meaning new)) after rest × l.SameBut old new)
+    ((get new ≡ get old) × l.Taken d old n w bs before r new after rest)
+
+-- a field that is taken costs what it does where nothing is kept, and an unknown field for each record that is put aside
+abbrev pub CostsEach : {P X : Type 0} → Shape P X → Aside X → Type 0
+CostsEach {X = X} s a =
+    (d n : ℕ) (w : WireType) (p more : List ℕ) (v u : X) (rs : Kept) → Payload d n w p → a.takes d (v, []) n w p ≡ Some (u, rs) → a.need d n w (p ++ more) ≡ plus (s.need d n w (p ++ more)) (unknown_fields (length rs))
+
+-- Where the member of number k makes u of the value that stands first, and puts rs aside, so much becomes of a message: the member is u, the
+-- others' own records stay, and rs are behind the records that were kept.
+abbrev pub GoesAside : {M P A B : Type 0} → Shape P A → Aside A → Layout M B → Layout M (A × B) → ℕ → Type 0
+GoesAside {A = A} {B = B} s a others all k =
+    (d : ℕ) (x : A × B) (w : WireType) (p : List ℕ) (u : A) (rs : Kept) → a.takes d (x.0, []) k w p ≡ Some (u, rs) →
+    (y : A × B) × (all.takes d x k w p ≡ Some y) × (all.records y ≡ s.records k u ++ (others.own x.1 ++ (others.kept x.1 ++ rs))) × (all.kept y ≡ all.kept x ++ rs)
+
+-- a member puts aside so: what a payload makes of its value and of the records beside it, where that may ask for memory, what it costs, what
+-- is said of a refused field, and which data may have been put aside, at which levels
+abbrev pub PutsAside : {X : Type 0} → Aside X → Taker (X × Kept) → (ℕ → Asks) → Need → Refusal X → (Datum → Type 0) → (Datum → ℕ) → Type 0
+PutsAside {X = X} a takes asks need refuses IsAside levels =
+    (a.takes ≡ takes)
+    × ((s d n : ℕ) (w : WireType) (bs : List ℕ) → a.asks s d n w bs ↔ asks s d n w bs)
+    × (a.need ≡ need)
+    × ((d : ℕ) (old : X) (n : ℕ) (w : WireType) (bs : List ℕ) (e : DecodeError) (new : X) → a.refuses d old n w bs e new ↔ refuses d old n w bs e new)
+    × ((x : Datum) → a.IsAside x ↔ IsAside x)
+    × (a.levels ≡ levels)

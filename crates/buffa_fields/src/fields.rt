@@ -1,0 +1,70 @@
+//! Messages by their fields.
+
+ghost use Rattle.std.specs.Prelude.{◌≡◌, ◌<◌, ℕ, true};
+ghost use Rattle.buffa_fields.specs.Calls.{MemberTakes};
+ghost use Rattle.buffa_fields.specs.Layout.{Layout, Seen};
+
+use crate::visitor::Visitor;
+use buffa_wire::{DecodeContext, DecodeError, Tag};
+use std::alloc::Global;
+
+/// A struct that is a message, by its members.
+///
+/// ```ignore
+/// impl Fields for Inventory { .. }
+/// ```
+pub trait Fields: Drop {
+    /// What it means: of each member what that means, one after the other ([`And`](crate::meaning::And)); `[T; 0]`
+    /// stands for a list.
+    ///
+    /// ```ignore
+    /// type Meaning = And5<i32, [u8; 0], Option<bool>, [And<[u8; 0], i32>; 0], KeptFields>;
+    /// ```
+    type Meaning;
+
+    /// The units of element memory that a message costs where it is the value of a map or an element of a list: 1 or
+    /// more.
+    ///
+    /// ```ignore
+    /// const COST: usize = 96;
+    /// ```
+    const COST: usize;
+
+    ghost COST: { ℕ };
+
+    /// An element has a cost.
+    ghost positive: { 0 < COST };
+
+    /// Its members, one after the other.
+    ghost layout: { Layout Self Self.Meaning };
+
+    /// Each number may be a field's, and no two are one.
+    ghost sound: { layout.sound ≡ true };
+
+    /// Visits each member.
+    ///
+    /// ```ignore
+    /// message.visit(sizer);
+    /// ```
+    fn visit<V: Visitor>(&self, visitor: &mut V)
+        requires { V.Waits (layout.slots (layout.meaning self.now)) visitor.old }
+        ensures seen { (z : Seen) → V.IsAt z visitor.old → V.IsAt (layout.seen self.now z) visitor.new }
+        ensures back { layout.Owes };
+
+    /// The member of the number takes the field whose tag was read.
+    ///
+    /// # Errors
+    /// The member's own. Of a field that isn't declared, that of keeping it, or of passing over it.
+    ///
+    /// ```ignore
+    /// let answer = message.take(alloc, tag, &mut rest, lent);
+    /// ```
+    fn take(
+        &mut self,
+        alloc: Global,
+        tag: Tag,
+        buf: &mut &[u8],
+        ctx: DecodeContext<'_>,
+    ) -> Result<(), DecodeError>
+        ensures { MemberTakes tag ctx.entry ctx.exit self.old self.new buf.old buf.new result layout };
+}

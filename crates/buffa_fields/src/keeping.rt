@@ -1,0 +1,42 @@
+//! Kinds of members that put aside what they don't understand.
+
+ghost use Rattle.buffa_wire.specs.BudgetLeft.{budget_left};
+ghost use Rattle.buffa_fields.specs.Aside.{Aside, ReadsBackBeside, TookBeside};
+
+use crate::member::Member;
+use buffa_wire::{DecodeContext, DecodeError, Tag, UnknownFields};
+use std::alloc::Global;
+
+/// A kind of members that put what they don't understand into the fields that their message keeps, behind the others: an
+/// undeclared value of a closed enum, or the whole entry that has it.
+///
+/// ```ignore
+/// visitor.visit_keeping::<MapOf<Int32, ClosedEnum<Shade>>>(3, &self.shades);
+/// ```
+pub trait Keeping: Member {
+    /// What it puts aside, by the words of `Aside` in `specs/Aside.antt`.
+    ghost aside: { Aside Self.Meaning };
+
+    /// Merges the field whose tag was read, and puts aside what the value doesn't hold.
+    ///
+    /// # Errors
+    /// Those of [`Member::merge`], and [`DecodeError::UnknownFieldLimitExceeded`] where a record can't be kept any more. What
+    /// is kept is as it was then.
+    ///
+    /// ```ignore
+    /// 3 => MapOf::<Int32, ClosedEnum<Shade>>::merge_kept(&mut self.shades, &mut self.rest, alloc, tag, buf, ctx),
+    /// ```
+    fn merge_kept(
+        part: &mut Self::Part,
+        kept: &mut UnknownFields,
+        alloc: Global,
+        tag: Tag,
+        buf: &mut &[u8],
+        ctx: DecodeContext<'_>,
+    ) -> Result<(), DecodeError>
+        ensures { TookBeside Self.shape aside ctx.entry.depth part.old kept.old.records tag.number tag.wire_type buf.old.now
+            ctx.entry.budget.now result part.new kept.new.records (budget_left ctx.exit) buf.new.now };
+
+    /// The value's own records read back, and so do those that were put aside.
+    ghost kept_back: { ReadsBackBeside Self.shape aside };
+}

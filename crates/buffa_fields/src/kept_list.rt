@@ -1,0 +1,224 @@
+//! Lists of closed enums, whose undeclared numbers are put aside.
+
+ghost use Rattle.std.specs.Prelude.{◌≡◌, ◌∷◌, ◌++◌, List, Err, OnErr, [], map};
+ghost use Rattle.buffa_bytes.specs.declared.wire_type.WireType.TheVariants.{Varint};
+ghost use Rattle.buffa_bytes.specs.Gives.{FullOnlyIf};
+ghost use Rattle.buffa_bytes.specs.Values.{int32_of};
+ghost use Rattle.buffa_wire.specs.Enums.{numbers};
+ghost use Rattle.buffa_fields.specs.KeptLists.{PutsNumbers, RefusesKeptNumbers, TakesKeptNumbers, kept_numbers_cost, kept_numbers_taken, varints};
+ghost use Rattle.buffa_fields.specs.KeptListFacts.{kept_elements_back, kept_numbers_again, kept_numbers_behind, kept_numbers_stays, kept_packed_back};
+ghost use Rattle.buffa_fields.specs.KeptNumbers.{IsAsideNumber};
+ghost use Rattle.buffa_fields.specs.Lists.{ElementsTakeMemory, check_list_wire};
+
+use crate::keeping::Keeping;
+use crate::list::take_elements;
+use crate::packed::Packed;
+use crate::repeated::Repeated;
+use buffa_map::map_codec::{ClosedEnum, Uint64};
+use buffa_wire::{
+    Blank, Budget, DecodeContext, DecodeError, Enumeration, Tag, UnknownField, UnknownFieldData,
+    UnknownFields,
+};
+use std::alloc::Global;
+
+// The int32 of a varint: its low 32 bits.
+fn int32_in(varint: u64) -> i32
+    ensures { result ≡ int32_of varint }
+{
+    ((varint % (1 << 32)) as u32).cast_signed()
+}
+
+// Puts a declared number behind the values, and the record of any other behind these, for an unknown field.
+fn sift_one<E: Enumeration>(
+    values: &mut Vec<E>,
+    aside: &mut UnknownFields,
+    number: u32,
+    varint: u64,
+    budget: &mut Budget,
+) -> Result<(), DecodeError>
+    ensures puts { PutsNumbers (numbers E.of_number E.blank_is) (λ vs us. vs ++ us) number (varint ∷ [])
+        (map E.meaning values.old.items, aside.old.records) budget.old result
+        (map E.meaning values.new.items, aside.new.records) budget.new }
+    ensures front { (more : List E) × (values.new.items ≡ values.old.items ++ more) }
+{
+    match E::from_i32(int32_in(varint)) {
+        Some(declared) => Ok(values.push(declared)?),
+        None => {
+            budget.take_unknown()?;
+            let payload = UnknownFieldData::Varint(varint);
+            Ok(aside.push(UnknownField { number, payload })?)
+        }
+    }
+}
+
+// The same of varints, one after the other.
+fn sift<E: Enumeration>(
+    values: &mut Vec<E>,
+    aside: &mut UnknownFields,
+    number: u32,
+    varints: &[u64],
+    budget: &mut Budget,
+) -> Result<(), DecodeError>
+    ensures puts { PutsNumbers (numbers E.of_number E.blank_is) (λ vs us. vs ++ us) number varints.now
+        (map E.meaning values.old.items, aside.old.records) budget.old result
+        (map E.meaning values.new.items, aside.new.records) budget.new }
+    ensures front { (more : List E) × (values.new.items ≡ values.old.items ++ more) }
+{
+    for varint in varints {
+        match sift_one::<E>(values, aside, number, *varint, budget) {
+            Ok(()) => {}
+            Err(error) => return Err(error),
+        }
+    }
+    Ok(())
+}
+
+// The same, where the records go behind those that are kept: all of them, or none where something is refused.
+fn put_aside<E: Enumeration>(
+    alloc: Global,
+    values: &mut Vec<E>,
+    kept: &mut UnknownFields,
+    number: u32,
+    varints: &[u64],
+    budget: &mut Budget,
+) -> Result<(), DecodeError>
+    ensures puts { PutsNumbers (numbers E.of_number E.blank_is) (λ vs us. vs ++ us) number varints.now
+        (map E.meaning values.old.items, kept.old.records) budget.old result
+        (map E.meaning values.new.items, kept.new.records) budget.new }
+    ensures front { (more : List E) × (values.new.items ≡ values.old.items ++ more) }
+    ensures stays { OnErr result (kept.old.records ≡ kept.new.records) }
+{
+    let mut aside = UnknownFields::new(alloc);
+    match sift::<E>(values, &mut aside, number, varints, budget) {
+        Ok(()) => {}
+        Err(error) => return Err(error),
+    }
+    kept.reserve(aside.len())?;
+    kept.append(aside);
+    Ok(())
+}
+
+// The same, where a refusal changes nothing.
+fn put_numbers<E: Enumeration>(
+    alloc: Global,
+    values: &mut Vec<E>,
+    kept: &mut UnknownFields,
+    number: u32,
+    varints: &[u64],
+    budget: &mut Budget,
+) -> Result<(), DecodeError>
+    ensures puts { PutsNumbers (numbers E.of_number E.blank_is) (λ vs us. vs ++ us) number varints.now
+        (map E.meaning values.old.items, kept.old.records) budget.old result
+        (map E.meaning values.new.items, kept.new.records) budget.new }
+    ensures list { OnErr result (values.old.items ≡ values.new.items) }
+    ensures kept { OnErr result (kept.old.records ≡ kept.new.records) }
+    ensures budget { OnErr result (budget.new ≡ budget.old) }
+{
+    let len = values.len();
+    let mut own = Budget::new(budget.unknown_left()).with_element_memory(budget.memory_left());
+    match put_aside::<E>(alloc, values, kept, number, varints, &mut own) {
+        Ok(()) => {
+            *budget = own;
+            Ok(())
+        }
+        Err(error) => {
+            values.truncate(len);
+            Err(error)
+        }
+    }
+}
+
+// Merges the numbers of the field whose tag was read, and keeps those that are undeclared.
+fn take_numbers<E: Enumeration>(
+    alloc: Global,
+    values: &mut Vec<E>,
+    kept: &mut UnknownFields,
+    tag: Tag,
+    buf: &mut &[u8],
+    ctx: DecodeContext<'_>,
+) -> Result<(), DecodeError>
+    ensures taken { TakesKeptNumbers (numbers E.of_number E.blank_is) tag ctx.entry ctx.exit values.old.items
+        kept.old.records values.new.items kept.new.records buf.old buf.new result E.meaning }
+    ensures full { FullOnlyIf result (ElementsTakeMemory varints ctx.entry.depth tag.number tag.wire_type buf.old.now) }
+    ensures wire { (e : _) → check_list_wire tag.number Varint tag.wire_type ≡ Err e → (result ≡ Err e)
+        × (map E.meaning values.old.items ≡ map E.meaning values.new.items) × (kept.old.records ≡ kept.new.records)
+        × (buf.old.now ≡ buf.new.now) }
+    ensures refused { (e : _) → result ≡ Err e → RefusesKeptNumbers (numbers E.of_number E.blank_is) ctx.entry.depth
+        (map E.meaning values.old.items) tag.number tag.wire_type buf.old.now e (map E.meaning values.new.items) }
+    ensures stays { OnErr result (kept.old.records ≡ kept.new.records) }
+{
+    let DecodeContext { depth, budget } = ctx;
+    let mut varints: Vec<u64> = Vec::new(alloc);
+    match take_elements::<Uint64>(alloc, &mut varints, tag, buf, depth) {
+        Ok(()) => {}
+        Err(error) => return Err(error),
+    }
+    put_numbers::<E>(
+        alloc,
+        values,
+        kept,
+        tag.field_number(),
+        varints.as_slice(),
+        budget,
+    )
+}
+
+impl<E: Enumeration> Keeping for Repeated<ClosedEnum<E>> {
+    ghost aside = { record {
+      takes = kept_numbers_taken (numbers E.of_number E.blank_is);
+      asks = λ left. ElementsTakeMemory varints;
+      need = kept_numbers_cost (numbers E.of_number E.blank_is);
+      refuses = RefusesKeptNumbers (numbers E.of_number E.blank_is);
+      IsAside = IsAsideNumber (numbers E.of_number E.blank_is);
+      levels = λ _. 0;
+      stays = kept_numbers_stays (numbers E.of_number E.blank_is);
+      behind = kept_numbers_behind (numbers E.of_number E.blank_is);
+    } };
+
+    #[tactic(auto, unfolding(crate::specs::Aside::TookBeside))]
+    fn merge_kept(
+        part: &mut Vec<E>,
+        kept: &mut UnknownFields,
+        alloc: Global,
+        tag: Tag,
+        buf: &mut &[u8],
+        ctx: DecodeContext<'_>,
+    ) -> Result<(), DecodeError> {
+        take_numbers::<E>(alloc, part, kept, tag, buf, ctx)
+    }
+
+    ghost kept_back = { record {
+      back = λ k number d v fits normal low. kept_elements_back (numbers E.of_number E.blank_is) k number d v normal;
+      again = kept_numbers_again (numbers E.of_number E.blank_is);
+    } };
+}
+
+impl<E: Enumeration> Keeping for Packed<ClosedEnum<E>> {
+    ghost aside = { record {
+      takes = kept_numbers_taken (numbers E.of_number E.blank_is);
+      asks = λ left. ElementsTakeMemory varints;
+      need = kept_numbers_cost (numbers E.of_number E.blank_is);
+      refuses = RefusesKeptNumbers (numbers E.of_number E.blank_is);
+      IsAside = IsAsideNumber (numbers E.of_number E.blank_is);
+      levels = λ _. 0;
+      stays = kept_numbers_stays (numbers E.of_number E.blank_is);
+      behind = kept_numbers_behind (numbers E.of_number E.blank_is);
+    } };
+
+    #[tactic(auto, unfolding(crate::specs::Aside::TookBeside))]
+    fn merge_kept(
+        part: &mut Vec<E>,
+        kept: &mut UnknownFields,
+        alloc: Global,
+        tag: Tag,
+        buf: &mut &[u8],
+        ctx: DecodeContext<'_>,
+    ) -> Result<(), DecodeError> {
+        take_numbers::<E>(alloc, part, kept, tag, buf, ctx)
+    }
+
+    ghost kept_back = { record {
+      back = λ k number d v fits normal low. kept_packed_back (numbers E.of_number E.blank_is) k number d v fits normal;
+      again = kept_numbers_again (numbers E.of_number E.blank_is);
+    } };
+}

@@ -1,0 +1,88 @@
+//! Optional members of closed enums, whose undeclared numbers are put aside.
+
+ghost use Rattle.std.specs.Prelude.{◌≡◌, Err, OnErr};
+ghost use Rattle.std.specs.Option.{option_map};
+ghost use Rattle.buffa_bytes.specs.declared.wire_type.WireType.TheVariants.{Varint};
+ghost use Rattle.buffa_bytes.specs.Front.{check_wire};
+ghost use Rattle.buffa_bytes.specs.Gives.{FullOnlyIf};
+ghost use Rattle.buffa_wire.specs.Enums.{numbers};
+ghost use Rattle.buffa_fields.specs.KeptNumbers.{IsAsideNumber, KeptNumberTakesMemory, RefusesKeptNumber, TakesKeptNumber, kept_number_cost, kept_number_taken};
+ghost use Rattle.buffa_fields.specs.KeptNumberFacts.{kept_number_again, kept_number_back, kept_number_behind, kept_number_stays};
+ghost use Rattle.buffa_fields.specs.MemberRecords.{optional_records};
+
+use crate::keeping::Keeping;
+use crate::kept;
+use crate::optional::Optional;
+use buffa_map::map_codec::ClosedEnum;
+use buffa_wire::types::decode_int32;
+use buffa_wire::{
+    Blank, DecodeContext, DecodeError, Enumeration, Tag, UnknownFields, WireType, check_wire_type,
+};
+use std::alloc::Global;
+
+// Merges the number of the field whose tag was read, or keeps the field where it is undeclared.
+fn take_number<E: Enumeration>(
+    alloc: Global,
+    part: &mut Option<E>,
+    kept: &mut UnknownFields,
+    tag: Tag,
+    buf: &mut &[u8],
+    ctx: DecodeContext<'_>,
+) -> Result<(), DecodeError>
+    ensures taken { TakesKeptNumber (numbers E.of_number E.blank_is) tag ctx.entry ctx.exit part.old kept.old.records part.new
+        kept.new.records buf.old buf.new result E.meaning }
+    ensures full { FullOnlyIf result (KeptNumberTakesMemory (numbers E.of_number E.blank_is) ctx.entry.budget.now.unknown
+        ctx.entry.depth tag.number tag.wire_type buf.old.now) }
+    ensures wire { (e : _) → check_wire tag.number Varint tag.wire_type ≡ Err e → (result ≡ Err e)
+        × (option_map E.meaning part.old ≡ option_map E.meaning part.new) × (kept.old.records ≡ kept.new.records)
+        × (buf.old.now ≡ buf.new.now) }
+    ensures refused { (e : _) → result ≡ Err e → RefusesKeptNumber (numbers E.of_number E.blank_is) ctx.entry.depth
+        (option_map E.meaning part.old) tag.number tag.wire_type buf.old.now e (option_map E.meaning part.new) }
+    ensures stays { OnErr result (kept.old.records ≡ kept.new.records) }
+{
+    match check_wire_type(tag, WireType::Varint) {
+        Ok(()) => {}
+        Err(error) => return Err(error),
+    }
+    let field = *buf;
+    let number = match decode_int32(buf) {
+        Ok(number) => number,
+        Err(error) => return Err(error),
+    };
+    if let Some(declared) = E::from_i32(number) {
+        *part = Some(declared);
+        return Ok(());
+    }
+    *buf = field;
+    kept::keep(alloc, kept, tag, buf, ctx)
+}
+
+impl<E: Enumeration> Keeping for Optional<ClosedEnum<E>> {
+    ghost aside = { record {
+      takes = kept_number_taken (numbers E.of_number E.blank_is);
+      asks = KeptNumberTakesMemory (numbers E.of_number E.blank_is);
+      need = kept_number_cost (numbers E.of_number E.blank_is);
+      refuses = RefusesKeptNumber (numbers E.of_number E.blank_is);
+      IsAside = IsAsideNumber (numbers E.of_number E.blank_is);
+      levels = λ _. 0;
+      stays = kept_number_stays (numbers E.of_number E.blank_is);
+      behind = kept_number_behind (numbers E.of_number E.blank_is);
+    } };
+
+    #[tactic(auto, unfolding(crate::specs::Aside::TookBeside))]
+    fn merge_kept(
+        part: &mut Option<E>,
+        kept: &mut UnknownFields,
+        alloc: Global,
+        tag: Tag,
+        buf: &mut &[u8],
+        ctx: DecodeContext<'_>,
+    ) -> Result<(), DecodeError> {
+        take_number::<E>(alloc, part, kept, tag, buf, ctx)
+    }
+
+    ghost kept_back = { record {
+      back = λ k number d v fits normal low. unfold optional_records in (kept_number_back (numbers E.of_number E.blank_is) k number d v normal);
+      again = kept_number_again (numbers E.of_number E.blank_is);
+    } };
+}

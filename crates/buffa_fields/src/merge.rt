@@ -1,0 +1,58 @@
+//! Merging all fields, and what stands after a refusal.
+
+ghost use Rattle.std.specs.Prelude.{◌≡◌, [], IfErr, OnOk};
+ghost use Rattle.buffa_bytes.specs.Gives.{FullOnlyIf};
+ghost use Rattle.buffa_bytes.specs.Unread.{IsTailOf};
+ghost use Rattle.buffa_wire.specs.Message.{Stands};
+ghost use Rattle.buffa_wire.specs.Takes.{cost_of, merged_of};
+ghost use Rattle.buffa_fields.specs.Calls.{MergesAll};
+ghost use Rattle.buffa_fields.specs.Stands.{MergingTakesMemory, OthersStay};
+
+use crate::fields::Fields;
+use buffa_wire::{Buf, DecodeContext, DecodeError, Tag};
+use std::alloc::Global;
+
+/// Merges the fields that the bytes are, all of them, as [`Message::merge`](buffa_wire::Message::merge) does.
+///
+/// # Errors
+/// The same. The fields before the refused one stay merged, and of the others no member is changed but that of the
+/// refused field's number. Memory runs out only at a field that may ask for it.
+///
+/// ```ignore
+/// merge_fields(&mut message, alloc, &mut bytes, ctx)?;
+/// ```
+pub fn merge_fields<M: Fields>(
+    message: &mut M,
+    alloc: Global,
+    buf: &mut &[u8],
+    ctx: DecodeContext<'_>,
+) -> Result<(), DecodeError>
+    ensures merged { MergesAll ctx.entry ctx.exit message.old message.new buf.old.now result M.layout.takes
+        M.layout.need M.layout.meaning }
+    ensures stands { IfErr result (λ e. Stands (merged_of M.layout.takes) (cost_of M.layout.need)
+        (OthersStay M.layout.Apart) ctx.entry.depth (M.layout.meaning message.old) buf.old.now ctx.entry.budget.now e
+        (M.layout.meaning message.new)) }
+    ensures full { FullOnlyIf result (MergingTakesMemory M.layout.takes M.layout.asks ctx.entry.depth
+        (M.layout.meaning message.old) buf.old.now ctx.entry.budget.now.unknown) }
+    ensures read { OnOk result (buf.new.now ≡ []) }
+    ensures tail { IsTailOf buf.new.now buf.old.now }
+{
+    let DecodeContext { depth, budget } = ctx;
+    let mut rest = *buf;
+    'fields: while rest.remaining() > 0 {
+        let tag = match Tag::decode(&mut rest) {
+            Ok(tag) => tag,
+            Err(error) => return Err(error),
+        };
+        let lent = DecodeContext {
+            depth,
+            budget: &mut *budget,
+        };
+        match message.take(alloc, tag, &mut rest, lent) {
+            Ok(()) => {}
+            Err(error) => return Err(error),
+        }
+    }
+    *buf = rest;
+    Ok(())
+}

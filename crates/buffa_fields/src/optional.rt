@@ -1,0 +1,97 @@
+//! Members that may be absent.
+
+ghost use Rattle.std.specs.Prelude.{[], None, refl, not};
+ghost use Rattle.std.specs.Option.{option_map};
+ghost use Rattle.buffa_bytes.specs.Front.{check_wire};
+ghost use Rattle.buffa_fields.specs.Values.{IfThere, RefusesAlone, ValueTakesMemory, free, some_taken};
+ghost use Rattle.buffa_fields.specs.ValueFacts.{some_back};
+ghost use Rattle.buffa_fields.specs.MemberRecords.{optional_records};
+
+use crate::kind::Kind;
+use crate::member::Member;
+use crate::value::{take_value, value_len, write_value};
+use buffa_wire::{Blank, DecodeContext, DecodeError, EncodeError, EncodeSink, SizeCache, Tag};
+use std::alloc::Global;
+use std::marker::PhantomData;
+
+/// A member with explicit presence: `optional` of a scalar, a string or bytes.
+///
+/// ```ignore
+/// visitor.visit::<Optional<Bool>>(3, &self.listed);
+/// ```
+pub struct Optional<C> {
+    of: PhantomData<C>,
+}
+
+impl<C: Kind> Member for Optional<C> {
+    type Part = Option<C::Value>;
+
+    type Meaning = Option<<C::Value as Blank>::Meaning>;
+
+    ghost shape = { record {
+      whole = not C.MAY_RETURN_UNKNOWN;
+      meaning = λ p. option_map C.Value.meaning p;
+      blank = None;
+      takes = some_taken C.reading;
+      checks = λ n w. check_wire n C.WIRE_TYPE w;
+      refuses = RefusesAlone C.reading (λ _. C.reading.blank);
+      asks = ValueTakesMemory C.reading;
+      need = free;
+      records = optional_records C.datum;
+      slots = λ _. [];
+      levels = λ _. 0;
+      normal = λ v. IfThere (λ x. C.fits x × C.normal x) v;
+      stays = λ d n w p x h. refl;
+    } };
+
+    #[inline(always)]
+    #[tactic(auto, using(crate::specs::LayoutFacts::sized_free), unfolding(crate::specs::MemberRecords::optional_records))]
+    fn len(
+        number: u32,
+        part: &Option<C::Value>,
+        _cache: &mut SizeCache,
+    ) -> Result<u32, EncodeError> {
+        match part {
+            None => Ok(0),
+            Some(value) => Ok(value_len::<C>(number, value)),
+        }
+    }
+
+    #[inline(always)]
+    #[tactic(auto, using(buffa_wire::proofs::PassLemmas::written_none, buffa_wire::proofs::PassLemmas::written_put), unfolding(crate::specs::MemberRecords::optional_records))]
+    fn write_to<S: EncodeSink>(
+        number: u32,
+        part: &Option<C::Value>,
+        _cache: &mut SizeCache,
+        sink: &mut S,
+    ) -> Result<(), EncodeError> {
+        match part {
+            None => Ok(()),
+            Some(value) => write_value::<C, S>(number, value, sink),
+        }
+    }
+
+    #[inline(always)]
+    fn merge(
+        part: &mut Option<C::Value>,
+        alloc: Global,
+        tag: Tag,
+        buf: &mut &[u8],
+        ctx: DecodeContext<'_>,
+    ) -> Result<(), DecodeError> {
+        let mut value = <C::Value as Blank>::blank(alloc);
+        match take_value::<C>(alloc, &mut value, tag, buf, ctx) {
+            Ok(()) => {
+                *part = Some(value);
+                Ok(())
+            }
+            Err(error) => Err(error),
+        }
+    }
+
+    ghost back = { record {
+      back = λ k number d v fits normal low. unfold optional_records in (some_back C.reading C.writing C.datum k number d
+          C.MapCodec.plain C.WIRE_TYPE C.MapValueDecode.wire C.MapCodec.written_wire C.fits C.normal C.MapCodec.reads_back
+          C.Kind.datum_encoding v normal);
+    } };
+}

@@ -1,0 +1,88 @@
+//! Members that aren't written where they are the default.
+
+ghost use Rattle.std.specs.Prelude.{[], refl, not};
+ghost use Rattle.buffa_bytes.specs.Front.{check_wire};
+ghost use Rattle.buffa_fields.specs.Values.{RefusesAlone, ValueTakesMemory, free, value_taken};
+ghost use Rattle.buffa_fields.specs.ValueFacts.{plain_back};
+ghost use Rattle.buffa_fields.specs.MemberRecords.{plain_records};
+
+use crate::kind::Kind;
+use crate::member::Member;
+use crate::value::{take_value, value_len, write_value};
+use buffa_wire::{Blank, DecodeContext, DecodeError, EncodeError, EncodeSink, SizeCache, Tag};
+use std::alloc::Global;
+use std::marker::PhantomData;
+
+/// A member with implicit presence: a scalar, a string or bytes, not written where it is the default.
+///
+/// ```ignore
+/// visitor.visit::<Plain<Int32>>(1, &self.total);
+/// ```
+pub struct Plain<C> {
+    of: PhantomData<C>,
+}
+
+impl<C: Kind> Member for Plain<C> {
+    type Part = C::Value;
+
+    type Meaning = <C::Value as Blank>::Meaning;
+
+    ghost shape = { record {
+      whole = not C.MAY_RETURN_UNKNOWN;
+      meaning = C.Value.meaning;
+      blank = C.Value.blank_is;
+      takes = value_taken C.reading;
+      checks = λ n w. check_wire n C.WIRE_TYPE w;
+      refuses = RefusesAlone C.reading (λ v. v);
+      asks = ValueTakesMemory C.reading;
+      need = free;
+      records = plain_records C.is_blank C.datum;
+      slots = λ _. [];
+      levels = λ _. 0;
+      normal = λ v. C.fits v × C.normal v;
+      stays = λ d n w p x h. refl;
+    } };
+
+    #[inline(always)]
+    #[tactic(auto, using(crate::specs::LayoutFacts::sized_free), unfolding(crate::specs::MemberRecords::plain_records))]
+    fn len(number: u32, part: &C::Value, _cache: &mut SizeCache) -> Result<u32, EncodeError> {
+        if C::is_blank(part) {
+            Ok(0)
+        } else {
+            Ok(value_len::<C>(number, part))
+        }
+    }
+
+    #[inline(always)]
+    #[tactic(auto, using(buffa_wire::proofs::PassLemmas::written_none, buffa_wire::proofs::PassLemmas::written_put), unfolding(crate::specs::MemberRecords::plain_records))]
+    fn write_to<S: EncodeSink>(
+        number: u32,
+        part: &C::Value,
+        _cache: &mut SizeCache,
+        sink: &mut S,
+    ) -> Result<(), EncodeError> {
+        if C::is_blank(part) {
+            Ok(())
+        } else {
+            write_value::<C, S>(number, part, sink)
+        }
+    }
+
+    #[inline(always)]
+    #[tactic(auto, unfolding(crate::specs::Layout::Took))]
+    fn merge(
+        part: &mut C::Value,
+        alloc: Global,
+        tag: Tag,
+        buf: &mut &[u8],
+        ctx: DecodeContext<'_>,
+    ) -> Result<(), DecodeError> {
+        take_value::<C>(alloc, part, tag, buf, ctx)
+    }
+
+    ghost back = { record {
+      back = λ k number d v fits normal low. unfold plain_records in (plain_back C.reading C.writing C.datum k number d
+          C.MapCodec.plain C.WIRE_TYPE C.MapValueDecode.wire C.MapCodec.written_wire C.fits C.normal C.MapCodec.reads_back
+          C.Kind.datum_encoding C.Value.blank_is C.is_blank C.Kind.blank_only v normal.0 normal.1);
+    } };
+}

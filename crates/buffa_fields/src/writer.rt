@@ -1,0 +1,92 @@
+//! The write pass.
+
+ghost use Rattle.std.specs.Prelude.{◌≡◌, Ok};
+ghost use Rattle.buffa_fields.specs.Layout.{Follow, IsPut};
+ghost use Rattle.buffa_fields.specs.LayoutFacts.{comes_front};
+
+use crate::member::Member;
+use crate::visitor::Visitor;
+use buffa_wire::{EncodeError, EncodeSink, SizeCache, UnknownFields};
+
+/// Writes into a sink that is lent, by the sizes in a cache that is lent, until memory runs out.
+///
+/// ```ignore
+/// let mut writer = Writer::new(sink, cache);
+/// let answer = writer.finish();
+/// ```
+#[derive(Drop)]
+pub struct Writer<'a, S> {
+    sink: &'a mut S,
+    cache: &'a mut SizeCache,
+    result: Result<(), EncodeError>,
+}
+
+impl<'a, S: EncodeSink> Writer<'a, S> {
+    /// Lends a sink and a cache.
+    ///
+    /// ```ignore
+    /// let mut writer = Writer::new(sink, cache);
+    /// ```
+    #[inline(always)]
+    pub fn new(sink: &'a mut S, cache: &'a mut SizeCache) -> Writer<'a, S>
+        ensures same_sink { result.sink.ghost_name ≡ sink.entry.ghost_name }
+        ensures sink { result.sink.now ≡ sink.old }
+        ensures same_cache { result.cache.ghost_name ≡ cache.entry.ghost_name }
+        ensures cache { result.cache.now ≡ cache.old }
+        ensures result { result.result ≡ Ok tt }
+    {
+        Writer {
+            sink,
+            cache,
+            result: Ok(()),
+        }
+    }
+}
+
+impl<S: EncodeSink> Writer<'_, S> {
+    /// Ends the loans: whether all was written.
+    ///
+    /// # Errors
+    /// [`EncodeError::OutOfMemory`] alone.
+    ///
+    /// ```ignore
+    /// let answer = writer.finish();
+    /// ```
+    #[inline(always)]
+    pub fn finish(self) -> Result<(), EncodeError>
+        ensures result { result ≡ self.entry.result }
+        ensures sink { self.exit.0.now ≡ self.entry.sink.now }
+        ensures cache { self.exit.1.0.now ≡ self.entry.cache.now }
+    {
+        let Writer {
+            sink: _,
+            cache: _,
+            result,
+        } = self;
+        result
+    }
+}
+
+impl<S: EncodeSink> Visitor for Writer<'_, S> {
+    ghost IsAt = { λ z w. IsPut w.sink.ghost_name w.cache.ghost_name (S.written w.sink.now) w.cache.now w.result z };
+
+    ghost Waits = { λ ss w. Follow ss w.result w.cache.now };
+
+    ghost begins = { comes_front (λ w. w.result) (λ w. w.cache.now) };
+
+    #[inline(always)]
+    #[tactic(auto, using(crate::specs::LayoutFacts::is_put, crate::specs::LayoutFacts::put_none, crate::specs::LayoutFacts::follow_first, crate::specs::LayoutFacts::follow_rest, crate::specs::LayoutFacts::follow_none))]
+    fn visit<M: Member>(&mut self, number: u32, part: &M::Part) {
+        if self.result.is_ok() {
+            self.result = M::write_to(number, part, self.cache, self.sink);
+        }
+    }
+
+    #[inline(always)]
+    #[tactic(auto, using(crate::specs::LayoutFacts::is_put, crate::specs::LayoutFacts::put_none, buffa_wire::proofs::PassLemmas::written_put, crate::specs::LayoutFacts::follow_rest, crate::specs::LayoutFacts::follow_none))]
+    fn visit_kept(&mut self, fields: &UnknownFields) {
+        if self.result.is_ok() {
+            self.result = fields.write_to(self.sink);
+        }
+    }
+}

@@ -1,2 +1,0 @@
--- The words that this crate hands out.
-pub mod Pinned

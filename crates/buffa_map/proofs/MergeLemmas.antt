@@ -1,0 +1,175 @@
+-- An entry that was merged, or refused, at each place where reading it ends.
+use Rattle.std.specs.Prelude.{IsOk}
+use Rattle.std.proofs.Common.{arith, ◌≡◌, ◌≢◌, ◌+◌, ◌<◌, ◌≤◌, ◌++◌, ◌⊎◌, inl, inr, ℕ, true, false, List, [], Result, Ok, Err, ap, append-nil, length, refl, subst, sym, take, ◌∙◌}
+use Rattle.buffa_bytes.specs.declared.error.DecodeError.{DecodeError}
+use Rattle.buffa_bytes.specs.declared.error.DecodeError.TheVariants.{ElementMemoryLimitExceeded, OutOfMemory, UnexpectedEof, UnknownFieldLimitExceeded}
+use Rattle.buffa_bytes.specs.Left.{past_no_delimited}
+use Rattle.buffa_wire.proofs.SequenceLemmas.{ok_no_err}
+use Rattle.buffa_wire.specs.BudgetLeft.{BudgetLeft, Lacks, need_by}
+use Rattle.buffa_bytes.specs.Front.{delimited_at, taken, varint_at}
+use Rattle.buffa_bytes.proofs.DelimitedLemmas.{taken_sound}
+use Rattle.buffa_bytes.proofs.StepLemmas.{agree_ok}
+use Rattle.buffa_wire.specs.Records.{Datum}
+use Rattle.buffa_map.specs.Entry.{EntryFault, FaultOf, IsEntry, blanks, inner_need, need_at, need_of}
+use Rattle.buffa_map.specs.Fields.{EntryFieldsTakeMemory}
+use Rattle.buffa_map.specs.Merge.{EntryTakesMemory, MergesEntry, RefusesEntry, Rules, state}
+use Rattle.buffa_map.specs.Parts.{ReadsParts, RefusesCut, RefusesParts}
+use Rattle.buffa_map.specs.Pairs.{InOrder, SamePairs, put}
+use Rattle.buffa_map.specs.declared.map_entry.MapEntry.{MapEntry}
+use Rattle.buffa_bytes.proofs.LeftLemmas.{past_cut}
+use Rattle.buffa_map.proofs.TailLemmas.{cut_front, cut_short, delimited_tail, one_rest}
+use Rattle.buffa_bytes.specs.Unread.{IsTailOf}
+use Rattle.buffa_bytes.proofs.TailLemmas.{tail_whole}
+use Rattle.buffa_bytes.specs.Field.{TakesDelimited}
+use Rattle.buffa_map.proofs.NeedLemmas.{entry_charged, entry_found, entry_refused, entry_short, entry_without, no_length}
+
+module _ {K V : Type 0} (r : Rules K V) (pairs : List (K × V)) (records : List (ℕ × Datum)) (left : BudgetLeft) (bs : List ℕ) where
+  abbrev fields_need : List ℕ → BudgetLeft
+  fields_need e = need_at r.key r.val r.depth (blanks r.key r.val r.depth) e
+
+  pub no_entry : (unread : List ℕ) (f : DecodeError) → IsTailOf unread bs → (f ≢ OutOfMemory → delimited_at bs ≡ Err f) → (f ≡ OutOfMemory → EntryTakesMemory r left bs f) → ((e rest : List ℕ) → TakesDelimited bs e rest → IsTailOf rest unread) → ((x : DecodeError) → delimited_at bs ≡ Err x → unread ≡ past_no_delimited bs) →
+      RefusesEntry r (state pairs records left) bs (state pairs records left) unread f
+  no_entry unread f tail h full near short = record {
+    fault = λ ne. entry_short r.key r.val r.depth r.cost r.extra left bs f (h ne);
+    memory = full;
+    pairs = refl;
+    records = refl;
+    unread = record {
+      within = near;
+      past_no_delimited = short;
+      tail = tail;
+      past = λ ne e rest t. no_length r.key r.val r.depth bs f (h ne) e rest t;
+    };
+    spent = record {
+      units = inl refl;
+      charged = λ ne e rest t room. no_length r.key r.val r.depth bs f (h ne) e rest t;
+      unspent = λ no. refl;
+      most = omega arith;
+      least = omega arith;
+      no_unknown = λ ne. omega arith;
+    };
+  }
+
+  -- the bytes of an entry are copied, of which there are some
+  copy_takes : (n : ℕ) (mid : List ℕ) (f : DecodeError) (x : Result (List ℕ × List ℕ) DecodeError) → taken n mid ≡ x → (r.extra ≢ 0) × (r.val.undeclared ≡ true) → delimited_at bs ≡ taken n mid → IsOk x → (n ≡ 0 → ⊥) → EntryTakesMemory r left bs f
+  copy_takes n mid f (Ok p) is keeps same ok some =
+      (p.0, p.1, same ∙ is, inl (keeps.0, keeps.1, λ none. some (sym (agree_ok (taken n mid) p (taken_sound n mid) is).0 ∙ ap length none)))
+  copy_takes n mid f (Err x) is keeps same ok some = cc
+
+  pub no_copy : (n : ℕ) (mid unread : List ℕ) (f : DecodeError) → (r.extra ≢ 0) × (r.val.undeclared ≡ true) → delimited_at bs ≡ taken n mid → IsTailOf unread bs → (f ≢ OutOfMemory → taken n mid ≡ Err f) → (f ≡ OutOfMemory → IsOk (taken n mid)) → (n ≡ 0 → false ≡ true) →
+      ((e rest : List ℕ) → TakesDelimited bs e rest → IsTailOf rest unread) → ((x : DecodeError) → delimited_at bs ≡ Err x → unread ≡ past_no_delimited bs) →
+      RefusesEntry r (state pairs records left) bs (state pairs records left) unread f
+  no_copy n mid unread f keeps same tail reads full free near short =
+      no_entry unread f tail (λ ne. same ∙ reads ne) (λ out. copy_takes n mid f (taken n mid) refl keeps same (full out) (λ z. let k = free z in cc)) near short
+
+  module _ (e rest : List ℕ) (is : delimited_at bs ≡ Ok (e, rest)) where
+    inner : inner_need r.key r.val r.depth bs ≡ fields_need e
+    inner = ap (λ z. need_by z (λ x. fields_need x.0)) is
+
+    parts_memory : (f : DecodeError) → (r.cost ≤ left.memory) × (EntryFieldsTakeMemory r.key r.val r.depth e f ⊎ ((s : MapEntry K V) × IsEntry r.key r.val r.depth e s × (s.known ≡ true))) → EntryTakesMemory r left bs f
+    parts_memory f (room, inl field) = (e, rest, is, inr (room, inl field))
+    parts_memory f (room, inr (s, h, known)) = (e, rest, is, inr (room, inr (s, h, inl known)))
+
+    parts_fault : (f : DecodeError) → ((left.memory < r.cost) × (f ≡ ElementMemoryLimitExceeded)) ⊎ ((r.cost ≤ left.memory) × (Lacks left (need_of r.key r.val r.depth r.cost e) ⊎ FaultOf r.key r.val r.depth e f)) →
+        EntryFault r.key r.val r.depth r.cost r.extra left bs f
+    parts_fault f (inl few) = entry_charged r.key r.val r.depth r.cost r.extra left bs e rest f is few.0 few.1
+    parts_fault f (inr (room, bad)) = entry_refused r.key r.val r.depth r.cost r.extra left bs e rest f is room bad
+
+    parts_units : (new : ℕ) → (new ≡ left.memory) ⊎ ((new + r.cost ≤ left.memory) × (left.memory ≤ new + (need_of r.key r.val r.depth r.cost e).memory)) →
+        (new ≡ left.memory) ⊎ ((new + r.cost ≤ left.memory) × (left.memory ≤ new + (r.cost + (inner_need r.key r.val r.depth bs).memory)))
+    parts_units new (inl same) = inl same
+    parts_units new (inr spent) = inr (spent.0, omega (arith, spent.1, ap (λ (z : BudgetLeft). z.memory) inner))
+
+    -- the fields are refused, or the cost is
+    pub bad_parts : (over : BudgetLeft) (f : DecodeError) → RefusesParts r.key r.val r.depth r.cost e left over f → RefusesEntry r (state pairs records left) bs (state pairs records over) rest f
+    bad_parts over f h =
+        let taken = ap (λ (z : BudgetLeft). z.unknown) inner in
+        record {
+          fault = λ ne. parts_fault f (h.fault ne);
+          memory = λ out. parts_memory f (h.memory out);
+          pairs = refl;
+          records = refl;
+          unread = record {
+            tail = delimited_tail bs e rest is;
+            past = λ ne x after t. one_rest bs e rest x after is t;
+            within = λ x after t. subst (λ z. IsTailOf z rest) (one_rest bs e rest x after is t) (tail_whole rest);
+            past_no_delimited = λ x no. absurd (ok_no_err (sym is ∙ no));
+          };
+          spent = record {
+            units = parts_units over.memory h.units;
+            charged = λ ne e rest t room. h.charged room;
+            unspent = λ no. absurd (no (rw is refl));
+            most = h.most;
+            least = omega (arith, h.least, taken);
+            no_unknown = λ ne. omega (arith, h.least, taken);
+          };
+        }
+
+    module _ (s : MapEntry K V) (over : BudgetLeft) (h : ReadsParts r.key r.val r.depth r.cost e left s over) where
+      pub is_put : s.known ≡ true → (new : List (K × V)) → SamePairs r.same (put r.same pairs s.key s.value) new → InOrder r.keeps_order (put r.same pairs s.key s.value) new → MergesEntry r (state pairs records left) bs (state new records over) rest
+      is_put known new same order = record {
+        says = s;
+        entry = e;
+        read = entry_found r.key r.val r.depth bs e rest s is h.entry;
+        put = rw known same;
+        order = rw known order;
+        keeps = rw known (sym (append-nil records));
+        pays = (rw known (omega (arith, h.pays)), omega (arith, h.pays));
+      }
+
+      pub not_put : s.known ≡ true → (new : List (K × V)) (f : DecodeError) → f ≡ OutOfMemory → new ≡ pairs → RefusesEntry r (state pairs records left) bs (state new records over) rest f
+      not_put known new f out same =
+          rw same (bad_parts over f (record {
+            fault = λ ne. absurd (ne out);
+            memory = λ is. (omega (arith, h.pays), inr (s, h.entry, known));
+            units = inr (omega (arith, h.pays), omega (arith, h.pays));
+            charged = λ room. omega (arith, h.pays);
+            most = omega (arith, h.pays);
+            least = omega (arith, h.pays);
+          }))
+
+      pub is_kept : s.known ≡ false → (kept : List (ℕ × Datum)) (last : BudgetLeft) → kept ≡ records ++ r.adds r.number e → last.unknown + r.extra ≡ over.unknown → last.memory ≡ over.memory → MergesEntry r (state pairs records left) bs (state pairs kept last) rest
+      is_kept known kept last added extra unit = record {
+        says = s;
+        entry = e;
+        read = entry_found r.key r.val r.depth bs e rest s is h.entry;
+        put = rw known (λ q. refl);
+        order = rw known (λ keeps. refl);
+        keeps = rw known added;
+        pays = (rw known (omega (arith, h.pays, extra)), omega (arith, h.pays, unit));
+      }
+
+      -- where none is kept, the records and the budget stand
+      pub is_dropped : s.known ≡ false → r.extra ≡ 0 → ((n : ℕ) (x : List ℕ) → r.adds n x ≡ []) → MergesEntry r (state pairs records left) bs (state pairs records over) rest
+      is_dropped known no_unknown none = is_kept known records over (rw (none r.number e) (sym (append-nil records))) (omega (arith, no_unknown)) refl
+
+      pub not_kept : s.known ≡ false → (kept : List (ℕ × Datum)) (last : BudgetLeft) (f : DecodeError) → kept ≡ records → last.unknown ≤ over.unknown → over.unknown ≤ last.unknown + r.extra → last.memory ≡ over.memory →
+          (f ≢ OutOfMemory → (over.unknown < r.extra) × (f ≡ UnknownFieldLimitExceeded) × (last.unknown ≡ over.unknown)) → (f ≡ OutOfMemory → (r.extra ≢ 0) × (r.extra ≤ over.unknown)) → RefusesEntry r (state pairs records left) bs (state pairs kept last) rest f
+      not_kept known kept last f same most least unit which keeps =
+          let units = ap (λ (z : BudgetLeft). z.memory) inner in
+          let taken = ap (λ (z : BudgetLeft). z.unknown) inner in
+          record {
+            fault = λ ne. entry_without r.key r.val r.depth r.cost r.extra left bs e rest s f is (omega (arith, h.pays)) h.entry known (omega (arith, (which ne).0, h.pays)) (which ne).1;
+            memory = λ out. (e, rest, is, inr (omega (arith, h.pays), inr (s, h.entry, inr ((keeps out).0, omega (arith, (keeps out).1, h.pays)))));
+            pairs = refl;
+            records = same;
+            unread = record {
+              tail = delimited_tail bs e rest is;
+              past = λ ne x after t. one_rest bs e rest x after is t;
+              within = λ x after t. subst (λ z. IsTailOf z rest) (one_rest bs e rest x after is t) (tail_whole rest);
+              past_no_delimited = λ x no. absurd (ok_no_err (sym is ∙ no));
+            };
+            spent = record {
+              units = inr (omega (arith, h.pays, unit), omega (arith, h.pays, unit, units));
+              charged = λ ne e rest t room. omega (arith, h.pays, unit);
+              unspent = λ no. absurd (no (rw is refl));
+              most = omega (arith, h.pays, most);
+              least = omega (arith, h.pays, least, taken);
+              no_unknown = λ ne. omega (arith, h.pays, (which ne).2, taken);
+            };
+          }
+
+  -- a cut entry is refused
+  pub bad_cut : (n : ℕ) (mid unread : List ℕ) (over : BudgetLeft) (f : DecodeError) → varint_at bs ≡ Ok (n, mid) → IsTailOf mid bs → RefusesCut r.key r.val r.depth r.cost n mid left over unread f → RefusesEntry r (state pairs records left) bs (state pairs records over) unread f
+  bad_cut n mid unread over f len tail (inl (few, eof, same, kept)) = rw (same, kept, eof) (no_entry mid UnexpectedEof tail (λ ne. cut_short n bs mid len few) (λ out. cc) (λ e rest t. no_length r.key r.val r.depth bs UnexpectedEof (cut_short n bs mid len few) e rest t) (λ x no. past_cut n bs mid len few))
+  bad_cut n mid unread over f len tail (inr (fits, follows, parts)) = bad_parts (take n mid) unread (cut_front n bs mid unread len fits follows) over f parts

@@ -1,0 +1,215 @@
+-- What fields and entries need of a budget, and how the loop over the fields pays it.
+use Rattle.std.proofs.Common.{◌≡◌, ◌≢◌, ◌⊎◌, inl, inr, ℕ, zero, suc, ◌+◌, ◌==◌, ◌<◌, ◌≤◌, Bool, true, false, List, [], ◌∷◌, length, Result, Ok, Err, refl, sym, ap, subst, ◌∙◌, arith, if◌then◌else◌}
+use Rattle.std.proofs.lemmas.Bool.{eq-eqb, ne_eqb}
+use Rattle.buffa_bytes.specs.Field.{TakesDelimited, TakesTag}
+use Rattle.buffa_bytes.specs.Front.{tag_at, check_wire, delimited_at, skip_at}
+use Rattle.buffa_bytes.specs.WireType.{same_wire}
+use Rattle.buffa_wire.specs.BudgetLeft.{BudgetLeft, Lacks, Pays, PaysAtMost, nothing, plus, unknown_fields}
+use Rattle.buffa_wire.specs.Message.{IsLimit}
+use Rattle.buffa_wire.proofs.MessageLemmas.{NoLimit, length_no_limit, payload_no_limit, tag_no_limit}
+use Rattle.buffa_bytes.specs.declared.wire_type.WireType.{WireType}
+use Rattle.buffa_bytes.specs.declared.error.DecodeError.{DecodeError}
+use Rattle.buffa_bytes.specs.declared.error.DecodeError.TheVariants.{ElementMemoryLimitExceeded, RecursionLimitExceeded, UnknownFieldLimitExceeded}
+use Rattle.buffa_bytes.proofs.DelimitedLemmas.{delimited_sound, delimited_taken}
+use Rattle.buffa_bytes.proofs.StepLemmas.{agree_ok, agree_err}
+use Rattle.buffa_bytes.proofs.FieldLemmas.{tag_falls, tag_sound, same_refl}
+use Rattle.buffa_bytes.specs.Scan.{step_then}
+use Rattle.buffa_bytes.proofs.ScanLemmas.{Leads, Shortens, scan_leads, scan_step}
+use Rattle.buffa_bytes.specs.Content.{Content}
+use Rattle.buffa_bytes.proofs.WireLemmas.{check_same}
+use Rattle.buffa_wire.specs.ByField.{costs}
+use Rattle.buffa_wire.specs.Sequence.{ParsesTo}
+use Rattle.buffa_map.specs.Codec.{Reading, Tells, ValueFault, level, value_at, value_need}
+use Rattle.buffa_map.specs.Entry.{CodecFault, EntryFault, EntryOf, FaultOf, EntryFieldFault, IsEntry, IsEntryField, blanks, codec_need, entry_field_at, field_need, inner_need, need_at, need_of}
+use Rattle.buffa_map.specs.declared.map_entry.MapEntry.{MapEntry}
+use Rattle.buffa_map.proofs.EntryLemmas.{Plain, field_shorter, field_sound, need_by-nothing, value_free}
+use Rattle.buffa_wire.proofs.KeepLemmas.{content_no_limit}
+
+codec_needs : {V : Type 0} (codec : Reading V) (d : ℕ) (w : WireType) (bs : List ℕ) → w ≡ codec.wire → codec_need codec d w bs ≡ value_need codec d bs
+codec_needs codec d w bs same = rw (same, same_refl codec.wire) refl
+
+if_nothing : (b : Bool) (x : BudgetLeft) → x ≡ nothing → (if b then x else nothing) ≡ nothing
+if_nothing true x h = h
+if_nothing false x h = refl
+
+if_both : (b : Bool) (x y : BudgetLeft) → x ≡ nothing → y ≡ nothing → (if b then x else y) ≡ nothing
+if_both true x y h k = h
+if_both false x y h k = k
+
+level_fair : (b : Bool) (d : ℕ) (e : DecodeError) → level b d ≡ Err e → NoLimit e
+level_fair false d e h = cc
+level_fair true zero RecursionLimitExceeded h = λ l. l
+level_fair true zero _ h = cc
+level_fair true (suc d) e h = cc
+
+told_fair : (b : Bool) (x e : DecodeError) → NoLimit x → Tells b x e → NoLimit e
+told_fair false x e n h = subst (λ z. NoLimit z) (sym h) n
+told_fair true x e n (inl h) = subst (λ z. NoLimit z) (sym h) n
+told_fair true x e n (inr h) = h
+
+codec_fair : {V : Type 0} (codec : Reading V) (d n : ℕ) (old : V) → ((c : Content) (x : DecodeError) → codec.reads d old c ≡ Err x → NoLimit x) → (w : WireType) (bs : List ℕ) (e : DecodeError) → CodecFault codec d n old w bs e → NoLimit e
+codec_fair codec d n old fair w bs e (inl h) = subst (λ z. NoLimit z) (sym h.1) (λ l. l)
+codec_fair codec d n old fair w bs e (inr (same, inl h)) = level_fair codec.nested d e h
+codec_fair codec d n old fair w bs e (inr (same, inr (inl h))) = content_no_limit codec.wire bs e h.1
+codec_fair codec d n old fair w bs e (inr (same, inr (inr (o, c, rest, x, t, h, k)))) = told_fair codec.nested x e (fair c x h) k
+
+module _ {K V : Type 0} (key : Reading K) (val : Reading V) (d : ℕ) where
+  -- ---- what the field at the front costs, once its tag is read
+  pub need-key : (bs rest : List ℕ) (n : ℕ) (w : WireType) → tag_at bs ≡ Ok (n, w, rest) → n ≡ 1 → w ≡ key.wire → field_need key val d bs ≡ value_need key d rest
+  need-key bs rest n w h one same = rw (h, eq-eqb n 1 one) (codec_needs key d w rest same)
+
+  pub need-value : (bs rest : List ℕ) (n : ℕ) (w : WireType) → tag_at bs ≡ Ok (n, w, rest) → n ≢ 1 → n ≡ 2 → w ≡ val.wire → field_need key val d bs ≡ value_need val d rest
+  need-value bs rest n w h not two same = rw (h, ne_eqb n 1 not, eq-eqb n 2 two) (codec_needs val d w rest same)
+
+  -- ---- why a field isn't merged
+  pub field_broken : (s : MapEntry K V) (bs : List ℕ) (e : DecodeError) → entry_field_at key val d s bs ≡ Err e → EntryFieldFault key val d s bs e
+  field_broken s bs e h = agree_err (entry_field_at key val d s bs) e (field_sound key val d s bs) h
+
+  pub key_mismatch : (s : MapEntry K V) (bs rest : List ℕ) (n : ℕ) (v w : WireType) (e : DecodeError) → tag_at bs ≡ Ok (n, w, rest) → n ≡ 1 → v ≡ key.wire → check_wire n v w ≡ Err e → EntryFieldFault key val d s bs e
+  key_mismatch s bs rest n v w e h one is bad =
+      let k : check_wire 1 key.wire w ≡ Err e = subst (λ z. check_wire 1 z w ≡ Err e) is (subst (λ z. check_wire z v w ≡ Err e) one bad) in
+      field_broken s bs e (rw (h, eq-eqb n 1 one, k) refl)
+
+  pub value_mismatch : (s : MapEntry K V) (bs rest : List ℕ) (n : ℕ) (v w : WireType) (e : DecodeError) → tag_at bs ≡ Ok (n, w, rest) → n ≢ 1 → n ≡ 2 → v ≡ val.wire → check_wire n v w ≡ Err e → EntryFieldFault key val d s bs e
+  value_mismatch s bs rest n v w e h not two is bad =
+      let k : check_wire 2 val.wire w ≡ Err e = subst (λ z. check_wire 2 z w ≡ Err e) is (subst (λ z. check_wire z v w ≡ Err e) two bad) in
+      field_broken s bs e (rw (h, ne_eqb n 1 not, eq-eqb n 2 two, k) refl)
+
+  pub other_broken : (s : MapEntry K V) (bs rest : List ℕ) (n : ℕ) (w : WireType) (e : DecodeError) → tag_at bs ≡ Ok (n, w, rest) → n ≢ 1 → n ≢ 2 → skip_at d n w rest ≡ Err e → EntryFieldFault key val d s bs e
+  other_broken s bs rest n w e h not_one not_two bad = field_broken s bs e (rw (h, ne_eqb n 1 not_one, ne_eqb n 2 not_two, bad) refl)
+
+  -- a value field is merged, and paid
+  pub value_merged : (s : MapEntry K V) (bs rest x : List ℕ) (n : ℕ) (w : WireType) (v : V) (known now : Bool) (left over : BudgetLeft) → tag_at bs ≡ Ok (n, w, rest) → n ≢ 1 → n ≡ 2 → w ≡ val.wire →
+      value_at val d s.value rest ≡ Ok ((v, known), x) → known ≡ now → Pays left (value_need val d rest) over →
+      (entry_field_at key val d s bs ≡ Ok (record s { value = v; known = now }, x)) × Pays left (field_need key val d bs) over
+  value_merged s bs rest x n w v known now left over h not two same is k paid = (
+    rw (h, ne_eqb n 1 not, eq-eqb n 2 two, check_same 2 val.wire w same, is, k) refl,
+    subst (λ z. Pays left z over) (sym (need-value bs rest n w h not two same)) paid,
+  )
+
+  pub key_refused : (s : MapEntry K V) (bs rest : List ℕ) (n : ℕ) (w : WireType) (left : BudgetLeft) (e : DecodeError) → tag_at bs ≡ Ok (n, w, rest) → n ≡ 1 → w ≡ key.wire →
+      Lacks left (value_need key d rest) ⊎ ValueFault key d s.key rest e → Lacks left (field_need key val d bs) ⊎ EntryFieldFault key val d s bs e
+  key_refused s bs rest n w left e h one same (inl few) = inl (subst (λ z. Lacks left z) (sym (need-key bs rest n w h one same)) few)
+  key_refused s bs rest n w left e h one same (inr bad) =
+      let u : TakesTag bs n w rest = agree_ok (tag_at bs) (n, w, rest) (tag_sound bs) h in
+      inr (inr (inl (w, rest, subst (λ z. TakesTag bs z w rest) one u, inr (same, bad))))
+
+  pub value_refused : (s : MapEntry K V) (bs rest : List ℕ) (n : ℕ) (w : WireType) (left : BudgetLeft) (e : DecodeError) → tag_at bs ≡ Ok (n, w, rest) → n ≢ 1 → n ≡ 2 → w ≡ val.wire →
+      Lacks left (value_need val d rest) ⊎ ValueFault val d s.value rest e → Lacks left (field_need key val d bs) ⊎ EntryFieldFault key val d s bs e
+  value_refused s bs rest n w left e h not two same (inl few) = inl (subst (λ z. Lacks left z) (sym (need-value bs rest n w h not two same)) few)
+  value_refused s bs rest n w left e h not two same (inr bad) =
+      let u : TakesTag bs n w rest = agree_ok (tag_at bs) (n, w, rest) (tag_sound bs) h in
+      inr (inr (inr (inl (w, rest, subst (λ z. TakesTag bs z w rest) two u, inr (same, bad)))))
+
+  -- ---- what the fields of an entry cost
+  short : (s : MapEntry K V) (bs : List ℕ) (r : Result (MapEntry K V × List ℕ) DecodeError) → entry_field_at key val d s bs ≡ r → Shortens (costs (field_need key val d bs) r) bs
+  short s bs (Ok x) e = field_shorter key val d s x.0 bs x.1 e
+  short s bs (Err f) e = tt
+
+  turn : (s : MapEntry K V) (bs : List ℕ) (r : Result (MapEntry K V × List ℕ) DecodeError) → entry_field_at key val d s bs ≡ r → need_at key val d s bs ≡ step_then (need_at key val d) (costs (field_need key val d bs) r)
+  unfolding need_at
+  turn s bs r e =
+      scan_step (λ t rest. costs (field_need key val d rest) (entry_field_at key val d t rest)) nothing (λ t rest. short t rest (entry_field_at key val d t rest) refl) s bs
+      ∙ ap (λ z. step_then (need_at key val d) (costs (field_need key val d bs) z)) e
+
+  -- the front field, and those behind it
+  pub need_step : (s t : MapEntry K V) (bs x : List ℕ) → entry_field_at key val d s bs ≡ Ok (t, x) → need_at key val d s bs ≡ plus (field_need key val d bs) (need_at key val d t x)
+  need_step s t bs x h = turn s bs (Ok (t, x)) h
+
+  front_by : (s : MapEntry K V) (bs : List ℕ) (r : Result (MapEntry K V × List ℕ) DecodeError) → entry_field_at key val d s bs ≡ r → ((field_need key val d bs).unknown ≤ (need_at key val d s bs).unknown) × ((field_need key val d bs).memory ≤ (need_at key val d s bs).memory)
+  front_by s bs (Ok x) e = let q = turn s bs (Ok x) e in (omega (arith, ap (λ z. z.unknown) q), omega (arith, ap (λ z. z.memory) q))
+  front_by s bs (Err f) e = let q = turn s bs (Err f) e in (omega (arith, ap (λ z. z.unknown) q), omega (arith, ap (λ z. z.memory) q))
+
+  pub need_front : (s : MapEntry K V) (bs : List ℕ) → ((field_need key val d bs).unknown ≤ (need_at key val d s bs).unknown) × ((field_need key val d bs).memory ≤ (need_at key val d s bs).memory)
+  need_front s bs = front_by s bs (entry_field_at key val d s bs) refl
+
+  none_at : (s : MapEntry K V) (r : Result (ℕ × WireType × List ℕ) DecodeError) → tag_at [] ≡ r → need_at key val d s [] ≡ nothing
+  none_at s (Ok t) e = absurd (omega (arith, tag_falls [] t e))
+  none_at s (Err f) e = turn s [] (Err f) (rw e refl) ∙ rw e refl
+
+  pub need_end : (s : MapEntry K V) (bs : List ℕ) → length bs ≡ 0 → need_at key val d s bs ≡ nothing
+  need_end s [] h = none_at s (tag_at []) refl
+  need_end s (b ∷ bs) h = absurd (omega (arith, h))
+
+  -- ---- the loop over the fields of e: s was said, r is left, and of start now is left
+  module _ (e : List ℕ) (s : MapEntry K V) (r : List ℕ) (start now : BudgetLeft) (some : 0 < length r)
+      (unknown : now.unknown + (need_at key val d (blanks key val d) e).unknown ≡ start.unknown + (need_at key val d s r).unknown)
+      (memory : now.memory + (need_at key val d (blanks key val d) e).memory ≡ start.memory + (need_at key val d s r).memory) where
+    pub fields_fault : (f : DecodeError) → ParsesTo (IsEntryField key val d) (blanks key val d) e s r → Lacks now (field_need key val d r) ⊎ EntryFieldFault key val d s r f →
+        Lacks start (need_at key val d (blanks key val d) e) ⊎ FaultOf key val d e f
+    fields_fault f h (inl (inl few)) = let front = need_front s r in inl (inl (omega (arith, few, front.0, unknown)))
+    fields_fault f h (inl (inr few)) = let front = need_front s r in inl (inr (omega (arith, few, front.1, memory)))
+    fields_fault f h (inr bad) = inr (s, r, h, (λ z. absurd (omega (arith, some, ap length z))), bad)
+
+    pub fields_spent : (over : BudgetLeft) → now.unknown ≤ start.unknown → now.memory ≤ start.memory → PaysAtMost now (field_need key val d r) over → PaysAtMost start (need_at key val d (blanks key val d) e) over
+    fields_spent over u m h =
+        let front = need_front s r in
+        (omega (arith, u, h.0), omega (arith, unknown, front.0, h.1), omega (arith, m, h.2), omega (arith, memory, front.1, h.3))
+
+  -- ---- a length and an entry
+  pub inner_is : (bs e rest : List ℕ) → delimited_at bs ≡ Ok (e, rest) → inner_need key val d bs ≡ need_at key val d (blanks key val d) e
+  inner_is bs e rest h = rw h refl
+
+  pub entry_short : (cost extra : ℕ) (left : BudgetLeft) (bs : List ℕ) (f : DecodeError) → delimited_at bs ≡ Err f → EntryFault key val d cost extra left bs f
+  entry_short cost extra left bs f h = inl (agree_err (delimited_at bs) f (delimited_sound bs) h)
+
+  pub entry_charged : (cost extra : ℕ) (left : BudgetLeft) (bs e rest : List ℕ) (f : DecodeError) → delimited_at bs ≡ Ok (e, rest) → left.memory < cost → f ≡ ElementMemoryLimitExceeded → EntryFault key val d cost extra left bs f
+  entry_charged cost extra left bs e rest f h l k = let t = agree_ok (delimited_at bs) (e, rest) (delimited_sound bs) h in inr (t.0, e, rest, t.1, t.2, inl (l, k))
+
+  pub lacks_after : (cost : ℕ) (left now : BudgetLeft) (e : List ℕ) → now.memory + cost ≡ left.memory → now.unknown ≡ left.unknown → Lacks now (need_at key val d (blanks key val d) e) → Lacks left (need_of key val d cost e)
+  lacks_after cost left now e m u (inl few) = inl (omega (arith, u, few))
+  lacks_after cost left now e m u (inr few) = inr (omega (arith, m, few))
+
+  pub entry_refused : (cost extra : ℕ) (left : BudgetLeft) (bs e rest : List ℕ) (f : DecodeError) → delimited_at bs ≡ Ok (e, rest) → cost ≤ left.memory →
+      Lacks left (need_of key val d cost e) ⊎ FaultOf key val d e f → EntryFault key val d cost extra left bs f
+  entry_refused cost extra left bs e rest f h m (inl few) =
+      let t = agree_ok (delimited_at bs) (e, rest) (delimited_sound bs) h in inr (t.0, e, rest, t.1, t.2, inr (m, inl few))
+  entry_refused cost extra left bs e rest f h m (inr bad) =
+      let t = agree_ok (delimited_at bs) (e, rest) (delimited_sound bs) h in inr (t.0, e, rest, t.1, t.2, inr (m, inr (inl bad)))
+
+  pub entry_without : (cost extra : ℕ) (left : BudgetLeft) (bs e rest : List ℕ) (s : MapEntry K V) (f : DecodeError) → delimited_at bs ≡ Ok (e, rest) → cost ≤ left.memory → IsEntry key val d e s → s.known ≡ false → left.unknown < (need_of key val d cost e).unknown + extra →
+      f ≡ UnknownFieldLimitExceeded → EntryFault key val d cost extra left bs f
+  entry_without cost extra left bs e rest s f h l k no_value few is = let t = agree_ok (delimited_at bs) (e, rest) (delimited_sound bs) h in inr (t.0, e, rest, t.1, t.2, inr (l, inr (inr (s, k, no_value, few, is))))
+
+  pub entry_found : (bs e rest : List ℕ) (s : MapEntry K V) → delimited_at bs ≡ Ok (e, rest) → IsEntry key val d e s → EntryOf key val d bs e s rest
+  entry_found bs e rest s h k = let t = agree_ok (delimited_at bs) (e, rest) (delimited_sound bs) h in (t.0, t.1, t.2, k)
+
+  -- where no length and so many bytes begin them, none do
+  pub no_length : {P : Type 0} (bs : List ℕ) (f : DecodeError) → delimited_at bs ≡ Err f → (e rest : List ℕ) → TakesDelimited bs e rest → P
+  no_length bs f h e rest t = let k = sym h ∙ delimited_taken bs e rest t in cc
+
+  -- ---- a limit is told only where the need isn't left
+  module _ (key_fair : (d : ℕ) (old : K) (c : Content) (x : DecodeError) → key.reads d old c ≡ Err x → NoLimit x) (val_fair : (d : ℕ) (old : V) (c : Content) (x : DecodeError) → val.reads d old c ≡ Err x → NoLimit x) where
+    field_fair : (s : MapEntry K V) (bs : List ℕ) (f : DecodeError) → EntryFieldFault key val d s bs f → NoLimit f
+    field_fair s bs f (inl h) = tag_no_limit bs f h
+    field_fair s bs f (inr (inl (w, rest, t, h))) = codec_fair key d 1 s.key (key_fair d s.key) w rest f h
+    field_fair s bs f (inr (inr (inl (w, rest, t, h)))) = codec_fair val d 2 s.value (val_fair d s.value) w rest f h
+    field_fair s bs f (inr (inr (inr (n, w, rest, not_one, not_two, t, h)))) = payload_no_limit d n w rest f h
+
+    pub entry_limited : (cost extra : ℕ) (left : BudgetLeft) (bs : List ℕ) (f : DecodeError) → EntryFault key val d cost extra left bs f → IsLimit f →
+        (e : List ℕ) × (rest : List ℕ) × TakesDelimited bs e rest × (Lacks left (need_of key val d cost e)
+        ⊎ ((s : MapEntry K V) × IsEntry key val d e s × (s.known ≡ false) × Lacks left (plus (need_of key val d cost e) (unknown_fields extra))))
+    entry_limited cost extra left bs f (inl h) l = absurd (length_no_limit bs f h l)
+    entry_limited cost extra left bs f (inr (t, e, rest, v, is, inl h)) l = (e, rest, (t, v, is), inl (inr (omega (arith, h.0))))
+    entry_limited cost extra left bs f (inr (t, e, rest, v, is, inr (many, inl (inl few)))) l = (e, rest, (t, v, is), inl (inl (omega (arith, few))))
+    entry_limited cost extra left bs f (inr (t, e, rest, v, is, inr (many, inl (inr few)))) l = (e, rest, (t, v, is), inl (inr (omega (arith, few))))
+    entry_limited cost extra left bs f (inr (t, e, rest, v, is, inr (many, inr (inl h)))) l = absurd (field_fair h.0 h.1 f h.4 l)
+    entry_limited cost extra left bs f (inr (t, e, rest, v, is, inr (many, inr (inr h)))) l = (e, rest, (t, v, is), inr (h.0, h.1, h.2, inl h.3))
+
+  -- ---- where no payload is nested, nothing is needed
+  module _ (key_free : key.nested ≡ false → (d : ℕ) (c : Content) → key.cost d c ≡ nothing) (val_free : val.nested ≡ false → (d : ℕ) (c : Content) → val.cost d c ≡ nothing) where
+    field_free : (bs : List ℕ) → Plain key val d → field_need key val d bs ≡ nothing
+    field_free bs p = need_by-nothing (tag_at bs) (λ t. if t.0 == 1 then codec_need key d t.1 t.2 else (if t.0 == 2 then codec_need val d t.1 t.2 else nothing))
+        (λ t. if_both (t.0 == 1) (codec_need key d t.1 t.2) (if t.0 == 2 then codec_need val d t.1 t.2 else nothing)
+        (if_nothing (same_wire key.wire t.1) (value_need key d t.2) (value_free key d key.blank t.2 (key_free p.0 d)))
+        (if_nothing (t.0 == 2) (codec_need val d t.1 t.2) (if_nothing (same_wire val.wire t.1) (value_need val d t.2) (value_free val d val.blank t.2 (val_free p.1 d)))))
+
+    free_step : (need : BudgetLeft) (s : MapEntry K V) (bs : List ℕ) (r : Result (MapEntry K V × List ℕ) DecodeError) → need ≡ nothing → Leads (λ _ _ z. z ≡ nothing) (costs need r) s bs
+    free_step need s bs (Ok x) h = λ more k. rw (h, k) refl
+    free_step need s bs (Err e) h = h
+
+    pub need_free : (s : MapEntry K V) (bs : List ℕ) → Plain key val d → need_at key val d s bs ≡ nothing
+    unfolding need_at
+    need_free s bs p =
+        scan_leads (λ t rest. costs (field_need key val d rest) (entry_field_at key val d t rest)) nothing (λ t rest. short t rest (entry_field_at key val d t rest) refl) (λ _ _ z. z ≡ nothing)
+        (λ t rest. free_step (field_need key val d rest) t rest (entry_field_at key val d t rest) (field_free rest p)) s bs

@@ -1,0 +1,136 @@
+-- Runs of map records, and what they mean. Source: the protobuf encoding guide, "Maps".
+use Rattle.std.specs.Prelude.{◌≡◌, ◌≢◌, ℕ, ◌+◌, ◌-◌, ◌*◌, nat_lt, ◌==◌, ◌&&◌, ◌||◌, not, Bool, true, List, [], ◌∷◌, ◌++◌, length, map, cond, ◌⊎◌, if◌then◌else◌, Result, Ok, Err}
+use Rattle.buffa_bytes.specs.Gives.{◌>>=◌}
+use Rattle.buffa_bytes.specs.Varint.{IsVarint}
+use Rattle.buffa_bytes.specs.Field.{IsTag, TakesTag, TagFault}
+use Rattle.buffa_bytes.specs.Front.{tag_at, check_wire, delimited_at}
+use Rattle.buffa_bytes.specs.declared.wire_type.WireType.{WireType}
+use Rattle.buffa_bytes.specs.declared.wire_type.WireType.TheVariants.{LengthDelimited}
+use Rattle.buffa_bytes.specs.declared.error.DecodeError.{DecodeError}
+use Rattle.buffa_bytes.specs.declared.error.DecodeError.TheVariants.{ElementMemoryLimitExceeded, UnexpectedField, UnknownFieldLimitExceeded, WireTypeMismatch}
+use Rattle.buffa_wire.specs.BudgetLeft.{BudgetLeft, need_by, nothing, plus}
+use Rattle.buffa_wire.specs.Records.{Datum, bytes}
+use Rattle.buffa_wire.specs.Sequence.{parse_all}
+use Rattle.buffa_map.specs.Codec.{Reading}
+use Rattle.buffa_map.specs.Entry.{IsEntry, EntryFault, blanks, entry_of, inner_need, need_at, need_of}
+use Rattle.buffa_map.specs.Pairs.{put}
+use Rattle.buffa_map.specs.declared.map_entry.MapEntry.{MapEntry}
+
+-- an entry of a run, and what it says
+pub record EntryRecord (K V : Type 0) : Type 0 where
+  pub bytes : List ℕ
+  pub parts : MapEntry K V
+
+-- the bytes of the entries that are undeclared, in order
+abbrev pub undeclared : {K V : Type 0} → List (EntryRecord K V) → List (List ℕ)
+undeclared [] = []
+undeclared (x ∷ xs) = cond x.parts.known (undeclared xs) (x.bytes ∷ undeclared xs)
+
+-- the record of an entry of a field of number n, if it is undeclared
+abbrev pub undeclared_record : ℕ → List ℕ → Bool → List (ℕ × Datum)
+undeclared_record n e known = cond known [] ((n, bytes e) ∷ [])
+
+-- what is added for the undeclared entries, in order: for one of bytes e, `adds n e`
+abbrev pub added : {K V X : Type 0} → (ℕ → List ℕ → List X) → ℕ → List (EntryRecord K V) → List X
+added adds n [] = []
+added adds n (x ∷ xs) = cond x.parts.known [] (adds n x.bytes) ++ added adds n xs
+
+-- the undeclared entries as length-delimited records of number n
+abbrev pub undeclared_records : {K V : Type 0} → ℕ → List (EntryRecord K V) → List (ℕ × Datum)
+undeclared_records n es = map (λ e. (n, bytes e)) (undeclared es)
+
+-- whether need can't be spent of left
+abbrev pub lacks : BudgetLeft → BudgetLeft → Bool
+lacks left need = nat_lt left.unknown need.unknown || nat_lt left.memory need.memory
+
+-- what the entry of a pair says
+abbrev pub pair_entry : {K V : Type 0} → K × V → MapEntry K V
+pair_entry p = record { key = p.0; value = p.1; known = true }
+
+module _ {K V : Type 0} (key : Reading K) (val : Reading V) (d : ℕ) where
+  -- what the messages in these entries cost
+  abbrev pub inner_needs : List (EntryRecord K V) → BudgetLeft
+  inner_needs [] = nothing
+  inner_needs (x ∷ xs) = plus (need_at key val d (blanks key val d) x.bytes) (inner_needs xs)
+
+  -- over is what is left of left after these entries, each of which costs some units of element memory and what the
+  -- messages in it cost, and each one that is undeclared some of the unknown fields left
+  abbrev pub ArePaid : ℕ → ℕ → BudgetLeft → List (EntryRecord K V) → BudgetLeft → Type 0
+  ArePaid cost extra left es over =
+      (over.memory + (length es * cost + (inner_needs es).memory) ≡ left.memory)
+      × (over.unknown + (length (undeclared es) * extra + (inner_needs es).unknown) ≡ left.unknown)
+
+  -- what the messages cost that are merged in the record at the front, if a tag, a length and an entry are there
+  abbrev pub record_need : List ℕ → BudgetLeft
+  record_need bs = need_by (tag_at bs) (λ t. inner_need key val d t.2)
+
+  -- What the entry e says, if left pays for it. Where a fault inside a message isn't named, or what the messages cost
+  -- isn't left, the error stands for any that may be told.
+  abbrev pub entry_in : ℕ → ℕ → BudgetLeft → List ℕ → Result (MapEntry K V) DecodeError
+  entry_in cost extra left e =
+      let need : BudgetLeft = need_of key val d cost e in
+      if lacks left need then Err ElementMemoryLimitExceeded else (do
+        s ← entry_of key val d e
+        if not s.known && nat_lt left.unknown (need.unknown + extra) then Err UnknownFieldLimitExceeded else Ok s)
+
+  -- what is left of the budget after an entry
+  abbrev pub after_entry : ℕ → ℕ → BudgetLeft → EntryRecord K V → BudgetLeft
+  after_entry cost extra left x =
+      let need : BudgetLeft = need_of key val d cost x.bytes in
+      record { unknown = left.unknown - (need.unknown + cond x.parts.known 0 extra); memory = left.memory - need.memory }
+
+module _ {K V : Type 0} (key : Reading K) (val : Reading V) (d n : ℕ) where
+  -- r is a tag of number n, a length, and the entry x of that length
+  abbrev pub IsRecord : List ℕ → EntryRecord K V → Type 0
+  IsRecord r x =
+      (t : List ℕ) × (l : List ℕ) × IsTag t n LengthDelimited × IsVarint l (length x.bytes) × (r ≡ t ++ (l ++ x.bytes))
+      × IsEntry key val d x.bytes x.parts
+
+  -- b is a join of records of the entries es, in order
+  abbrev pub Run : List ℕ → List (EntryRecord K V) → Type 0
+  Run b [] = b ≡ []
+  Run b (x ∷ xs) = (r : List ℕ) × (rest : List ℕ) × IsRecord r x × (b ≡ r ++ rest) × Run rest xs
+
+  -- f is why no record begins these bytes, in this order: the tag's fault, another number, another wire
+  -- type, the fault of the length and the entry
+  abbrev pub RecordFault : ℕ → ℕ → BudgetLeft → List ℕ → DecodeError → Type 0
+  RecordFault cost extra left bs f =
+      TagFault bs f
+      ⊎ (((g : ℕ) × (w : WireType) × (rest : List ℕ) × TakesTag bs g w rest × (g ≢ n) × (f ≡ UnexpectedField g))
+      ⊎ (((w : WireType) × (rest : List ℕ) × TakesTag bs n w rest × (w ≢ LengthDelimited) × (f ≡ WireTypeMismatch n LengthDelimited w))
+      ⊎ ((rest : List ℕ) × TakesTag bs n LengthDelimited rest × EntryFault key val d cost extra left rest f)))
+
+  -- records of the entries es begin the bytes, rest follows, and they are paid
+  abbrev pub RunBegins : ℕ → ℕ → BudgetLeft → List ℕ → List (EntryRecord K V) → List ℕ → BudgetLeft → Type 0
+  RunBegins cost extra left bs es rest over = (front : List ℕ) × (bs ≡ front ++ rest) × Run front es × ArePaid key val d cost extra left es over
+
+  -- after the records of some entries, f is the first fault of what is left
+  abbrev pub RunFault : ℕ → ℕ → BudgetLeft → List ℕ → DecodeError → Type 0
+  RunFault cost extra left bs f =
+      (es : List (EntryRecord K V)) × (rest : List ℕ) × (over : BudgetLeft) × RunBegins cost extra left bs es rest over × (rest ≢ []) × RecordFault cost extra over rest f
+
+  -- the readings: of the record at the front, and of a whole run, which answers the entries and what is over
+  abbrev pub record_at : ℕ → ℕ → BudgetLeft → List ℕ → Result (EntryRecord K V × List ℕ) DecodeError
+  record_at cost extra left bs = do
+    t ← tag_at bs
+    if t.0 == n then (do
+      _ ← check_wire n LengthDelimited t.1
+      e ← delimited_at t.2
+      s ← entry_in key val d cost extra left e.0
+      Ok (record { bytes = e.0; parts = s }, e.1)) else Err (UnexpectedField t.0)
+
+  abbrev pub next_record : ℕ → ℕ → List (EntryRecord K V) × BudgetLeft → List ℕ → Result ((List (EntryRecord K V) × BudgetLeft) × List ℕ) DecodeError
+  next_record cost extra s bs = record_at cost extra s.1 bs >>= (λ x. Ok ((s.0 ++ x.0 ∷ [], after_entry key val d cost extra s.1 x.0), x.1))
+
+  abbrev pub run_of : ℕ → ℕ → BudgetLeft → List ℕ → Result (List (EntryRecord K V) × BudgetLeft) DecodeError
+  run_of cost extra left bs = parse_all (next_record cost extra) ([], left) bs
+
+module _ {K V : Type 0} (eq : K → K → Bool) where
+  -- the pairs after an entry that said s: a declared one is put
+  abbrev pub step : List (K × V) → MapEntry K V → List (K × V)
+  step m s = cond s.known (put eq m s.key s.value) m
+
+  -- the pairs after the entries, in order
+  abbrev pub fold_entries : List (K × V) → List (EntryRecord K V) → List (K × V)
+  fold_entries m [] = m
+  fold_entries m (x ∷ xs) = fold_entries (step m x.parts) xs

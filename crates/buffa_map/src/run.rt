@@ -1,0 +1,112 @@
+//! A run of map records.
+
+ghost use Rattle.std.specs.Prelude.{◌≡◌, ◌+◌, ◌≤◌, IfErr, OnOk};
+ghost use Rattle.buffa_wire.specs.BudgetLeft.{budget_left};
+ghost use Rattle.buffa_map.specs.Lent.{lent_records, records_left, room_in, room_left};
+ghost use Rattle.buffa_map.specs.Merge.{ReadsRun, StopsRun, lending, rules, state};
+
+use crate::codec::{MapCodec, MapValueDecode};
+use crate::entry::merge_entry_by;
+use crate::keep::{Dropped, Keeper};
+use crate::merge_value::ByCodec;
+use crate::storage::MapStorage;
+use buffa_wire::{Buf, DecodeContext, DecodeError, Tag, UnknownFields, WireType, check_wire_type};
+use std::alloc::Global;
+
+/// Merges the records of a run; the entries that are undeclared go to the keeper.
+///
+/// # Errors
+/// Those of [`read_map_field`].
+///
+/// ```ignore
+/// read_run_by::<KC, VC, C, B, Dropped>(alloc, map, number, buf, ctx, &mut Dropped)?;
+/// ```
+pub fn read_run_by<
+    KC: MapCodec,
+    VC: MapValueDecode,
+    C: MapStorage<Key = KC::Value, Value = VC::Value>,
+    B: Buf,
+    L: Keeper,
+>(
+    alloc: Global,
+    map: &mut C,
+    number: u32,
+    buf: &mut B,
+    ctx: DecodeContext<'_>,
+    keeper: &mut L,
+) -> Result<(), DecodeError>
+    ensures ok { OnOk result (ReadsRun (rules KC.reading VC.reading C.equal C.keeps_order ctx.entry.depth number
+        (KC.COST + VC.COST) L.extra L.adds)
+        (state (C.pairs map.old) (L.records keeper.old) ctx.entry.budget.now) (B.unread buf.old)
+        (state (C.pairs map.new) (L.records keeper.new) (budget_left ctx.exit)) (B.unread buf.new)) }
+    ensures err { IfErr result (StopsRun (rules KC.reading VC.reading C.equal C.keeps_order ctx.entry.depth number
+        (KC.COST + VC.COST) L.extra L.adds)
+        (state (C.pairs map.old) (L.records keeper.old) ctx.entry.budget.now) (B.unread buf.old)
+        (state (C.pairs map.new) (L.records keeper.new) (budget_left ctx.exit)) (B.unread buf.new)) }
+    ensures room { L.room keeper.old ≤ L.room keeper.new }
+    ensures kept { B.beyond buf.new ≡ B.beyond buf.old }
+{
+    let DecodeContext { depth, budget } = ctx;
+    let how = ByCodec::<VC>::new();
+    'records: while buf.remaining() > 0 {
+        let tag = Tag::decode(buf)?;
+        if tag.field_number() != number {
+            return Err(DecodeError::UnexpectedField(tag.field_number()));
+        }
+        check_wire_type(tag, WireType::LengthDelimited)?;
+        let lent = DecodeContext {
+            depth,
+            budget: &mut *budget,
+        };
+        merge_entry_by::<KC, _, C, B, L>(alloc, map, buf, lent, number, &how, keeper)?;
+    }
+    Ok(())
+}
+
+/// Merges the records of a map field, to the end of the buffer, into the map.
+///
+/// An entry with a value that is undeclared is appended to the list, if one is passed, as a
+/// length-delimited record of the field's `number`, byte for byte, and takes one of the
+/// unknown fields left; without a list it is dropped, and takes none.
+///
+/// # Errors
+/// The first fault of a record, in this order: of its tag; [`DecodeError::UnexpectedField`] for another
+/// number; [`DecodeError::WireTypeMismatch`]; those of [`crate::entry::merge_entry_with_unknowns`]. What
+/// the records before it say stands in the map and in the list, and what they cost stays spent.
+///
+/// Source: the protobuf encoding guide, "Maps".
+///
+/// ```ignore
+/// read_map_field::<Str, Int32, _, _>(alloc, &mut map, 5, &mut rest, ctx, None)?;
+/// ```
+pub fn read_map_field<
+    KC: MapCodec,
+    VC: MapValueDecode,
+    C: MapStorage<Key = KC::Value, Value = VC::Value>,
+    B: Buf,
+>(
+    alloc: Global,
+    map: &mut C,
+    number: u32,
+    buf: &mut B,
+    ctx: DecodeContext<'_>,
+    unknown: Option<&mut UnknownFields>,
+) -> Result<(), DecodeError>
+    ensures ok { OnOk result (ReadsRun (lending KC.reading VC.reading C.equal C.keeps_order ctx.entry.depth number
+        (KC.COST + VC.COST) unknown.entry)
+        (state (C.pairs map.old) (lent_records unknown.entry) ctx.entry.budget.now) (B.unread buf.old)
+        (state (C.pairs map.new) (records_left unknown.exit) (budget_left ctx.exit)) (B.unread buf.new)) }
+    ensures err { IfErr result (StopsRun (lending KC.reading VC.reading C.equal C.keeps_order ctx.entry.depth number
+        (KC.COST + VC.COST) unknown.entry)
+        (state (C.pairs map.old) (lent_records unknown.entry) ctx.entry.budget.now) (B.unread buf.old)
+        (state (C.pairs map.new) (records_left unknown.exit) (budget_left ctx.exit)) (B.unread buf.new)) }
+    ensures room { room_in unknown.entry ≤ room_left unknown.exit }
+    ensures kept { B.beyond buf.new ≡ B.beyond buf.old }
+{
+    match unknown {
+        None => read_run_by::<KC, VC, C, B, Dropped>(alloc, map, number, buf, ctx, &mut Dropped),
+        Some(list) => read_run_by::<KC, VC, C, B, UnknownFields>(
+            alloc, map, number, buf, ctx, list,
+        ),
+    }
+}

@@ -1,1 +1,0 @@
--- This crate hands out no words.

@@ -1,5 +1,0 @@
--- The lemmas that this crate hands out.
-pub mod FieldMergeLemmas
-pub mod StopLemmas
-pub mod NodePassLemmas
-pub mod WriteLemmas

@@ -1,7 +1,0 @@
-use Rattle.std.proofs.Common.{◌≡◌, take, fold, flat_map}
-use Rattle.std.specs.Hash as fed
-use Rattle.buffa_samples.specs.Letters.{lower}
-use Rattle.buffa_samples.proofs.word.hash_lower.Given as goal
-
-abbrev pub invariant-loop-letter : goal.invariant-loop-letter
-invariant-loop-letter g l = l.state ≡ fold g.H.Hasher.write l.initial.state (flat_map fed.u8 (lower (take l.letter-index l.letters)))

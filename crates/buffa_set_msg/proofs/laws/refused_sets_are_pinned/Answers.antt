@@ -1,5 +1,0 @@
-use Rattle.buffa_set_msg.proofs.PinLemmas.{stop_is_pinned}
-use Rattle.buffa_set_msg.proofs.laws.refused_sets_are_pinned.Goals as goal
-
-pub returns : goal.returns
-returns c = stop_is_pinned

@@ -1,0 +1,108 @@
+//! Which scalar each one is, in the words of the encoding guide: laws, as in [`records`](crate::laws::records).
+
+ghost use Rattle.std.specs.Prelude.{◌≡◌, ◌^◌, ℕ, None, Some};
+ghost use Rattle.buffa_bytes.specs.Scalars.{bool_of, bool_encoding, fixed32_of, fixed32_encoding, fixed64_of, fixed64_encoding};
+ghost use Rattle.buffa_bytes.specs.Scalars.{int64_of, int64_encoding, sfixed32_of, sfixed32_encoding, sfixed64_of};
+ghost use Rattle.buffa_bytes.specs.Scalars.{sfixed64_encoding, sint32_of, sint32_encoding, sint64_of, sint64_encoding};
+ghost use Rattle.buffa_bytes.specs.Scalars.{uint32_of, uint32_encoding, uint64_of, uint64_encoding};
+ghost use Rattle.std.specs.Int.{to_le_bytes, w32, w64};
+ghost use Rattle.buffa_bytes.specs.Values.{int32_of, int32_encoding};
+ghost use Rattle.buffa_bytes.specs.Varint.{varint_encoding};
+ghost use Rattle.buffa_bytes.specs.declared.wire_type.WireType.TheVariants as wire;
+ghost use Rattle.buffa_wire.specs.Found.{fixed32_in, fixed64_in, varint_in};
+ghost use Rattle.buffa_wire.specs.Pinned.{IsRecordedAs, IsSpelled, SpellsBelow};
+ghost use Rattle.buffa_wire.specs.Records.{fixed32, fixed64, varint};
+
+use crate::form::{EightBytes, Form, FourBytes, Varint};
+use crate::scalar::Scalar;
+use crate::scalars::{
+    Bool, Fixed32, Fixed64, Int32, Int64, Sfixed32, Sfixed64, Sint32, Sint64, Uint32, Uint64,
+};
+
+/// What is written of a value of each scalar. Nothing is open.
+pub fn scalars_are_written()
+    ensures int32 { IsSpelled ⟦<Int32 as Scalar>⟧.number_of ⟦<<Int32 as Scalar>::Form as Form>⟧.encoding int32_encoding }
+    ensures int64 { IsSpelled ⟦<Int64 as Scalar>⟧.number_of ⟦<<Int64 as Scalar>::Form as Form>⟧.encoding int64_encoding }
+    ensures uint32 { IsSpelled ⟦<Uint32 as Scalar>⟧.number_of ⟦<<Uint32 as Scalar>::Form as Form>⟧.encoding uint32_encoding }
+    ensures uint64 { IsSpelled ⟦<Uint64 as Scalar>⟧.number_of ⟦<<Uint64 as Scalar>::Form as Form>⟧.encoding uint64_encoding }
+    ensures sint32 { IsSpelled ⟦<Sint32 as Scalar>⟧.number_of ⟦<<Sint32 as Scalar>::Form as Form>⟧.encoding sint32_encoding }
+    ensures sint64 { IsSpelled ⟦<Sint64 as Scalar>⟧.number_of ⟦<<Sint64 as Scalar>::Form as Form>⟧.encoding sint64_encoding }
+    ensures bool { IsSpelled ⟦<Bool as Scalar>⟧.number_of ⟦<<Bool as Scalar>::Form as Form>⟧.encoding bool_encoding }
+    ensures fixed32 { IsSpelled ⟦<Fixed32 as Scalar>⟧.number_of ⟦<<Fixed32 as Scalar>::Form as Form>⟧.encoding fixed32_encoding }
+    ensures fixed64 { IsSpelled ⟦<Fixed64 as Scalar>⟧.number_of ⟦<<Fixed64 as Scalar>::Form as Form>⟧.encoding fixed64_encoding }
+    ensures sfixed32 { IsSpelled ⟦<Sfixed32 as Scalar>⟧.number_of ⟦<<Sfixed32 as Scalar>::Form as Form>⟧.encoding sfixed32_encoding }
+    ensures sfixed64 { IsSpelled ⟦<Sfixed64 as Scalar>⟧.number_of ⟦<<Sfixed64 as Scalar>::Form as Form>⟧.encoding sfixed64_encoding }
+{}
+
+/// What the number in an encoding of each scalar means. Nothing is open.
+pub fn scalars_are_read()
+    ensures int32 { (n : ℕ) → ⟦<Int32 as Scalar>⟧.value_of n ≡ int32_of n }
+    ensures int64 { (n : ℕ) → ⟦<Int64 as Scalar>⟧.value_of n ≡ int64_of n }
+    ensures uint32 { (n : ℕ) → ⟦<Uint32 as Scalar>⟧.value_of n ≡ uint32_of n }
+    ensures uint64 { (n : ℕ) → ⟦<Uint64 as Scalar>⟧.value_of n ≡ uint64_of n }
+    ensures sint32 { (n : ℕ) → ⟦<Sint32 as Scalar>⟧.value_of n ≡ sint32_of n }
+    ensures sint64 { (n : ℕ) → ⟦<Sint64 as Scalar>⟧.value_of n ≡ sint64_of n }
+    ensures bool { (n : ℕ) → ⟦<Bool as Scalar>⟧.value_of n ≡ bool_of n }
+    ensures fixed32 { (n : ℕ) → ⟦<Fixed32 as Scalar>⟧.value_of n ≡ fixed32_of n }
+    ensures fixed64 { (n : ℕ) → ⟦<Fixed64 as Scalar>⟧.value_of n ≡ fixed64_of n }
+    ensures sfixed32 { (n : ℕ) → ⟦<Sfixed32 as Scalar>⟧.value_of n ≡ sfixed32_of n }
+    ensures sfixed64 { (n : ℕ) → ⟦<Sfixed64 as Scalar>⟧.value_of n ≡ sfixed64_of n }
+{}
+
+/// The wire type of each scalar's payloads. Nothing is open.
+pub fn scalars_have_wire_types()
+    ensures int32 { ⟦<<Int32 as Scalar>::Form as Form>⟧.WIRE_TYPE ≡ wire.Varint }
+    ensures int64 { ⟦<<Int64 as Scalar>::Form as Form>⟧.WIRE_TYPE ≡ wire.Varint }
+    ensures uint32 { ⟦<<Uint32 as Scalar>::Form as Form>⟧.WIRE_TYPE ≡ wire.Varint }
+    ensures uint64 { ⟦<<Uint64 as Scalar>::Form as Form>⟧.WIRE_TYPE ≡ wire.Varint }
+    ensures sint32 { ⟦<<Sint32 as Scalar>::Form as Form>⟧.WIRE_TYPE ≡ wire.Varint }
+    ensures sint64 { ⟦<<Sint64 as Scalar>::Form as Form>⟧.WIRE_TYPE ≡ wire.Varint }
+    ensures bool { ⟦<<Bool as Scalar>::Form as Form>⟧.WIRE_TYPE ≡ wire.Varint }
+    ensures fixed32 { ⟦<<Fixed32 as Scalar>::Form as Form>⟧.WIRE_TYPE ≡ wire.Fixed32 }
+    ensures fixed64 { ⟦<<Fixed64 as Scalar>::Form as Form>⟧.WIRE_TYPE ≡ wire.Fixed64 }
+    ensures sfixed32 { ⟦<<Sfixed32 as Scalar>::Form as Form>⟧.WIRE_TYPE ≡ wire.Fixed32 }
+    ensures sfixed64 { ⟦<<Sfixed64 as Scalar>::Form as Form>⟧.WIRE_TYPE ≡ wire.Fixed64 }
+{}
+
+/// What a value of each scalar costs where it is an element. Nothing is open.
+pub fn scalars_cost_so_much()
+    ensures int32 { ⟦<Int32 as Scalar>⟧.UNITS ≡ 4 }
+    ensures int64 { ⟦<Int64 as Scalar>⟧.UNITS ≡ 8 }
+    ensures uint32 { ⟦<Uint32 as Scalar>⟧.UNITS ≡ 4 }
+    ensures uint64 { ⟦<Uint64 as Scalar>⟧.UNITS ≡ 8 }
+    ensures sint32 { ⟦<Sint32 as Scalar>⟧.UNITS ≡ 4 }
+    ensures sint64 { ⟦<Sint64 as Scalar>⟧.UNITS ≡ 8 }
+    ensures bool { ⟦<Bool as Scalar>⟧.UNITS ≡ 1 }
+    ensures fixed32 { ⟦<Fixed32 as Scalar>⟧.UNITS ≡ 4 }
+    ensures fixed64 { ⟦<Fixed64 as Scalar>⟧.UNITS ≡ 8 }
+    ensures sfixed32 { ⟦<Sfixed32 as Scalar>⟧.UNITS ≡ 4 }
+    ensures sfixed64 { ⟦<Sfixed64 as Scalar>⟧.UNITS ≡ 8 }
+{}
+
+/// The length of each scalar's encodings, where they have one. Nothing is open.
+pub fn scalars_have_lengths()
+    ensures int32 { ⟦<Int32 as Scalar>⟧.LEN ≡ None }
+    ensures int64 { ⟦<Int64 as Scalar>⟧.LEN ≡ None }
+    ensures uint32 { ⟦<Uint32 as Scalar>⟧.LEN ≡ None }
+    ensures uint64 { ⟦<Uint64 as Scalar>⟧.LEN ≡ None }
+    ensures sint32 { ⟦<Sint32 as Scalar>⟧.LEN ≡ None }
+    ensures sint64 { ⟦<Sint64 as Scalar>⟧.LEN ≡ None }
+    ensures bool { ⟦<Bool as Scalar>⟧.LEN ≡ Some 1 }
+    ensures fixed32 { ⟦<Fixed32 as Scalar>⟧.LEN ≡ Some 4 }
+    ensures fixed64 { ⟦<Fixed64 as Scalar>⟧.LEN ≡ Some 8 }
+    ensures sfixed32 { ⟦<Sfixed32 as Scalar>⟧.LEN ≡ Some 4 }
+    ensures sfixed64 { ⟦<Sfixed64 as Scalar>⟧.LEN ≡ Some 8 }
+{}
+
+/// How each form spells a number, which numbers it spells, and the record of one. Nothing is open.
+pub fn forms_are_these()
+    ensures varint { SpellsBelow ⟦<Varint as Form>⟧.encoding ⟦<Varint as Form>⟧.spells varint_encoding (2 ^ 64) }
+    ensures varint_record { IsRecordedAs ⟦<Varint as Form>⟧.datum ⟦<Varint as Form>⟧.found varint varint_in }
+    ensures varint_wire { ⟦<Varint as Form>⟧.WIRE_TYPE ≡ wire.Varint }
+    ensures four { SpellsBelow ⟦<FourBytes as Form>⟧.encoding ⟦<FourBytes as Form>⟧.spells (to_le_bytes w32) (2 ^ 32) }
+    ensures four_record { IsRecordedAs ⟦<FourBytes as Form>⟧.datum ⟦<FourBytes as Form>⟧.found fixed32 fixed32_in }
+    ensures four_wire { ⟦<FourBytes as Form>⟧.WIRE_TYPE ≡ wire.Fixed32 }
+    ensures eight { SpellsBelow ⟦<EightBytes as Form>⟧.encoding ⟦<EightBytes as Form>⟧.spells (to_le_bytes w64) (2 ^ 64) }
+    ensures eight_record { IsRecordedAs ⟦<EightBytes as Form>⟧.datum ⟦<EightBytes as Form>⟧.found fixed64 fixed64_in }
+    ensures eight_wire { ⟦<EightBytes as Form>⟧.WIRE_TYPE ≡ wire.Fixed64 }
+{}

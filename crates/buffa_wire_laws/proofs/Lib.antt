@@ -1,3 +1,0 @@
--- The lemmas that this crate hands out.
-pub mod PinLemmas
-pub mod FaultLemmas

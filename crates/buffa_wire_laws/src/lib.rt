@@ -1,7 +1,0 @@
-//! What the definitions of the wire say together, and what its contracts leave open: laws, each a function with nothing
-//! to do, whose contract is the law.
-#![tactic(auto)]
-
-pub mod fields;
-pub mod records;
-pub mod scalars;

@@ -1,0 +1,3 @@
+//! What protoc-gen-buffa made of error_info.proto.
+
+pub mod error_info;

@@ -1,0 +1,144 @@
+//! Bytes and values of an enum: optional ones, lists, maps.
+
+ghost use Rattle.std.proofs.Common.{lit<, refl};
+ghost use Rattle.buffa_fields.specs.Members.{field, keep};
+
+use crate::state::State;
+use buffa_fields::fields::Fields;
+use buffa_fields::kept::{self, KeptFields};
+use buffa_fields::map_member::MapOf;
+use buffa_fields::meaning::{And, And9};
+use buffa_fields::member::Member;
+use buffa_fields::message::{Listed, Listing};
+use buffa_fields::optional::Optional;
+use buffa_fields::packed::Packed;
+use buffa_fields::plain::Plain;
+use buffa_fields::repeated::Repeated;
+use buffa_fields::visitor::Visitor;
+use buffa_map::map_codec::{Bool, BytesBuf, BytesVec, Int64, Map, OpenEnum};
+use buffa_wire::{Blank, DecodeContext, DecodeError, EnumValue, Formed, Tag, UnknownFields};
+use bytes::Bytes;
+use std::alloc::Global;
+
+/// message Assorted {
+///     optional bytes data = 1;
+///     optional State state = 2;
+///     repeated bytes parts = 3;
+///     repeated State past = 4 [packed = false];
+///     repeated State coming = 5;
+///     map<bool, bytes> marks = 6;
+///     map<int64, State> states = 7;
+///     bytes shared = 8;
+/// }
+///
+/// ```ignore
+/// impl Formed for Assorted { .. }
+/// ```
+#[derive(Drop)]
+pub struct Assorted {
+    pub data: Option<Vec<u8>>,
+    pub state: Option<EnumValue<State>>,
+    pub parts: Vec<Vec<u8>>,
+    pub past: Vec<EnumValue<State>>,
+    pub coming: Vec<EnumValue<State>>,
+    pub marks: Map<bool, Vec<u8>>,
+    pub states: Map<i64, EnumValue<State>>,
+    pub shared: Bytes,
+    pub rest: UnknownFields,
+}
+
+impl Fields for Assorted {
+    type Meaning = And9<
+        Option<[u8; 0]>,
+        Option<(bool, i32)>,
+        [[u8; 0]; 0],
+        [(bool, i32); 0],
+        [(bool, i32); 0],
+        [And<bool, [u8; 0]>; 0],
+        [And<i64, (bool, i32)>; 0],
+        [u8; 0],
+        KeptFields,
+    >;
+
+    const COST: usize = 216;
+
+    ghost COST = { 216 };
+
+    ghost positive = { lit< tt };
+
+    ghost layout = { field 1 (λ m. m.data) ⟦<Optional<BytesVec> as Member>⟧.shape (
+        field 2 (λ m. m.state) ⟦<Optional<OpenEnum<State>> as Member>⟧.shape (
+        field 3 (λ m. m.parts) ⟦<Repeated<BytesVec> as Member>⟧.shape (
+        field 4 (λ m. m.past) ⟦<Repeated<OpenEnum<State>> as Member>⟧.shape (
+        field 5 (λ m. m.coming) ⟦<Packed<OpenEnum<State>> as Member>⟧.shape (
+        field 6 (λ m. m.marks) ⟦<MapOf<Bool, BytesVec> as Member>⟧.shape (
+        field 7 (λ m. m.states) ⟦<MapOf<Int64, OpenEnum<State>> as Member>⟧.shape (
+        field 8 (λ m. m.shared) ⟦<Plain<BytesBuf> as Member>⟧.shape (
+        keep (λ m. m.rest.records))))))))) };
+
+    ghost sound = { refl };
+
+    fn visit<V: Visitor>(&self, visitor: &mut V) {
+        visitor.visit::<Optional<BytesVec>>(1, &self.data);
+        visitor.visit::<Optional<OpenEnum<State>>>(2, &self.state);
+        visitor.visit::<Repeated<BytesVec>>(3, &self.parts);
+        visitor.visit::<Repeated<OpenEnum<State>>>(4, &self.past);
+        visitor.visit::<Packed<OpenEnum<State>>>(5, &self.coming);
+        visitor.visit::<MapOf<Bool, BytesVec>>(6, &self.marks);
+        visitor.visit::<MapOf<Int64, OpenEnum<State>>>(7, &self.states);
+        visitor.visit::<Plain<BytesBuf>>(8, &self.shared);
+        visitor.visit_kept(&self.rest);
+    }
+
+    fn take(
+        &mut self,
+        alloc: Global,
+        tag: Tag,
+        buf: &mut &[u8],
+        ctx: DecodeContext<'_>,
+    ) -> Result<(), DecodeError> {
+        match tag.field_number() {
+            1 => Optional::<BytesVec>::merge(&mut self.data, alloc, tag, buf, ctx),
+            2 => Optional::<OpenEnum<State>>::merge(&mut self.state, alloc, tag, buf, ctx),
+            3 => Repeated::<BytesVec>::merge(&mut self.parts, alloc, tag, buf, ctx),
+            4 => Repeated::<OpenEnum<State>>::merge(&mut self.past, alloc, tag, buf, ctx),
+            5 => Packed::<OpenEnum<State>>::merge(&mut self.coming, alloc, tag, buf, ctx),
+            6 => MapOf::<Bool, BytesVec>::merge(&mut self.marks, alloc, tag, buf, ctx),
+            7 => MapOf::<Int64, OpenEnum<State>>::merge(&mut self.states, alloc, tag, buf, ctx),
+            8 => Plain::<BytesBuf>::merge(&mut self.shared, alloc, tag, buf, ctx),
+            _ => kept::keep(alloc, &mut self.rest, tag, buf, ctx),
+        }
+    }
+}
+
+impl Blank for Assorted {
+    type Meaning = <Assorted as Fields>::Meaning;
+
+    ghost meaning = { ⟦<Assorted as Fields>⟧.layout.meaning };
+
+    ghost blank_is = { ⟦<Assorted as Fields>⟧.layout.blank };
+
+    fn blank(alloc: Global) -> Assorted {
+        Assorted {
+            data: None,
+            state: None,
+            parts: Vec::new(alloc),
+            past: Vec::new(alloc),
+            coming: Vec::new(alloc),
+            marks: Map::new(alloc),
+            states: Map::new(alloc),
+            shared: Bytes::new(),
+            rest: UnknownFields::new(alloc),
+        }
+    }
+}
+
+impl Listing for Assorted {
+    ghost means = { λ m. refl };
+
+    ghost starts = { refl };
+}
+
+impl Formed for Assorted {
+    type Form = Listed;
+}

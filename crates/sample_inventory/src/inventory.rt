@@ -1,0 +1,107 @@
+//! An inventory, the example of docs/GUIDE.md: values, an optional one, a map, and kept fields.
+
+ghost use Rattle.std.proofs.Common.{lit<, refl};
+ghost use Rattle.buffa_fields.specs.Members.{field, keep};
+
+use buffa_fields::fields::Fields;
+use buffa_fields::kept::{self, KeptFields};
+use buffa_fields::map_member::MapOf;
+use buffa_fields::meaning::{And, And5};
+use buffa_fields::member::Member;
+use buffa_fields::message::{Listed, Listing};
+use buffa_fields::optional::Optional;
+use buffa_fields::plain::Plain;
+use buffa_fields::visitor::Visitor;
+use buffa_map::map_codec::{Bool, Int32, Map, Str};
+use buffa_wire::{Blank, DecodeContext, DecodeError, Formed, Tag, UnknownFields};
+use std::alloc::Global;
+use std::string::String;
+
+/// message Inventory {
+///     int32 total = 1;
+///     string note = 2;
+///     optional bool listed = 3;
+///     map<string, int32> counts = 5;
+/// }
+///
+/// ```ignore
+/// let mut message: Inventory = Blank::blank(alloc);
+/// ```
+#[derive(Drop)]
+pub struct Inventory {
+    pub total: i32,
+    pub note: String,
+    pub listed: Option<bool>,
+    pub counts: Map<String, i32>,
+    pub rest: UnknownFields,
+}
+
+impl Fields for Inventory {
+    type Meaning = And5<i32, [u8; 0], Option<bool>, [And<[u8; 0], i32>; 0], KeptFields>;
+
+    const COST: usize = 96;
+
+    ghost COST = { 96 };
+
+    ghost positive = { lit< tt };
+
+    ghost layout = { field 1 (λ m. m.total) ⟦<Plain<Int32> as Member>⟧.shape (
+        field 2 (λ m. m.note) ⟦<Plain<Str> as Member>⟧.shape (
+        field 3 (λ m. m.listed) ⟦<Optional<Bool> as Member>⟧.shape (
+        field 5 (λ m. m.counts) ⟦<MapOf<Str, Int32> as Member>⟧.shape (
+        keep (λ m. m.rest.records))))) };
+
+    ghost sound = { refl };
+
+    fn visit<V: Visitor>(&self, visitor: &mut V) {
+        visitor.visit::<Plain<Int32>>(1, &self.total);
+        visitor.visit::<Plain<Str>>(2, &self.note);
+        visitor.visit::<Optional<Bool>>(3, &self.listed);
+        visitor.visit::<MapOf<Str, Int32>>(5, &self.counts);
+        visitor.visit_kept(&self.rest);
+    }
+
+    fn take(
+        &mut self,
+        alloc: Global,
+        tag: Tag,
+        buf: &mut &[u8],
+        ctx: DecodeContext<'_>,
+    ) -> Result<(), DecodeError> {
+        match tag.field_number() {
+            1 => Plain::<Int32>::merge(&mut self.total, alloc, tag, buf, ctx),
+            2 => Plain::<Str>::merge(&mut self.note, alloc, tag, buf, ctx),
+            3 => Optional::<Bool>::merge(&mut self.listed, alloc, tag, buf, ctx),
+            5 => MapOf::<Str, Int32>::merge(&mut self.counts, alloc, tag, buf, ctx),
+            _ => kept::keep(alloc, &mut self.rest, tag, buf, ctx),
+        }
+    }
+}
+
+impl Blank for Inventory {
+    type Meaning = <Inventory as Fields>::Meaning;
+
+    ghost meaning = { ⟦<Inventory as Fields>⟧.layout.meaning };
+
+    ghost blank_is = { ⟦<Inventory as Fields>⟧.layout.blank };
+
+    fn blank(alloc: Global) -> Inventory {
+        Inventory {
+            total: 0,
+            note: String::new(alloc),
+            listed: None,
+            counts: Map::new(alloc),
+            rest: UnknownFields::new(alloc),
+        }
+    }
+}
+
+impl Listing for Inventory {
+    ghost means = { λ m. refl };
+
+    ghost starts = { refl };
+}
+
+impl Formed for Inventory {
+    type Form = Listed;
+}

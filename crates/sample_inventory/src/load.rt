@@ -1,0 +1,93 @@
+//! A load: optional values, and kept fields.
+
+ghost use Rattle.std.proofs.Common.{lit<, refl};
+ghost use Rattle.buffa_fields.specs.Members.{field, keep};
+
+use buffa_fields::fields::Fields;
+use buffa_fields::kept::{self, KeptFields};
+use buffa_fields::meaning::And3;
+use buffa_fields::member::Member;
+use buffa_fields::message::{Listed, Listing};
+use buffa_fields::optional::Optional;
+use buffa_fields::visitor::Visitor;
+use buffa_map::map_codec::{Int32, Str};
+use buffa_wire::{Blank, DecodeContext, DecodeError, Formed, Tag, UnknownFields};
+use std::alloc::Global;
+use std::string::String;
+
+/// message Load {
+///     optional int32 weight = 1;
+///     optional string mark = 2;
+/// }
+///
+/// ```ignore
+/// impl Formed for Load { .. }
+/// ```
+#[derive(Drop)]
+pub struct Load {
+    pub weight: Option<i32>,
+    pub mark: Option<String>,
+    pub rest: UnknownFields,
+}
+
+impl Fields for Load {
+    type Meaning = And3<Option<i32>, Option<[u8; 0]>, KeptFields>;
+
+    const COST: usize = 56;
+
+    ghost COST = { 56 };
+
+    ghost positive = { lit< tt };
+
+    ghost layout = { field 1 (λ m. m.weight) ⟦<Optional<Int32> as Member>⟧.shape (
+        field 2 (λ m. m.mark) ⟦<Optional<Str> as Member>⟧.shape (
+        keep (λ m. m.rest.records))) };
+
+    ghost sound = { refl };
+
+    fn visit<V: Visitor>(&self, visitor: &mut V) {
+        visitor.visit::<Optional<Int32>>(1, &self.weight);
+        visitor.visit::<Optional<Str>>(2, &self.mark);
+        visitor.visit_kept(&self.rest);
+    }
+
+    fn take(
+        &mut self,
+        alloc: Global,
+        tag: Tag,
+        buf: &mut &[u8],
+        ctx: DecodeContext<'_>,
+    ) -> Result<(), DecodeError> {
+        match tag.field_number() {
+            1 => Optional::<Int32>::merge(&mut self.weight, alloc, tag, buf, ctx),
+            2 => Optional::<Str>::merge(&mut self.mark, alloc, tag, buf, ctx),
+            _ => kept::keep(alloc, &mut self.rest, tag, buf, ctx),
+        }
+    }
+}
+
+impl Blank for Load {
+    type Meaning = <Load as Fields>::Meaning;
+
+    ghost meaning = { ⟦<Load as Fields>⟧.layout.meaning };
+
+    ghost blank_is = { ⟦<Load as Fields>⟧.layout.blank };
+
+    fn blank(alloc: Global) -> Load {
+        Load {
+            weight: None,
+            mark: None,
+            rest: UnknownFields::new(alloc),
+        }
+    }
+}
+
+impl Listing for Load {
+    ghost means = { λ m. refl };
+
+    ghost starts = { refl };
+}
+
+impl Formed for Load {
+    type Form = Listed;
+}

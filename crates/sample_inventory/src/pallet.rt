@@ -1,0 +1,104 @@
+//! A pallet: a group, and a list of groups.
+
+ghost use Rattle.std.proofs.Common.{lit<, refl};
+ghost use Rattle.buffa_fields.specs.Members.{field, skip};
+
+use crate::inventory::Inventory;
+use buffa_fields::fields::Fields;
+use buffa_fields::group::Group;
+use buffa_fields::kept;
+use buffa_fields::meaning::And4;
+use buffa_fields::member::Member;
+use buffa_fields::message::{Listed, Listing};
+use buffa_fields::plain::Plain;
+use buffa_fields::repeated_group::RepeatedGroup;
+use buffa_fields::visitor::Visitor;
+use buffa_map::map_codec::Str;
+use buffa_wire::{Blank, DecodeContext, DecodeError, Formed, Tag};
+use std::alloc::Global;
+use std::string::String;
+
+/// message Pallet {
+///     string mark = 1;
+///     Inventory stock = 2 [features.message_encoding = DELIMITED];
+///     repeated Inventory layers = 3 [features.message_encoding = DELIMITED];
+/// }
+///
+/// ```ignore
+/// impl Formed for Pallet { .. }
+/// ```
+#[derive(Drop)]
+pub struct Pallet {
+    pub mark: String,
+    pub stock: Option<Inventory>,
+    pub layers: Vec<Inventory>,
+}
+
+impl Fields for Pallet {
+    type Meaning = And4<
+        [u8; 0],
+        Option<<Inventory as Blank>::Meaning>,
+        [<Inventory as Blank>::Meaning; 0],
+        (),
+    >;
+
+    const COST: usize = 160;
+
+    ghost COST = { 160 };
+
+    ghost positive = { lit< tt };
+
+    ghost layout = { field 1 (λ m. m.mark) ⟦<Plain<Str> as Member>⟧.shape (
+        field 2 (λ m. m.stock) ⟦<Group<Inventory> as Member>⟧.shape (
+        field 3 (λ m. m.layers) ⟦<RepeatedGroup<Inventory> as Member>⟧.shape (
+        skip))) };
+
+    ghost sound = { refl };
+
+    fn visit<V: Visitor>(&self, visitor: &mut V) {
+        visitor.visit::<Plain<Str>>(1, &self.mark);
+        visitor.visit::<Group<Inventory>>(2, &self.stock);
+        visitor.visit::<RepeatedGroup<Inventory>>(3, &self.layers);
+    }
+
+    fn take(
+        &mut self,
+        alloc: Global,
+        tag: Tag,
+        buf: &mut &[u8],
+        ctx: DecodeContext<'_>,
+    ) -> Result<(), DecodeError> {
+        match tag.field_number() {
+            1 => Plain::<Str>::merge(&mut self.mark, alloc, tag, buf, ctx),
+            2 => Group::<Inventory>::merge(&mut self.stock, alloc, tag, buf, ctx),
+            3 => RepeatedGroup::<Inventory>::merge(&mut self.layers, alloc, tag, buf, ctx),
+            _ => kept::pass(tag, buf, ctx),
+        }
+    }
+}
+
+impl Blank for Pallet {
+    type Meaning = <Pallet as Fields>::Meaning;
+
+    ghost meaning = { ⟦<Pallet as Fields>⟧.layout.meaning };
+
+    ghost blank_is = { ⟦<Pallet as Fields>⟧.layout.blank };
+
+    fn blank(alloc: Global) -> Pallet {
+        Pallet {
+            mark: String::new(alloc),
+            stock: None,
+            layers: Vec::new(alloc),
+        }
+    }
+}
+
+impl Listing for Pallet {
+    ghost means = { λ m. refl };
+
+    ghost starts = { refl };
+}
+
+impl Formed for Pallet {
+    type Form = Listed;
+}

@@ -1,0 +1,88 @@
+//! A parcel: a member that is a message.
+
+ghost use Rattle.std.proofs.Common.{lit<, refl};
+ghost use Rattle.buffa_fields.specs.Members.{field, skip};
+
+use crate::inventory::Inventory;
+use buffa_fields::fields::Fields;
+use buffa_fields::kept;
+use buffa_fields::meaning::And3;
+use buffa_fields::member::Member;
+use buffa_fields::message::{Listed, Listing};
+use buffa_fields::nested::Nested;
+use buffa_fields::plain::Plain;
+use buffa_fields::visitor::Visitor;
+use buffa_map::map_codec::Int64;
+use buffa_wire::{Blank, DecodeContext, DecodeError, Formed, Tag};
+use std::alloc::Global;
+
+/// message Parcel {
+///     int64 id = 1;
+///     Inventory stock = 2;
+/// }
+///
+/// ```ignore
+/// impl Formed for Parcel { .. }
+/// ```
+#[derive(Drop)]
+pub struct Parcel {
+    pub id: i64,
+    pub stock: Option<Inventory>,
+}
+
+impl Fields for Parcel {
+    type Meaning = And3<i64, Option<<Inventory as Blank>::Meaning>, ()>;
+
+    const COST: usize = 112;
+
+    ghost COST = { 112 };
+
+    ghost positive = { lit< tt };
+
+    ghost layout = { field 1 (λ m. m.id) ⟦<Plain<Int64> as Member>⟧.shape (
+        field 2 (λ m. m.stock) ⟦<Nested<Inventory> as Member>⟧.shape (
+        skip)) };
+
+    ghost sound = { refl };
+
+    fn visit<V: Visitor>(&self, visitor: &mut V) {
+        visitor.visit::<Plain<Int64>>(1, &self.id);
+        visitor.visit::<Nested<Inventory>>(2, &self.stock);
+    }
+
+    fn take(
+        &mut self,
+        alloc: Global,
+        tag: Tag,
+        buf: &mut &[u8],
+        ctx: DecodeContext<'_>,
+    ) -> Result<(), DecodeError> {
+        match tag.field_number() {
+            1 => Plain::<Int64>::merge(&mut self.id, alloc, tag, buf, ctx),
+            2 => Nested::<Inventory>::merge(&mut self.stock, alloc, tag, buf, ctx),
+            _ => kept::pass(tag, buf, ctx),
+        }
+    }
+}
+
+impl Blank for Parcel {
+    type Meaning = <Parcel as Fields>::Meaning;
+
+    ghost meaning = { ⟦<Parcel as Fields>⟧.layout.meaning };
+
+    ghost blank_is = { ⟦<Parcel as Fields>⟧.layout.blank };
+
+    fn blank(_alloc: Global) -> Parcel {
+        Parcel { id: 0, stock: None }
+    }
+}
+
+impl Listing for Parcel {
+    ghost means = { λ m. refl };
+
+    ghost starts = { refl };
+}
+
+impl Formed for Parcel {
+    type Form = Listed;
+}

@@ -1,0 +1,92 @@
+//! A store: a map of messages.
+
+ghost use Rattle.std.proofs.Common.{lit<, refl};
+ghost use Rattle.buffa_fields.specs.Members.{field, skip};
+
+use crate::inventory::Inventory;
+use buffa_fields::fields::Fields;
+use buffa_fields::kept;
+use buffa_fields::map_nested::MapOfNested;
+use buffa_fields::meaning::{And, And3};
+use buffa_fields::member::Member;
+use buffa_fields::message::{Listed, Listing};
+use buffa_fields::plain::Plain;
+use buffa_fields::visitor::Visitor;
+use buffa_map::map_codec::{Map, Str};
+use buffa_wire::{Blank, DecodeContext, DecodeError, Formed, Tag};
+use std::alloc::Global;
+use std::string::String;
+
+/// message Store {
+///     string name = 1;
+///     map<string, Inventory> shelves = 2;
+/// }
+///
+/// ```ignore
+/// visitor.visit::<MapOfNested<Str, Inventory>>(2, &self.shelves);
+/// ```
+#[derive(Drop)]
+pub struct Store {
+    pub name: String,
+    pub shelves: Map<String, Inventory>,
+}
+
+impl Fields for Store {
+    type Meaning = And3<[u8; 0], [And<[u8; 0], <Inventory as Blank>::Meaning>; 0], ()>;
+
+    const COST: usize = 72;
+
+    ghost COST = { 72 };
+
+    ghost positive = { lit< tt };
+
+    ghost layout = { field 1 (λ m. m.name) ⟦<Plain<Str> as Member>⟧.shape (
+        field 2 (λ m. m.shelves) ⟦<MapOfNested<Str, Inventory> as Member>⟧.shape (
+        skip)) };
+
+    ghost sound = { refl };
+
+    fn visit<V: Visitor>(&self, visitor: &mut V) {
+        visitor.visit::<Plain<Str>>(1, &self.name);
+        visitor.visit::<MapOfNested<Str, Inventory>>(2, &self.shelves);
+    }
+
+    fn take(
+        &mut self,
+        alloc: Global,
+        tag: Tag,
+        buf: &mut &[u8],
+        ctx: DecodeContext<'_>,
+    ) -> Result<(), DecodeError> {
+        match tag.field_number() {
+            1 => Plain::<Str>::merge(&mut self.name, alloc, tag, buf, ctx),
+            2 => MapOfNested::<Str, Inventory>::merge(&mut self.shelves, alloc, tag, buf, ctx),
+            _ => kept::pass(tag, buf, ctx),
+        }
+    }
+}
+
+impl Blank for Store {
+    type Meaning = <Store as Fields>::Meaning;
+
+    ghost meaning = { ⟦<Store as Fields>⟧.layout.meaning };
+
+    ghost blank_is = { ⟦<Store as Fields>⟧.layout.blank };
+
+    fn blank(alloc: Global) -> Store {
+        Store {
+            name: String::new(alloc),
+            shelves: Map::new(alloc),
+        }
+    }
+}
+
+impl Listing for Store {
+    ghost means = { λ m. refl };
+
+    ghost starts = { refl };
+}
+
+impl Formed for Store {
+    type Form = Listed;
+}

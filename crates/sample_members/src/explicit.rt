@@ -1,0 +1,161 @@
+//! Numbers of explicit presence: one that is the default is written where it is there.
+
+ghost use Rattle.std.proofs.Common.{lit<, refl};
+ghost use Rattle.buffa_fields.specs.Members.{field, keep};
+
+use buffa_fields::fields::Fields;
+use buffa_fields::kept::{self, KeptFields};
+use buffa_fields::meaning::And12;
+use buffa_fields::member::Member;
+use buffa_fields::message::{Listed, Listing};
+use buffa_fields::optional::Optional;
+use buffa_fields::visitor::Visitor;
+use buffa_map::map_codec::{
+    Bool, Fixed32, Fixed64, Int32, Int64, Sfixed32, Sfixed64, Sint32, Sint64, Uint32, Uint64,
+};
+use buffa_wire::{Blank, DecodeContext, DecodeError, Formed, Tag, UnknownFields};
+use std::alloc::Global;
+
+/// message Explicit {
+///     optional int32 int32 = 1;
+///     optional int64 int64 = 2;
+///     optional uint32 uint32 = 3;
+///     optional uint64 uint64 = 4;
+///     optional sint32 sint32 = 5;
+///     optional sint64 sint64 = 6;
+///     optional bool truth = 7;
+///     optional fixed32 fixed32 = 8;
+///     optional fixed64 fixed64 = 15;
+///     optional sfixed32 sfixed32 = 16;
+///     optional sfixed64 sfixed64 = 536870911;
+/// }
+///
+/// ```ignore
+/// impl Formed for Explicit { .. }
+/// ```
+#[derive(Drop)]
+pub struct Explicit {
+    pub int32: Option<i32>,
+    pub int64: Option<i64>,
+    pub uint32: Option<u32>,
+    pub uint64: Option<u64>,
+    pub sint32: Option<i32>,
+    pub sint64: Option<i64>,
+    pub truth: Option<bool>,
+    pub fixed32: Option<u32>,
+    pub fixed64: Option<u64>,
+    pub sfixed32: Option<i32>,
+    pub sfixed64: Option<i64>,
+    pub rest: UnknownFields,
+}
+
+impl Fields for Explicit {
+    type Meaning = And12<
+        Option<i32>,
+        Option<i64>,
+        Option<u32>,
+        Option<u64>,
+        Option<i32>,
+        Option<i64>,
+        Option<bool>,
+        Option<u32>,
+        Option<u64>,
+        Option<i32>,
+        Option<i64>,
+        KeptFields,
+    >;
+
+    const COST: usize = 160;
+
+    ghost COST = { 160 };
+
+    ghost positive = { lit< tt };
+
+    ghost layout = { field 1 (λ m. m.int32) ⟦<Optional<Int32> as Member>⟧.shape (
+        field 2 (λ m. m.int64) ⟦<Optional<Int64> as Member>⟧.shape (
+        field 3 (λ m. m.uint32) ⟦<Optional<Uint32> as Member>⟧.shape (
+        field 4 (λ m. m.uint64) ⟦<Optional<Uint64> as Member>⟧.shape (
+        field 5 (λ m. m.sint32) ⟦<Optional<Sint32> as Member>⟧.shape (
+        field 6 (λ m. m.sint64) ⟦<Optional<Sint64> as Member>⟧.shape (
+        field 7 (λ m. m.truth) ⟦<Optional<Bool> as Member>⟧.shape (
+        field 8 (λ m. m.fixed32) ⟦<Optional<Fixed32> as Member>⟧.shape (
+        field 15 (λ m. m.fixed64) ⟦<Optional<Fixed64> as Member>⟧.shape (
+        field 16 (λ m. m.sfixed32) ⟦<Optional<Sfixed32> as Member>⟧.shape (
+        field 536870911 (λ m. m.sfixed64) ⟦<Optional<Sfixed64> as Member>⟧.shape (
+        keep (λ m. m.rest.records)))))))))))) };
+
+    ghost sound = { refl };
+
+    fn visit<V: Visitor>(&self, visitor: &mut V) {
+        visitor.visit::<Optional<Int32>>(1, &self.int32);
+        visitor.visit::<Optional<Int64>>(2, &self.int64);
+        visitor.visit::<Optional<Uint32>>(3, &self.uint32);
+        visitor.visit::<Optional<Uint64>>(4, &self.uint64);
+        visitor.visit::<Optional<Sint32>>(5, &self.sint32);
+        visitor.visit::<Optional<Sint64>>(6, &self.sint64);
+        visitor.visit::<Optional<Bool>>(7, &self.truth);
+        visitor.visit::<Optional<Fixed32>>(8, &self.fixed32);
+        visitor.visit::<Optional<Fixed64>>(15, &self.fixed64);
+        visitor.visit::<Optional<Sfixed32>>(16, &self.sfixed32);
+        visitor.visit::<Optional<Sfixed64>>(536870911, &self.sfixed64);
+        visitor.visit_kept(&self.rest);
+    }
+
+    fn take(
+        &mut self,
+        alloc: Global,
+        tag: Tag,
+        buf: &mut &[u8],
+        ctx: DecodeContext<'_>,
+    ) -> Result<(), DecodeError> {
+        match tag.field_number() {
+            1 => Optional::<Int32>::merge(&mut self.int32, alloc, tag, buf, ctx),
+            2 => Optional::<Int64>::merge(&mut self.int64, alloc, tag, buf, ctx),
+            3 => Optional::<Uint32>::merge(&mut self.uint32, alloc, tag, buf, ctx),
+            4 => Optional::<Uint64>::merge(&mut self.uint64, alloc, tag, buf, ctx),
+            5 => Optional::<Sint32>::merge(&mut self.sint32, alloc, tag, buf, ctx),
+            6 => Optional::<Sint64>::merge(&mut self.sint64, alloc, tag, buf, ctx),
+            7 => Optional::<Bool>::merge(&mut self.truth, alloc, tag, buf, ctx),
+            8 => Optional::<Fixed32>::merge(&mut self.fixed32, alloc, tag, buf, ctx),
+            15 => Optional::<Fixed64>::merge(&mut self.fixed64, alloc, tag, buf, ctx),
+            16 => Optional::<Sfixed32>::merge(&mut self.sfixed32, alloc, tag, buf, ctx),
+            536870911 => Optional::<Sfixed64>::merge(&mut self.sfixed64, alloc, tag, buf, ctx),
+            _ => kept::keep(alloc, &mut self.rest, tag, buf, ctx),
+        }
+    }
+}
+
+impl Blank for Explicit {
+    type Meaning = <Explicit as Fields>::Meaning;
+
+    ghost meaning = { ⟦<Explicit as Fields>⟧.layout.meaning };
+
+    ghost blank_is = { ⟦<Explicit as Fields>⟧.layout.blank };
+
+    fn blank(alloc: Global) -> Explicit {
+        Explicit {
+            int32: None,
+            int64: None,
+            uint32: None,
+            uint64: None,
+            sint32: None,
+            sint64: None,
+            truth: None,
+            fixed32: None,
+            fixed64: None,
+            sfixed32: None,
+            sfixed64: None,
+            rest: UnknownFields::new(alloc),
+        }
+    }
+}
+
+impl Listing for Explicit {
+    ghost means = { λ m. refl };
+
+    ghost starts = { refl };
+}
+
+impl Formed for Explicit {
+    type Form = Listed;
+}

@@ -1,0 +1,109 @@
+use Rattle.std.proofs.Common.{◌≡◌, ◌≢◌, Err, ◌∙◌, arith, ap}
+use Rattle.std.specs.Prelude.{string_bytes}
+use Rattle.std.proofs.lemmas.Result.{err_from_is_err_and, on_err_weaker}
+use Rattle.buffa_bytes.proofs.FullLemmas.{tag_full}
+use Rattle.buffa_wire.specs.Message.{cost_in, merged_in}
+use Rattle.buffa_map.specs.Pairs.{means}
+use Rattle.buffa_wire.specs.Kept.{keep_need}
+use Rattle.buffa_fields.specs.Keep.{keep_takes}
+use Rattle.buffa_wire.proofs.TakesLemmas.{taken_full}
+use Rattle.sample_node.proofs.FieldMergeLemmas.{both_stay, child_merged, kept_merged, score_merged, shade_merged}
+use Rattle.buffa_wire.proofs.MergeLoopLemmas.{begins, ended, goes_on, no_tag, reached, refused_next, shorter}
+use Rattle.sample_node.proofs.StopLemmas.{node_by_payloads, stops_at, stops_untagged}
+use Rattle.buffa_map.specs.Children.{children_in}
+use Rattle.sample_node.specs.Branch.{branch, shade_number}
+use Rattle.sample_node.specs.NodeMeaning.{children_cost, children_take, node_cost, node_merged, scores_cost, scores_take, shades_cost, shades_take}
+use Rattle.sample_node.proofs.node.+merge.Goals as goal
+
+pub merge_node-returns-in_err-tag-clause-merged : goal.merge_node-returns-in_err-tag-clause-merged
+merge_node-returns-in_err-tag-clause-merged t c =
+    let p = err_from_is_err_and c.from_residual.result c.from_residual.ensures.1 in
+    rw (p.1, p.2) (no_tag node_by_payloads c.loop-rest.invariant c.in_err-tag.field-0.0 (omega (arith, c.remaining.ensures, c.loop-rest-test.true)) c.in_err-tag.ensures.reads)
+
+pub merge_node-returns-in_err-tag-clause-full : goal.merge_node-returns-in_err-tag-clause-full
+merge_node-returns-in_err-tag-clause-full t c =
+    let p = err_from_is_err_and c.from_residual.result c.from_residual.ensures.1 in
+    rw (p.1, p.2) (λ h. absurd (tag_full c.loop-rest.rest.now (c.in_err-tag.ensures.reads ∙ ap (λ e. Err e) h)))
+
+pub merge_node-returns-in_err-tag-clause-stops : goal.merge_node-returns-in_err-tag-clause-stops
+merge_node-returns-in_err-tag-clause-stops t c =
+    let p = err_from_is_err_and c.from_residual.result c.from_residual.ensures.1 in
+    rw (p.1, p.2) (stops_untagged c.loop-rest.invariant c.in_err-tag.field-0.0 c.in_err-tag.ensures.reads)
+
+pub merge_node-returns-in_err-merge_node_field-clause-full : goal.merge_node-returns-in_err-merge_node_field-clause-full
+merge_node-returns-in_err-merge_node_field-clause-full t c =
+    let p = err_from_is_err_and c.from_residual-in_err-merge_node_field.result c.from_residual-in_err-merge_node_field.ensures.1 in
+    rw (p.1, p.2) (λ h. reached node_by_payloads c.loop-rest.invariant c.in_ok-tag.tag.number c.in_ok-tag.tag.wire_type c.decode.new.buf.now c.in_ok-tag.ensures.reads (c.in_err-merge_node_field.ensures.full h))
+
+pub merge_node-returns-in_err-merge_node_field-clause-stops : goal.merge_node-returns-in_err-merge_node_field-clause-stops
+merge_node-returns-in_err-merge_node_field-clause-stops t c =
+    let p = err_from_is_err_and c.from_residual-in_err-merge_node_field.result c.from_residual-in_err-merge_node_field.ensures.1 in
+    rw (p.1, p.2) (stops_at c.loop-rest.invariant c.merge_node_field.new.node c.in_ok-tag.tag.number c.in_ok-tag.tag.wire_type c.decode.new.buf.now c.in_ok-tag.ensures.reads c.merge_node_field.new.buf.now c.merge_node_field.new.budget c.in_err-merge_node_field.field-0.0 c.in_err-merge_node_field.ensures.stays c.in_err-merge_node_field.ensures.merged)
+
+pub merge_node-loop-rest-init : goal.merge_node-loop-rest-init
+merge_node-loop-rest-init t c = begins node_by_payloads c.args.depth c.args.node.now c.args.bytes.now c.args.budget.now
+
+pub merge_node-loop-rest-smaller : goal.merge_node-loop-rest-smaller
+merge_node-loop-rest-smaller t c = shorter node_by_payloads c.loop-rest.invariant c.in_ok-tag.tag.number c.in_ok-tag.tag.wire_type c.decode.new.buf.now c.in_ok-tag.ensures.reads _ _ _ c.in_ok-merge_node_field.ensures.merged
+
+pub merge_node-loop-rest-preserved : goal.merge_node-loop-rest-preserved
+merge_node-loop-rest-preserved t c = goes_on node_by_payloads c.loop-rest.invariant c.in_ok-tag.tag.number c.in_ok-tag.tag.wire_type c.decode.new.buf.now c.in_ok-tag.ensures.reads _ _ _ c.in_ok-merge_node_field.ensures.merged
+
+pub merge_node-returns-in_err-merge_node_field-clause-merged : goal.merge_node-returns-in_err-merge_node_field-clause-merged
+merge_node-returns-in_err-merge_node_field-clause-merged t c =
+    let p = err_from_is_err_and c.from_residual-in_err-merge_node_field.result c.from_residual-in_err-merge_node_field.ensures.1 in
+    rw (p.1, p.2) (refused_next node_by_payloads c.loop-rest.invariant c.in_ok-tag.tag.number c.in_ok-tag.tag.wire_type c.decode.new.buf.now c.in_ok-tag.ensures.reads c.in_err-merge_node_field.field-0.0 c.merge_node_field.new.node c.merge_node_field.new.buf.now _ c.in_err-merge_node_field.ensures.merged)
+
+pub merge_node-returns-clause-merged : goal.merge_node-returns-clause-merged
+merge_node-returns-clause-merged t c = ended node_by_payloads c.loop-rest.invariant (omega (arith, c.remaining.ensures, c.loop-rest-test.false))
+
+pub merge_node_field-returns-then-number-eq1 : goal.merge_node_field-returns-then-number-eq1
+merge_node_field-returns-then-number-eq1 t c =
+    let n = c.node.inside in
+    let one : c.args.tag.number ≡ 1 = omega (arith, c.field_number-number.ensures, c.if-number-eq1.true) in
+    let call = c.merge_score in
+    record {
+      merged = score_merged c.args.depth c.args.tag.number c.args.tag.wire_type c.args.buf.now.now call.new.buf.now c.args.budget.now call.new.budget call.result (means string_bytes (λ v. v) n.scores.entries) n.children.entries (means (λ k. k) shade_number n.shades.entries) n.rest.records c.args.node.now c.node.view_is
+          (means string_bytes (λ v. v) call.new.scores.entries) one call.ensures.taken;
+      full = taken_full scores_take scores_cost c.args.depth (means string_bytes (λ v. v) n.scores.entries) (means string_bytes (λ v. v) call.new.scores.entries) c.args.tag.number c.args.tag.wire_type c.args.buf.now.now call.new.buf.now c.args.budget.now call.new.budget call.result call.ensures.taken;
+      stays = on_err_weaker call.result (λ h. ap (λ z. branch z (children_in n.children.entries) (means (λ k. k) shade_number n.shades.entries) n.rest.records) h ∙ c.node.view_is) call.ensures.stays;
+    }
+
+pub merge_node_field-returns-then-number-eq2 : goal.merge_node_field-returns-then-number-eq2
+merge_node_field-returns-then-number-eq2 t c =
+    let n = c.node.inside in
+    let two : c.args.tag.number ≡ 2 = omega (arith, c.field_number-number.ensures, c.if-number-eq2.true) in
+    let call = c.merge_child_by in
+    let m = merged_in node_merged c.args.depth in
+    record {
+      merged = child_merged c.args.depth c.args.tag.number c.args.tag.wire_type c.args.buf.now.now call.new.buf.now c.args.budget.now call.new.budget call.result (means string_bytes (λ v. v) n.scores.entries) n.children.entries (means (λ k. k) shade_number n.shades.entries) n.rest.records c.args.node.now c.node.view_is
+          call.new.children.entries two call.ensures.taken;
+      full = taken_full (children_take m) (children_cost m (cost_in node_cost c.args.depth)) c.args.depth n.children.entries call.new.children.entries c.args.tag.number c.args.tag.wire_type c.args.buf.now.now call.new.buf.now c.args.budget.now call.new.budget call.result call.ensures.taken;
+      stays = on_err_weaker call.result (λ h. ap (λ z. branch (means string_bytes (λ v. v) n.scores.entries) (children_in z) (means (λ k. k) shade_number n.shades.entries) n.rest.records) h ∙ c.node.view_is) call.ensures.stays;
+    }
+
+pub merge_node_field-returns-then-number-eq3 : goal.merge_node_field-returns-then-number-eq3
+merge_node_field-returns-then-number-eq3 t c =
+    let n = c.node.inside in
+    let three : c.args.tag.number ≡ 3 = omega (arith, c.field_number-number.ensures, c.if-number-eq3.true) in
+    let call = c.merge_shade in
+    record {
+      merged = shade_merged c.args.depth c.args.tag.number c.args.tag.wire_type c.args.buf.now.now call.new.buf.now c.args.budget.now call.new.budget call.result (means string_bytes (λ v. v) n.scores.entries) n.children.entries (means (λ k. k) shade_number n.shades.entries) n.rest.records c.args.node.now c.node.view_is
+          (means (λ k. k) shade_number call.new.shades.entries) call.new.rest.records three call.ensures.taken;
+      full = taken_full shades_take shades_cost c.args.depth (means (λ k. k) shade_number n.shades.entries, n.rest.records) (means (λ k. k) shade_number call.new.shades.entries, call.new.rest.records) c.args.tag.number c.args.tag.wire_type c.args.buf.now.now call.new.buf.now c.args.budget.now call.new.budget call.result call.ensures.taken;
+      stays = both_stay call.result (branch (means string_bytes (λ v. v) n.scores.entries) (children_in n.children.entries)) c.args.node.now (means (λ k. k) shade_number n.shades.entries) (means (λ k. k) shade_number call.new.shades.entries) n.rest.records call.new.rest.records c.node.view_is call.ensures.stays call.ensures.unchanged;
+    }
+
+pub merge_node_field-returns : goal.merge_node_field-returns
+merge_node_field-returns t c =
+    let n = c.node.inside in
+    let one : c.args.tag.number ≢ 1 = λ z. absurd (omega (arith, c.field_number-number.ensures, c.if-number-eq1.false, z)) in
+    let two : c.args.tag.number ≢ 2 = λ z. absurd (omega (arith, c.field_number-number.ensures, c.if-number-eq2.false, z)) in
+    let three : c.args.tag.number ≢ 3 = λ z. absurd (omega (arith, c.field_number-number.ensures, c.if-number-eq3.false, z)) in
+    let call = c.keep_field in
+    record {
+      merged = kept_merged c.args.depth c.args.tag.number c.args.tag.wire_type c.args.buf.now.now call.new.buf.now c.args.budget.now call.new.budget call.result (means string_bytes (λ v. v) n.scores.entries) n.children.entries (means (λ k. k) shade_number n.shades.entries) n.rest.records c.args.node.now c.node.view_is
+          call.new.fields.records one two three call.ensures.taken;
+      full = taken_full keep_takes keep_need c.args.depth n.rest.records call.new.fields.records c.args.tag.number c.args.tag.wire_type c.args.buf.now.now call.new.buf.now c.args.budget.now call.new.budget call.result call.ensures.taken;
+      stays = on_err_weaker call.result (λ h. ap (λ z. branch (means string_bytes (λ v. v) n.scores.entries) (children_in n.children.entries) (means (λ k. k) shade_number n.shades.entries) z) h ∙ c.node.view_is) call.ensures.stays;
+    }

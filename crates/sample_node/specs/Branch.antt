@@ -1,0 +1,59 @@
+-- What a node is: scores by text, children by number, shades by number, each in the order of its keys, and the records of
+-- fields that it doesn't declare.
+use Rattle.std.specs.Prelude.{ℕ, ℤ, List, [], Option, None, Some, if◌then◌else◌, pos}
+use Rattle.std.specs.Coded.{Coded, coded_list, coded_ℕ, coded_ℤ, coded×}
+use Rattle.std.specs.Ordering.{int_eq}
+use Rattle.buffa_wire.specs.Code.{coded_datum}
+use Rattle.buffa_wire.specs.Enums.{Numbers, numbers}
+use Rattle.buffa_wire.specs.Records.{Datum}
+use Rattle.buffa_map.specs.Children.{Children, Family, coded_family, family, no_child}
+use Rattle.sample_node.specs.declared.shade.Shade.{Shade}
+use Rattle.sample_node.specs.declared.shade.Shade.TheVariants.{A, B}
+
+-- the shades by their numbers
+abbrev pub shade_of : ℤ → Option Shade
+shade_of n = if int_eq n (pos 0) then Some A else if int_eq n (pos 1) then Some B else None
+
+abbrev pub shade_number : Shade → ℤ
+shade_number A = pos 0
+shade_number B = pos 1
+
+abbrev pub shade_numbers : Numbers
+shade_numbers = numbers shade_of (pos 0)
+
+-- scores by the bytes of their texts, shades by their numbers, and what is kept beside them
+abbrev pub Scores : Type 0
+Scores = List (List ℕ × ℤ)
+
+abbrev pub Shades : Type 0
+Shades = List (ℤ × ℤ)
+
+abbrev pub NodeKept : Type 0
+NodeKept = List (ℕ × Datum)
+
+-- all but the children
+abbrev pub NodeOwn : Type 0
+NodeOwn = Scores × (Shades × NodeKept)
+
+abbrev pub Branch : Type 0
+Branch = Family NodeOwn
+
+pattern abbrev pub branch : Scores → Children NodeOwn → Shades → NodeKept → Branch
+branch a cs h r = family (a, (h, r)) cs
+
+-- the one with nothing in it
+abbrev pub blank_node : Branch
+blank_node = branch [] no_child [] []
+
+abbrev pub scores_of : Branch → Scores
+scores_of (branch a cs h r) = a
+
+abbrev pub shades_of : Branch → Shades
+shades_of (branch a cs h r) = h
+
+abbrev pub kept_of : Branch → NodeKept
+kept_of (branch a cs h r) = r
+
+-- how the logic stores it
+abbrev pub branch_code : Coded Branch
+branch_code = coded_family (coded× (coded_list (coded× (coded_list coded_ℕ) coded_ℤ)) (coded× (coded_list (coded× coded_ℤ coded_ℤ)) (coded_list (coded× coded_ℕ coded_datum))))

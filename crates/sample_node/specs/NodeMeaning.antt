@@ -1,0 +1,94 @@
+-- What bytes mean to a node: field 1 puts a score, field 2 a child, field 3 a shade, or keeps its entry under 3 where the
+-- shade is undeclared; every other field is kept. A child is read one level deeper, so the depth bounds the steps.
+-- Source: the protobuf encoding guide, "Maps"; the protobuf language guide, "Enumerations".
+use Rattle.std.specs.Prelude.{ℕ, zero, suc, ℤ, ◌==◌, List, ◌++◌, cond, Option, None, Result, Ok, Err, if◌then◌else◌}
+use Rattle.std.specs.BTreeMap.{insert_entry}
+use Rattle.std.specs.Cmp.Lexicographic.{slice_cmp}
+use Rattle.std.specs.Option.{option_map}
+use Rattle.std.specs.Ordering.{int_cmp, nat_cmp}
+use Rattle.std.specs.declared.cmp.Ordering.{Ordering}
+use Rattle.buffa_bytes.specs.declared.error.DecodeError.{DecodeError}
+use Rattle.buffa_wire.specs.BudgetLeft.{BudgetLeft, nothing, plus, unknown_fields}
+use Rattle.buffa_wire.specs.Message.{cost_in, merged_in}
+use Rattle.buffa_map.specs.Children.{ChildCost, ChildMeaning, child_reading, children_in, listed}
+use Rattle.buffa_map.specs.Codec.{Reading}
+use Rattle.buffa_map.specs.Entry.{entry_of, need_of}
+use Rattle.buffa_map.specs.Enums.{closed_reading}
+use Rattle.buffa_map.specs.Run.{undeclared_record}
+use Rattle.buffa_map.specs.Scalars.{int32_reading, text_reading}
+use Rattle.buffa_map.specs.declared.map_entry.MapEntry.{MapEntry}
+use Rattle.buffa_wire.specs.Kept.{keep_need}
+use Rattle.buffa_fields.specs.Keep.{keep_takes}
+use Rattle.buffa_wire.specs.Takes.{Need, Taker, cost_of, merged_of}
+use Rattle.buffa_fields.specs.Entries.{entry_cost, entry_taken}
+use Rattle.buffa_fields.specs.MapFields.{pair_cost, pair_taken, stepped}
+use Rattle.sample_node.specs.Branch.{Branch, NodeKept, Scores, Shades, blank_node, branch, shade_numbers}
+
+-- texts are in the order of their bytes
+abbrev pub text_cmp : List ℕ → List ℕ → Ordering
+text_cmp = slice_cmp nat_cmp
+
+-- how shades are read
+abbrev pub shade_reading : Reading ℤ
+shade_reading = closed_reading shade_numbers
+
+-- field 1
+abbrev pub scores_take : Taker Scores
+scores_take = pair_taken text_reading int32_reading (insert_entry text_cmp)
+
+abbrev pub scores_cost : Need
+scores_cost = pair_cost text_reading int32_reading 28
+
+-- field 2
+abbrev pub children_take : ChildMeaning Branch → Taker (List (ℤ × Branch))
+children_take m = pair_taken int32_reading (child_reading blank_node m (λ _. nothing)) (insert_entry int_cmp)
+
+abbrev pub children_cost : ChildMeaning Branch → ChildCost → Need
+children_cost m c = pair_cost int32_reading (child_reading blank_node m c) 100
+
+-- field 3, and what is kept beside it: an entry with an undeclared shade, byte for byte
+abbrev pub put_shade : Shades × NodeKept → List ℕ → MapEntry ℤ ℤ → Shades × NodeKept
+put_shade x e s = (stepped (insert_entry int_cmp) x.0 s, x.1 ++ undeclared_record 3 e s.known)
+
+abbrev pub shades_take : Taker (Shades × NodeKept)
+shades_take = entry_taken int32_reading shade_reading put_shade
+
+-- one that is kept costs an unknown field besides
+abbrev pub undeclared_cost : Result (MapEntry ℤ ℤ) DecodeError → BudgetLeft
+undeclared_cost (Ok s) = unknown_fields (cond s.known 0 1)
+undeclared_cost (Err e) = nothing
+
+abbrev pub shade_cost : ℕ → List ℕ → BudgetLeft
+shade_cost d e = plus (need_of int32_reading shade_reading d 8 e) (undeclared_cost (entry_of int32_reading shade_reading d e))
+
+abbrev pub shades_cost : Need
+shades_cost = entry_cost shade_cost
+
+abbrev pub node_field_takes : ChildMeaning Branch → Taker Branch
+node_field_takes m d (branch a cs h r) n w p =
+    if n == 1 then option_map (λ b. branch b cs h r) (scores_take d a n w p)
+    else if n == 2 then option_map (λ es. branch a (children_in es) h r) (children_take m d (listed cs) n w p)
+    else if n == 3 then option_map (λ x. branch a cs x.0 x.1) (shades_take d (h, r) n w p)
+    else option_map (λ s. branch a cs h s) (keep_takes d r n w p)
+
+abbrev pub node_field_need : ChildMeaning Branch → ChildCost → Need
+node_field_need m c d n w bs =
+    if n == 1 then scores_cost d n w bs
+    else if n == 2 then children_cost m c d n w bs
+    else if n == 3 then shades_cost d n w bs
+    else keep_need d n w bs
+
+abbrev pub node_merged : ℕ → Branch → List ℕ → Option Branch
+node_merged zero v bs = merged_of (node_field_takes (λ _ _. None)) zero v bs
+node_merged (suc d) v bs = merged_of (node_field_takes (node_merged d)) (suc d) v bs
+
+abbrev pub node_cost : ℕ → List ℕ → BudgetLeft
+node_cost zero bs = cost_of (node_field_need (λ _ _. None) (λ _. nothing)) zero bs
+node_cost (suc d) bs = cost_of (node_field_need (node_merged d) (node_cost d)) (suc d) bs
+
+-- what a payload makes of a node, and what a field costs
+abbrev pub node_takes : Taker Branch
+node_takes d = node_field_takes (merged_in node_merged d) d
+
+abbrev pub node_need : Need
+node_need d = node_field_need (merged_in node_merged d) (cost_in node_cost d) d

@@ -1,0 +1,73 @@
+//! Laws: which message a node is, and which enum a shade.
+
+ghost use Rattle.std.specs.Prelude.{◌≡◌, ◌↔◌, ◌<◌, ℕ, ℤ, List, None, Some, if◌then◌else◌, pos, string_bytes};
+ghost use Rattle.std.specs.Ordering.{int_eq};
+ghost use Rattle.std.specs.List.{AllByRecursion};
+ghost use Rattle.buffa_bytes.specs.Pinned.{IsCopied, SameIsOne};
+ghost use Rattle.buffa_bytes.specs.Varint.{IsByte};
+ghost use Rattle.buffa_wire.specs.Parse.{Fits};
+ghost use Rattle.buffa_wire.specs.Records.{records_of};
+ghost use Rattle.buffa_map.specs.Pairs.{means};
+ghost use Rattle.buffa_map.specs.Children.{children_in};
+ghost use Rattle.sample_node.specs.Branch.{Branch, blank_node, branch, shade_number};
+ghost use Rattle.sample_node.specs.NodeMeaning.{node_cost, node_merged};
+ghost use Rattle.sample_node.specs.NodeEncoding.{IsNormalNode, node_encoding, node_levels, node_records, node_slots};
+
+use crate::node::Node;
+use crate::shade::Shade;
+use buffa_wire::{Blank, Enumeration, MessageSpec, UnknownFields};
+use std::collections::BTreeMap;
+
+/// Which message a node is: what bytes make of it and cost, its encoding, its slots, which nodes are read
+/// back, and how deep their encoding nests. Nothing is open.
+pub fn node_is_this()
+    ensures merged { (⟦<Node as MessageSpec>⟧.merged ≡ node_merged) × (⟦<Node as MessageSpec>⟧.cost ≡ node_cost) }
+    ensures encoding { (⟦<Node as MessageSpec>⟧.encoding ≡ node_encoding) × (⟦<Node as MessageSpec>⟧.records ≡ node_records) }
+    ensures slots { (⟦<Node as MessageSpec>⟧.slots ≡ node_slots) × (⟦<Node as MessageSpec>⟧.COST ≡ 96) }
+    ensures levels { ⟦<Node as MessageSpec>⟧.levels ≡ node_levels }
+    ensures normal { (v : Branch) → ⟦<Node as MessageSpec>⟧.normal v ↔ IsNormalNode v }
+    ensures refused { (d : ℕ) (v : Branch) (n : ℕ) (w : _) (bs : List ℕ) (u : Branch) →
+        ⟦<Node as MessageSpec>⟧.Refused d v n w bs u ↔ (u ≡ v) }
+    ensures blank { ⟦<Node as Blank>⟧.blank_is ≡ blank_node }
+    ensures meaning { (m : Node) → ⟦<Node as Blank>⟧.meaning m ≡ m }
+{}
+
+/// What bytes make of a normal node is normal, and so is the blank one: what is read is read back of its encoding.
+pub fn nodes_stay_normal()
+    ensures merged { (d : ℕ) (v u : Branch) (bs : List ℕ) → AllByRecursion IsByte bs → IsNormalNode v →
+        node_merged d v bs ≡ Some u → IsNormalNode u }
+    ensures blank { IsNormalNode ⟦<Node as Blank>⟧.blank_is }
+{}
+
+/// How deep a node nests is exactly so deep: at no lesser depth are its encoding's bytes merged, so that it isn't read back
+/// there. Nothing is open.
+pub fn node_levels_are_exact()
+    ensures { (d : ℕ) (v : Branch) → Fits (records_of (⟦<Node as MessageSpec>⟧.records v)) →
+        ⟦<Node as MessageSpec>⟧.normal v → d < ⟦<Node as MessageSpec>⟧.levels v →
+        ⟦<Node as MessageSpec>⟧.merged d ⟦<Node as Blank>⟧.blank_is (⟦<Node as MessageSpec>⟧.encoding v) ≡ None }
+{}
+
+/// What a node means is what its fields hold. Nothing is open.
+pub fn nodes_hold_these(
+    node: &Node,
+) -> (
+    &BTreeMap<String, i32>,
+    &BTreeMap<i32, Node>,
+    &BTreeMap<i32, Shade>,
+    &UnknownFields,
+)
+    ensures { node.now ≡ branch (means string_bytes (λ v. v) result.0.now.entries) (children_in result.1.now.entries)
+        (means (λ k. k) shade_number result.2.now.entries) result.3.now.records }
+{
+    (&node.scores, &node.children, &node.shades, &node.rest)
+}
+
+/// Which numbers shades declare, and no others, by which values, and their default; `==` and `clone` of them. Nothing is
+/// open.
+pub fn shades_are_these()
+    ensures declared { (n : ℤ) → ⟦<Shade as Enumeration>⟧.of_number n
+        ≡ (if int_eq n (pos 0) then Some Shade.A else if int_eq n (pos 1) then Some Shade.B else None) }
+    ensures blank { ⟦<Shade as Blank>⟧.blank_is ≡ pos 0 }
+    ensures equal { SameIsOne ⟦<Shade as PartialEq>⟧.eq }
+    ensures copied { IsCopied ⟦<Shade as Clone>⟧.is_clone ⟦<Shade as Clone>⟧.is_infallible }
+{}

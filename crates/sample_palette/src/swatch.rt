@@ -1,0 +1,111 @@
+//! A swatch: a message inside another, or a group, which passes on what it doesn't understand itself.
+
+ghost use Rattle.std.proofs.Common.{lit<, refl};
+ghost use Rattle.buffa_fields.specs.Members.{field_kept, keep};
+
+use crate::shade::Shade;
+use buffa_fields::fields::Fields;
+use buffa_fields::keeping::Keeping;
+use buffa_fields::kept::{self, KeptFields};
+use buffa_fields::meaning::And3;
+use buffa_fields::member::Member;
+use buffa_fields::message::{Listed, Listing};
+use buffa_fields::optional::Optional;
+use buffa_fields::repeated::Repeated;
+use buffa_fields::visitor::Visitor;
+use buffa_map::map_codec::ClosedEnum;
+use buffa_wire::{Blank, DecodeContext, DecodeError, Formed, Tag, UnknownFields};
+use std::alloc::Global;
+
+/// message Swatch {
+///     optional Shade shade = 1;
+///     repeated Shade others = 2;
+/// }
+///
+/// ```ignore
+/// let mut message: Swatch = Blank::blank(alloc);
+/// ```
+#[derive(Drop)]
+pub struct Swatch {
+    pub shade: Option<Shade>,
+    pub others: Vec<Shade>,
+    pub rest: UnknownFields,
+}
+
+impl Fields for Swatch {
+    type Meaning = And3<Option<i32>, [i32; 0], KeptFields>;
+
+    const COST: usize = 64;
+
+    ghost COST = { 64 };
+
+    ghost positive = { lit< tt };
+
+    ghost layout = { field_kept 1 (λ m. m.shade) ⟦<Optional<ClosedEnum<Shade>> as Member>⟧.shape
+        ⟦<Optional<ClosedEnum<Shade>> as Keeping>⟧.aside (
+        field_kept 2 (λ m. m.others) ⟦<Repeated<ClosedEnum<Shade>> as Member>⟧.shape
+        ⟦<Repeated<ClosedEnum<Shade>> as Keeping>⟧.aside (
+        keep (λ m. m.rest.records))) };
+
+    ghost sound = { refl };
+
+    fn visit<V: Visitor>(&self, visitor: &mut V) {
+        visitor.visit_keeping::<Optional<ClosedEnum<Shade>>>(1, &self.shade);
+        visitor.visit_keeping::<Repeated<ClosedEnum<Shade>>>(2, &self.others);
+        visitor.visit_kept(&self.rest);
+    }
+
+    fn take(
+        &mut self,
+        alloc: Global,
+        tag: Tag,
+        buf: &mut &[u8],
+        ctx: DecodeContext<'_>,
+    ) -> Result<(), DecodeError> {
+        match tag.field_number() {
+            1 => Optional::<ClosedEnum<Shade>>::merge_kept(
+                &mut self.shade,
+                &mut self.rest,
+                alloc,
+                tag,
+                buf,
+                ctx,
+            ),
+            2 => Repeated::<ClosedEnum<Shade>>::merge_kept(
+                &mut self.others,
+                &mut self.rest,
+                alloc,
+                tag,
+                buf,
+                ctx,
+            ),
+            _ => kept::keep(alloc, &mut self.rest, tag, buf, ctx),
+        }
+    }
+}
+
+impl Blank for Swatch {
+    type Meaning = <Swatch as Fields>::Meaning;
+
+    ghost meaning = { ⟦<Swatch as Fields>⟧.layout.meaning };
+
+    ghost blank_is = { ⟦<Swatch as Fields>⟧.layout.blank };
+
+    fn blank(alloc: Global) -> Swatch {
+        Swatch {
+            shade: None,
+            others: Vec::new(alloc),
+            rest: UnknownFields::new(alloc),
+        }
+    }
+}
+
+impl Listing for Swatch {
+    ghost means = { λ m. refl };
+
+    ghost starts = { refl };
+}
+
+impl Formed for Swatch {
+    type Form = Listed;
+}

@@ -1,0 +1,5 @@
+use Rattle.sample_set_msg.proofs.PinLemmas.{stop_is_pinned}
+use Rattle.sample_set_msg.proofs.laws.refused_sets_are_pinned.Goals as goal
+
+pub returns : goal.returns
+returns c = stop_is_pinned

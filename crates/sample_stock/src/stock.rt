@@ -1,0 +1,93 @@
+//! A message by its fields.
+
+ghost use Rattle.std.specs.Prelude.{◌≡◌, ◌++◌};
+ghost use Rattle.std.proofs.Common.{lit<, refl};
+ghost use Rattle.buffa.specs.Members.{field, keep};
+
+use buffa::fields::{
+    And, And3, Fields, Formed, KeptFields, Listed, Listing, MapOf, Member, Plain, Visitor, kept,
+};
+use buffa::map_codec::{Int32, Str};
+use buffa::{Blank, DecodeContext, DecodeError, Map, MessageSpec, Tag, UnknownFields};
+use std::alloc::Global;
+use std::string::String;
+
+/// message Stock {
+///     string name = 1;
+///     map<string, int32> counts = 5;
+/// }
+#[derive(Drop)]
+pub struct Stock {
+    pub name: String,
+    pub counts: Map<String, i32>,
+    pub rest: UnknownFields,
+}
+
+impl Fields for Stock {
+    type Meaning = And3<[u8; 0], [And<[u8; 0], i32>; 0], KeptFields>;
+
+    const COST: usize = 96;
+
+    ghost COST = { 96 };
+
+    ghost positive = { lit< tt };
+
+    ghost layout = { field 1 (λ m. m.name) ⟦<Plain<Str> as Member>⟧.shape (
+        field 5 (λ m. m.counts) ⟦<MapOf<Str, Int32> as Member>⟧.shape (
+        keep (λ m. m.rest.records))) };
+
+    ghost sound = { refl };
+
+    fn visit<V: Visitor>(&self, visitor: &mut V) {
+        visitor.visit::<Plain<Str>>(1, &self.name);
+        visitor.visit::<MapOf<Str, Int32>>(5, &self.counts);
+        visitor.visit_kept(&self.rest);
+    }
+
+    fn take(
+        &mut self,
+        alloc: Global,
+        tag: Tag,
+        buf: &mut &[u8],
+        ctx: DecodeContext<'_>,
+    ) -> Result<(), DecodeError> {
+        match tag.field_number() {
+            1 => Plain::<Str>::merge(&mut self.name, alloc, tag, buf, ctx),
+            5 => MapOf::<Str, Int32>::merge(&mut self.counts, alloc, tag, buf, ctx),
+            _ => kept::keep(alloc, &mut self.rest, tag, buf, ctx),
+        }
+    }
+}
+
+impl Blank for Stock {
+    type Meaning = <Stock as Fields>::Meaning;
+
+    ghost meaning = { ⟦<Stock as Fields>⟧.layout.meaning };
+
+    ghost blank_is = { ⟦<Stock as Fields>⟧.layout.blank };
+
+    fn blank(alloc: Global) -> Stock {
+        Stock {
+            name: String::new(alloc),
+            counts: Map::new(alloc),
+            rest: UnknownFields::new(alloc),
+        }
+    }
+}
+
+impl Listing for Stock {
+    ghost means = { λ m. refl };
+
+    ghost starts = { refl };
+}
+
+impl Formed for Stock {
+    type Form = Listed;
+}
+
+/// Under which numbers the members of a stock are written, and in which order; what is kept comes last. Nothing is open.
+pub fn stocks_are_written_so()
+    ensures { (v : _) → ⟦<Stock as MessageSpec>⟧.records v
+        ≡ ⟦<Plain<Str> as Member>⟧.shape.records 1 v.0
+        ++ (⟦<MapOf<Str, Int32> as Member>⟧.shape.records 5 v.1.0 ++ v.1.1) }
+{}

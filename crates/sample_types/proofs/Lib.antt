@@ -1,0 +1,12 @@
+-- The lemmas that this crate hands out.
+pub mod NormalLemmas
+mod NumberLemmas
+pub mod PassedLemmas
+pub mod TreeFieldLemmas
+pub mod TreeMergeLemmas
+pub mod TreeSizeLemmas
+pub mod TripLemmas
+pub mod TreeNormalLemmas
+pub mod TreeLowLemmas
+mod PinLemmas
+mod PassPinLemmas

@@ -1,0 +1,16 @@
+-- The words that this crate hands out.
+pub mod Letters
+pub mod Fields
+pub mod FieldsFacts
+pub mod Numbers
+pub mod Count
+pub mod CountFacts
+pub mod Passed
+pub mod Grown
+pub mod TreeEncoding
+pub mod TreeMeaning
+pub mod RoundTrip
+pub mod TreeFacts
+pub mod TreeBackFacts
+pub mod Pinned
+pub mod Inventory

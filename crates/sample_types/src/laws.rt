@@ -1,0 +1,211 @@
+//! What the definitions of the samples say together: each law is a function with nothing to do, whose contract is the
+//! law.
+
+ghost use Rattle.std.specs.Prelude.{◌≡◌, ◌↔◌, ◌<◌, ◌+◌, ◌^◌, ℕ, ℤ, FitsSigned, List, [], ◌++◌, None, Some, if◌then◌else◌, pos, string_bytes};
+ghost use Rattle.std.specs.Hash as fed;
+ghost use Rattle.std.specs.Int.{w32};
+ghost use Rattle.std.specs.Ordering.{int_cmp, int_eq};
+ghost use Rattle.buffa_bytes.specs.Pinned.{IsCopied, SameIsOne};
+ghost use Rattle.buffa_fields.specs.Calls.{KeepsFields};
+ghost use Rattle.buffa_fields.specs.Keep.{keep_takes};
+ghost use Rattle.buffa_wire.specs.Takes.{cost_of, merged_of};
+ghost use Rattle.buffa_wire.specs.BudgetLeft.{nothing};
+ghost use Rattle.buffa_wire.specs.Enums.{numbers};
+ghost use Rattle.buffa_wire.specs.Kept.{keep_need};
+ghost use Rattle.buffa_wire.specs.Parse.{Fits};
+ghost use Rattle.buffa_wire.specs.Records.{Datum, height, records_of};
+ghost use Rattle.buffa_wire.specs.Encoding.{records_encoding};
+ghost use Rattle.sample_types.specs.Count.{count_cost, count_merged, count_records, count_encoding};
+ghost use Rattle.sample_types.specs.Fields.{number_encoding, number_records, value_encoding, value_field, value_records};
+ghost use Rattle.buffa_map.specs.Children.{children_in, no_child};
+ghost use Rattle.sample_types.specs.Grown.{Grown, grown};
+ghost use Rattle.sample_types.specs.Letters.{lower, same_letters};
+ghost use Rattle.sample_types.specs.Numbers.{ReadsAlone, flat_takes, two_field, two_takes};
+ghost use Rattle.sample_types.specs.Passed.{proxy};
+ghost use Rattle.sample_types.specs.Pinned.{PassIsPinned, TripIsPinned};
+ghost use Rattle.sample_types.specs.TreeMeaning.{tree_cost, tree_merged};
+ghost use Rattle.sample_types.specs.TreeEncoding.{IsNormalTree, tree_encoding, tree_levels, tree_records, tree_slots};
+
+use crate::count::CountMsg;
+use crate::flat::FlatMsg;
+use crate::hues::{New, Old};
+use crate::keep::BudgetMsg;
+use crate::passed_on::{Pass, Way};
+use crate::tree::Tree;
+use crate::two::TestMsg;
+use crate::word::Word;
+use buffa_fields::fields::Fields;
+use buffa_fields::message::members_read_back;
+use buffa_map::map_codec::{MapCodec, MapStorage};
+use buffa_wire::{Blank, Enumeration, MapKey, MessageSpec, ProtoString};
+use std::collections::BTreeMap;
+use std::hash::Hash;
+
+/// What bytes make of a normal tree is normal, and so is the blank one: in every map the keys ascend, and labels and
+/// keys are int32.
+pub fn trees_stay_normal()
+    ensures merged { (d : ℕ) (t u : Grown) (bs : List ℕ) → IsNormalTree t → tree_merged d t bs ≡ Some u →
+        IsNormalTree u }
+    ensures blank { IsNormalTree ⟦<Tree as Blank>⟧.blank_is }
+{}
+
+/// Which message each sample is: what bytes make of it, what they cost, and its encoding. Nothing is open.
+pub fn messages_are_these()
+    ensures flat { ⟦<FlatMsg as MessageSpec>⟧.merged ≡ merged_of flat_takes }
+    ensures flat_encoding { (v : _) → ⟦<FlatMsg as MessageSpec>⟧.encoding v ≡ value_encoding v.0 }
+    ensures two { ⟦<TestMsg as MessageSpec>⟧.merged ≡ merged_of two_takes }
+    ensures two_encoding { (v : _) → ⟦<TestMsg as MessageSpec>⟧.encoding v
+        ≡ number_encoding 1 v.0 ++ number_encoding 2 v.1.0 }
+    ensures flat_cost { (d : ℕ) (bs : List ℕ) → ⟦<FlatMsg as MessageSpec>⟧.cost d bs ≡ nothing }
+    ensures two_cost { (d : ℕ) (bs : List ℕ) → ⟦<TestMsg as MessageSpec>⟧.cost d bs ≡ nothing }
+    ensures count { (⟦<CountMsg as MessageSpec>⟧.merged ≡ count_merged) × (⟦<CountMsg as MessageSpec>⟧.cost ≡ count_cost) }
+    ensures count_encoding { ⟦<CountMsg as MessageSpec>⟧.encoding ≡ count_encoding }
+    ensures keep { (⟦<BudgetMsg as MessageSpec>⟧.merged ≡ merged_of keep_takes)
+        × (⟦<BudgetMsg as MessageSpec>⟧.cost ≡ cost_of keep_need) }
+    ensures keep_encoding { ⟦<BudgetMsg as MessageSpec>⟧.encoding ≡ records_encoding }
+    ensures tree { (⟦<Tree as MessageSpec>⟧.merged ≡ tree_merged) × (⟦<Tree as MessageSpec>⟧.cost ≡ tree_cost) }
+    ensures tree_encoding { ⟦<Tree as MessageSpec>⟧.encoding ≡ tree_encoding }
+    ensures tree_slots { ⟦<Tree as MessageSpec>⟧.slots ≡ tree_slots }
+    ensures numbers_slots { (⟦<FlatMsg as MessageSpec>⟧.slots ≡ (λ _. [])) × (⟦<TestMsg as MessageSpec>⟧.slots ≡ (λ _. [])) }
+    ensures lists_slots { (⟦<CountMsg as MessageSpec>⟧.slots ≡ (λ _. [])) × (⟦<BudgetMsg as MessageSpec>⟧.slots ≡ (λ _. [])) }
+    ensures numbers_cost { (⟦<FlatMsg as MessageSpec>⟧.COST ≡ 4) × (⟦<TestMsg as MessageSpec>⟧.COST ≡ 32) }
+    ensures lists_cost { (⟦<CountMsg as MessageSpec>⟧.COST ≡ 8) × (⟦<BudgetMsg as MessageSpec>⟧.COST ≡ 24) }
+    ensures tree_costs { ⟦<Tree as MessageSpec>⟧.COST ≡ 32 }
+    ensures flat_records { (v : _) → ⟦<FlatMsg as MessageSpec>⟧.records v ≡ value_records v.0 }
+    ensures two_records { (v : _) → ⟦<TestMsg as MessageSpec>⟧.records v
+        ≡ number_records 1 v.0 ++ number_records 2 v.1.0 }
+    ensures lists_records { (⟦<CountMsg as MessageSpec>⟧.records ≡ count_records)
+        × (⟦<BudgetMsg as MessageSpec>⟧.records ≡ (λ rs. rs)) }
+    ensures tree_records { ⟦<Tree as MessageSpec>⟧.records ≡ tree_records }
+    ensures count_refused { (d v n : ℕ) (w : _) (bs : List ℕ) (u : ℕ) → ⟦<CountMsg as MessageSpec>⟧.Refused d v n w bs u ↔ (u ≡ v) }
+    ensures tree_refused { (d : ℕ) (v : _) (n : ℕ) (w : _) (bs : List ℕ) (u : _) →
+        ⟦<Tree as MessageSpec>⟧.Refused d v n w bs u ↔ (u ≡ v) }
+{}
+
+/// What the values of the samples of numbers mean: their fields. Nothing is open.
+pub fn messages_mean_these()
+    ensures flat { (m : FlatMsg) → ⟦<FlatMsg as Blank>⟧.meaning m ≡ (m.value, tt) }
+    ensures two { (m : TestMsg) → ⟦<TestMsg as Blank>⟧.meaning m ≡ (m.a, (m.b, tt)) }
+    ensures count { (m : CountMsg) → ⟦<CountMsg as Blank>⟧.meaning m ≡ m.count }
+    ensures keep { (m : BudgetMsg) → ⟦<BudgetMsg as Blank>⟧.meaning m ≡ m.fields.records }
+    ensures tree { (m : Tree) → ⟦<Tree as Blank>⟧.meaning m ≡ m }
+{}
+
+/// A value is what it means: no member of a sample is left out of what is told of it. Where a list keeps fields, how much
+/// memory it has is open, and nothing else.
+pub fn messages_are_what_they_mean()
+    ensures flat { (a b : FlatMsg) → ⟦<FlatMsg as Blank>⟧.meaning a ≡ ⟦<FlatMsg as Blank>⟧.meaning b → a ≡ b }
+    ensures two { (a b : TestMsg) → ⟦<TestMsg as Blank>⟧.meaning a ≡ ⟦<TestMsg as Blank>⟧.meaning b → a ≡ b }
+    ensures count { (a b : CountMsg) → ⟦<CountMsg as Blank>⟧.meaning a ≡ ⟦<CountMsg as Blank>⟧.meaning b → a ≡ b }
+    ensures keep { (a b : BudgetMsg) → a.fields ≡ b.fields → a ≡ b }
+{}
+
+/// What a tree means is what its fields hold: its label, and its children by their keys. Nothing is open.
+pub fn trees_hold_these(tree: &Tree) -> (&i32, &BTreeMap<i32, Tree>)
+    ensures { tree.now ≡ grown result.0.now (children_in result.1.now.entries) }
+{
+    (&tree.label, &tree.children)
+}
+
+/// A field of the samples of numbers is merged as its bytes say, or refused by its fault, and changes nothing then;
+/// nothing is spent. Where fields are kept, each is, or is refused so. Open is what is unread of a number that is
+/// refused, and where memory runs out.
+pub fn fields_are_read_alone()
+    ensures flat { ReadsAlone ⟦<FlatMsg as Fields>⟧.layout.Taken value_field (λ m. m.value) }
+    ensures two { ReadsAlone ⟦<TestMsg as Fields>⟧.layout.Taken two_field (λ m. (m.a, m.b)) }
+    ensures keep { KeepsFields ⟦<BudgetMsg as Fields>⟧.layout.Taken (λ m. m.fields.records) }
+{}
+
+/// How deep a value nests is exactly so deep: at no lesser depth are its encoding's bytes merged, so that it isn't read back
+/// there. Of the others no value nests. Nothing is open.
+pub fn levels_are_exact()
+    ensures tree { (d : ℕ) (t : Grown) → Fits (records_of (⟦<Tree as MessageSpec>⟧.records t)) →
+        ⟦<Tree as MessageSpec>⟧.normal t → d < ⟦<Tree as MessageSpec>⟧.levels t →
+        ⟦<Tree as MessageSpec>⟧.merged d ⟦<Tree as Blank>⟧.blank_is (⟦<Tree as MessageSpec>⟧.encoding t) ≡ None }
+    ensures keep { (d : ℕ) (rs : List (ℕ × Datum)) → Fits (records_of (⟦<BudgetMsg as MessageSpec>⟧.records rs)) →
+        d < ⟦<BudgetMsg as MessageSpec>⟧.levels rs →
+        ⟦<BudgetMsg as MessageSpec>⟧.merged d [] (⟦<BudgetMsg as MessageSpec>⟧.encoding rs) ≡ None }
+{}
+
+/// Which values of each sample are read back from their encoding, and how deep it nests. Nothing is open.
+pub fn messages_are_read_back(flat: &FlatMsg, two: &TestMsg)
+    ensures flat { (v : _) → ⟦<FlatMsg as MessageSpec>⟧.normal v ↔ FitsSigned w32 v.0 }
+    ensures two { (v : _) → ⟦<TestMsg as MessageSpec>⟧.normal v ↔ (FitsSigned w32 v.0 × FitsSigned w32 v.1.0) }
+    ensures count { (n : ℕ) → ⟦<CountMsg as MessageSpec>⟧.normal n ↔ (n < 2 ^ 64) }
+    ensures keep { (rs : List (ℕ × Datum)) → ⟦<BudgetMsg as MessageSpec>⟧.normal rs }
+    ensures tree { (t : Grown) → ⟦<Tree as MessageSpec>⟧.normal t ↔ IsNormalTree t }
+    ensures deep { (⟦<BudgetMsg as MessageSpec>⟧.levels ≡ height) × (⟦<Tree as MessageSpec>⟧.levels ≡ tree_levels) }
+    ensures flat_levels { (⟦<FlatMsg as MessageSpec>⟧.levels ≡ (λ _. 0)) × (⟦<TestMsg as MessageSpec>⟧.levels ≡ (λ _. 0))
+        × (⟦<CountMsg as MessageSpec>⟧.levels ≡ (λ _. 0)) }
+    ensures blank { (⟦<FlatMsg as Blank>⟧.blank_is ≡ (pos 0, tt))
+        × (⟦<TestMsg as Blank>⟧.blank_is ≡ (pos 0, (pos 0, tt))) }
+    ensures blank_lists { (⟦<CountMsg as Blank>⟧.blank_is ≡ 0) × (⟦<BudgetMsg as Blank>⟧.blank_is ≡ []) }
+    ensures blank_tree { ⟦<Tree as Blank>⟧.blank_is ≡ grown (pos 0) no_child }
+{
+    members_read_back(flat);
+    members_read_back(two);
+}
+
+/// Which numbers the two enums declare, and no others, and by which values, and their default; `==`, `clone` and the order
+/// of their values. Nothing is open of these.
+pub fn enums_are_these()
+    ensures old { (n : ℤ) → ⟦<Old as Enumeration>⟧.of_number n
+        ≡ (if int_eq n (pos 0) then Some Old.A else if int_eq n (pos 1) then Some Old.B else None) }
+    ensures new { (n : ℤ) → ⟦<New as Enumeration>⟧.of_number n
+        ≡ (if int_eq n (pos 0) then Some New.A else if int_eq n (pos 1) then Some New.B else if int_eq n (pos 2)
+        then Some New.C else None) }
+    ensures blank { (⟦<Old as Blank>⟧.blank_is ≡ pos 0) × (⟦<New as Blank>⟧.blank_is ≡ pos 0) }
+    ensures equal { SameIsOne ⟦<Old as PartialEq>⟧.eq × SameIsOne ⟦<New as PartialEq>⟧.eq }
+    ensures copied_old { IsCopied ⟦<Old as Clone>⟧.is_clone ⟦<Old as Clone>⟧.is_infallible }
+    ensures copied_new { IsCopied ⟦<New as Clone>⟧.is_clone ⟦<New as Clone>⟧.is_infallible }
+    ensures order { (a b : Old) → ⟦<Old as Ord>⟧.cmp a b
+        ≡ int_cmp (⟦<Old as Blank>⟧.meaning a) (⟦<Old as Blank>⟧.meaning b) }
+{}
+
+/// What a word means, which words are one key, and which texts it reads and writes. Nothing is open.
+pub fn words_are_these()
+    ensures meaning { (w : Word) → ⟦<Word as Blank>⟧.meaning w ≡ string_bytes w.text }
+    ensures blank { ⟦<Word as Blank>⟧.blank_is ≡ [] }
+    ensures same { ⟦<Word as MapKey>⟧.same ≡ same_letters }
+    ensures hashed { (w : Word) → ⟦<Word as Hash>⟧.hash_input w ≡ fed.slice fed.u8 (lower (string_bytes w.text)) }
+    ensures text { (t : List ℕ) → (⟦<Word as ProtoString>⟧.text t ≡ t) × (⟦<Word as ProtoString>⟧.of_text t ≡ t) }
+{}
+
+/// A map comes through its bytes in one way only: two copies hold the same pairs, and where an order is kept they are
+/// one list; what came back can't have been refused, memory aside, and there is one fault. Open is where memory runs
+/// out; after a refused read, which walk was written; and where no order is kept, the order of the pairs.
+pub fn trips_are_pinned<
+    KC: MapCodec,
+    VC: MapCodec,
+    C: MapStorage<Key = KC::Value, Value = VC::Value>,
+>()
+    ensures { (m : C) → TripIsPinned KC.writing VC.writing (KC.COST + VC.COST) C.equal C.keeps_order (C.pairs m)
+        (C.walks m) }
+{}
+
+/// What a proxy is: by which codecs, enums and storages its two readers read and write. Nothing is open.
+pub fn ways_are_these<
+    KC: MapCodec,
+    E: Enumeration,
+    F: Enumeration,
+    C: MapStorage<Key = KC::Value, Value = E>,
+    D: MapStorage<Key = KC::Value, Value = F>,
+>()
+    ensures { ⟦<Pass<KC, E, F, C, D> as Way>⟧.way
+        ≡ proxy KC.reading KC.COST KC.writing (numbers E.of_number E.blank_is) (numbers F.of_number F.blank_is)
+        C.equal C.keeps_order D.equal D.keeps_order }
+{}
+
+/// A map field is passed on in one way only: the same entries are kept; where the run is ordered, or one walk was
+/// written, the map has the same pairs; and what was passed on can't have been refused, memory aside. Open is where
+/// memory runs out; and what a reading makes of another walk's encoding, and whether the budget lasts for it.
+pub fn passes_are_pinned<
+    KC: MapCodec,
+    E: Enumeration,
+    F: Enumeration,
+    C: MapStorage<Key = KC::Value, Value = E>,
+    D: MapStorage<Key = KC::Value, Value = F>,
+>()
+    ensures { (scratch : C) (d n : ℕ) (bytes : List ℕ) →
+        PassIsPinned ⟦<Pass<KC, E, F, C, D> as Way>⟧.way KC.fits (C.walks scratch) d n bytes }
+{}

@@ -1,0 +1,11 @@
+use Rattle.sample_validator.proofs.PinLemmas.{is_judged, not_both, one_violation}
+use Rattle.sample_validator.proofs.laws.judgements_are_pinned.Goals as goal
+
+pub returns-clause-judged : goal.returns-clause-judged
+returns-clause-judged c = is_judged
+
+pub returns-clause-either : goal.returns-clause-either
+returns-clause-either c = not_both
+
+pub returns-clause-told : goal.returns-clause-told
+returns-clause-told c = one_violation

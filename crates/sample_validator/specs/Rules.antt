@@ -1,0 +1,25 @@
+-- Rules for an int32 value, and which values they accept.
+use Rattle.std.specs.Prelude.{ℕ, ℤ, ◌≡◌, true, false, Option, Some, None, IfSome, unwrap_or, List}
+use Rattle.std.specs.Int.Signed.{◌≤ℤ◌, ◌<ℤ◌}
+use Rattle.buffa_wire.specs.Records.{Datum}
+use Rattle.sample_validator.specs.Options.{int32_option, bool_option}
+use Rattle.sample_validator.specs.declared.rules.Rules.{Rules}
+use Rattle.sample_validator.specs.declared.rules.Violation.{Violation}
+use Rattle.sample_validator.specs.declared.rules.Violation.TheVariants.{Missing, TooSmall, TooGreat}
+
+-- a value that is there lies within the bounds that are set, and one that is asked for is there
+abbrev pub Accepts : Rules → Option ℤ → Type 0
+Accepts rules None = rules.required ≡ false
+Accepts rules (Some v) = IfSome rules.min (λ least. least ≤ℤ v) × IfSome rules.max (λ most. v ≤ℤ most)
+
+-- the first rule that a value breaks: the greatest value counts only where it isn't below the least
+abbrev pub BreaksRule : Rules → Option ℤ → Violation → Type 0
+BreaksRule rules o Missing = (o ≡ None) × (rules.required ≡ true)
+BreaksRule rules o TooSmall = (v : ℤ) × (least : ℤ) × (o ≡ Some v) × (rules.min ≡ Some least) × (v <ℤ least)
+BreaksRule rules o TooGreat =
+    (v : ℤ) × (most : ℤ) × (o ≡ Some v) × (rules.max ≡ Some most) × (most <ℤ v)
+    × IfSome rules.min (λ least. least ≤ℤ v)
+
+-- the rules that options set, at numbers 50011 to 50013
+abbrev pub rules_in : List (ℕ × Datum) → Rules
+rules_in rs = record { min = int32_option 50011 rs; max = int32_option 50012 rs; required = unwrap_or (bool_option 50013 rs) false }

@@ -1,0 +1,141 @@
+//! What the definitions of options and rules say together: each law is a function with nothing to do, whose
+//! contract is the law.
+
+ghost use Rattle.std.specs.Prelude.{◌≡◌, ◌↔◌, ℕ, ℤ, List, [], ◌∷◌, FitsSigned, None, Option, Some, codes, map, option_map};
+ghost use Rattle.std.specs.Prelude.{pos};
+ghost use Rattle.std.specs.Int.{w64};
+ghost use Rattle.buffa_bytes.specs.Scalars.{sint64_of, sint64_encoding, zigzag};
+ghost use Rattle.buffa_bytes.specs.declared.wire_type.WireType.TheVariants.{Varint};
+ghost use Rattle.buffa_bytes.specs.Pinned.{IsCopied, SameIsOne};
+ghost use Rattle.buffa_wire.specs.BudgetLeft.{BudgetLeft, nothing};
+ghost use Rattle.buffa_wire.specs.Found.{varint_in};
+ghost use Rattle.buffa_wire.specs.Encoding.{records_encoding};
+ghost use Rattle.buffa_wire.specs.Kept.{keep_need};
+ghost use Rattle.buffa_wire.specs.Records.{Datum, Held, height, varint};
+ghost use Rattle.buffa_wire.specs.Takes.{cost_of, merged_of};
+ghost use Rattle.buffa_codec.specs.Packed.{numbers_in};
+ghost use Rattle.buffa_codec.specs.Decoded.{last_read};
+ghost use Rattle.buffa_fields.specs.Calls.{KeepsFields};
+ghost use Rattle.buffa_fields.specs.Keep.{keep_takes};
+ghost use Rattle.sample_validator.specs.Meaning.{OthersAreKept, TakesOptions, options_need, options_records, options_takes};
+ghost use Rattle.sample_validator.specs.Pinned.{EqualByMeaning, AcceptsOrBreaks, OneViolation, NotBoth};
+ghost use Rattle.sample_validator.specs.declared.carrier.Carrier.{Carrier};
+ghost use Rattle.sample_validator.specs.declared.options.FieldOptions.{FieldOptions};
+ghost use Rattle.sample_validator.specs.declared.price.Price.{Price};
+
+use crate::carrier::Carrier;
+use crate::options::FieldOptions;
+use crate::price::{Price, PriceCodec};
+use crate::rules::{Rules, Violation};
+use buffa_codec::{ExtensionCodec, Numbered, PackableCodec, SingularCodec};
+use buffa_ext::ExtensionSet;
+use buffa_fields::fields::Fields;
+use buffa_fields::message::members_read_back;
+use buffa_wire::{Blank, MessageSpec};
+
+/// A value is accepted, or it breaks a rule, and not both; and the rule that is told is one.
+///
+/// Nothing is left open.
+pub fn judgements_are_pinned()
+    ensures judged { AcceptsOrBreaks }
+    ensures either { NotBoth }
+    ensures told { OneViolation }
+{}
+
+/// A price is a number, read and written as a `sint64`, in lists too, packed or not.
+pub fn prices_are_sint64()
+    ensures meaning { (p : Price) → ⟦<Price as Blank>⟧.meaning p ≡ p.cents }
+    ensures blank { ⟦<Price as Blank>⟧.blank_is ≡ pos 0 }
+    ensures value { (n : ℕ) → ⟦<PriceCodec as Numbered>⟧.value_of n ≡ sint64_of n }
+    ensures number { (v : ℤ) → ⟦<PriceCodec as Numbered>⟧.number_of v ≡ zigzag v }
+    ensures reads { (ds : List Datum) (o : Option ℤ) → ⟦<PriceCodec as ExtensionCodec>⟧.reads ds o
+        ↔ (o ≡ last_read (λ d. option_map sint64_of (varint_in d)) ds) }
+    ensures records { (v : ℤ) → ⟦<PriceCodec as ExtensionCodec>⟧.recs v ≡ varint (zigzag v) ∷ [] }
+    ensures holds { (v : ℤ) (o : Option ℤ) → ⟦<PriceCodec as ExtensionCodec>⟧.holds v o ↔ (o ≡ Some v) }
+    ensures one { (n : ℕ) (b : BudgetLeft) (d : Datum) → ⟦<PriceCodec as SingularCodec>⟧.one n b d
+        ≡ option_map sint64_of (varint_in d) }
+    ensures packed { (bs : List ℕ) → ⟦<PriceCodec as SingularCodec>⟧.packed bs ≡ map sint64_of (numbers_in Varint bs) }
+    ensures datum { (v : ℤ) → ⟦<PriceCodec as SingularCodec>⟧.datum v ≡ varint (zigzag v) }
+    ensures packed_encoding { (v : ℤ) → ⟦<PriceCodec as PackableCodec>⟧.packed_encoding v ≡ sint64_encoding v }
+    ensures back { (v : ℤ) → ⟦<PriceCodec as SingularCodec>⟧.back v ≡ v }
+    ensures fits { (v : ℤ) → ⟦<PriceCodec as SingularCodec>⟧.fits v ↔ FitsSigned w64 v }
+    ensures normal { (v : ℤ) → ⟦<PriceCodec as SingularCodec>⟧.normal v }
+    ensures accepted { (v : ℤ) → ⟦<PriceCodec as SingularCodec>⟧.refusal v ≡ None }
+    ensures free { ⟦<PriceCodec as SingularCodec>⟧.never_fails }
+    ensures asks { (d : Datum) → ⟦<PriceCodec as SingularCodec>⟧.asks d → ⊥ }
+    ensures cost { (d : Datum) → ⟦<PriceCodec as SingularCodec>⟧.cost d ≡ nothing }
+    ensures unspent { (n : ℕ) (b left : BudgetLeft) (d : Datum) → ⟦<PriceCodec as SingularCodec>⟧.leaves n b d left
+        → left ≡ b }
+{}
+
+/// `==` says exactly whether two of these are one. It leaves nothing open.
+pub fn equal_ones_are_one()
+    ensures price { SameIsOne ⟦<Price as PartialEq>⟧.eq }
+    ensures rules { SameIsOne ⟦<Rules as PartialEq>⟧.eq }
+    ensures violation { SameIsOne ⟦<Violation as PartialEq>⟧.eq }
+{}
+
+/// What `clone` makes of each of these is the same again, and it doesn't fail. It leaves nothing open.
+pub fn clones_are_these()
+    ensures price { IsCopied ⟦<Price as Clone>⟧.is_clone ⟦<Price as Clone>⟧.is_infallible }
+    ensures rules { IsCopied ⟦<Rules as Clone>⟧.is_clone ⟦<Rules as Clone>⟧.is_infallible }
+    ensures violation { IsCopied ⟦<Violation as Clone>⟧.is_clone ⟦<Violation as Clone>⟧.is_infallible }
+{}
+
+/// What lends its unknown fields to extensions: under which name, which list, and what stays when it changes.
+pub fn holders_are_these()
+    ensures options { ⟦<FieldOptions as ExtensionSet>⟧.fqn ≡ codes "google.protobuf.FieldOptions" }
+    ensures fields { (m : FieldOptions) → ⟦<FieldOptions as ExtensionSet>⟧.fields_of m ≡ m.fields }
+    ensures declared { (m : FieldOptions) (w : Held) →
+        (⟦<FieldOptions as ExtensionSet>⟧.with_fields m w).deprecated ≡ m.deprecated }
+    ensures carrier { ⟦<Carrier as ExtensionSet>⟧.fqn ≡ codes "test.Carrier" }
+    ensures records { (m : Carrier) → ⟦<Carrier as ExtensionSet>⟧.fields_of m ≡ m.fields }
+{}
+
+/// What options and carriers mean, and from which value they start: what the declared one says, and the records of all
+/// others in order. Options are equal where they mean the same. Nothing is left open.
+pub fn options_are_equal_by_meaning()
+    ensures options { (m : FieldOptions) → ⟦<FieldOptions as Blank>⟧.meaning m ≡ (m.deprecated, m.fields.records) }
+    ensures carrier { (m : Carrier) → ⟦<Carrier as Blank>⟧.meaning m ≡ m.fields.records }
+    ensures blank { (⟦<FieldOptions as Blank>⟧.blank_is ≡ (None, [])) × (⟦<Carrier as Blank>⟧.blank_is ≡ []) }
+    ensures equal { EqualByMeaning ⟦<FieldOptions as PartialEq>⟧.eq ⟦<FieldOptions as Blank>⟧.meaning }
+{}
+
+/// Which messages they are: what bytes make of them, what they cost, and their encoding. Nothing is open.
+pub fn messages_are_these()
+    ensures options { (⟦<FieldOptions as MessageSpec>⟧.merged ≡ merged_of options_takes)
+        × (⟦<FieldOptions as MessageSpec>⟧.cost ≡ cost_of options_need) }
+    ensures carrier { (⟦<Carrier as MessageSpec>⟧.merged ≡ merged_of keep_takes)
+        × (⟦<Carrier as MessageSpec>⟧.cost ≡ cost_of keep_need) }
+    ensures records { (v : _) → ⟦<FieldOptions as MessageSpec>⟧.records v ≡ options_records v }
+    ensures encoding { (v : _) → ⟦<FieldOptions as MessageSpec>⟧.encoding v ≡ records_encoding (options_records v) }
+    ensures carrier_records { ⟦<Carrier as MessageSpec>⟧.records ≡ (λ rs. rs) }
+    ensures carrier_encoding { ⟦<Carrier as MessageSpec>⟧.encoding ≡ records_encoding }
+    ensures slots { (⟦<FieldOptions as MessageSpec>⟧.slots ≡ (λ _. [])) × (⟦<Carrier as MessageSpec>⟧.slots ≡ (λ _. [])) }
+    ensures costs { (⟦<FieldOptions as MessageSpec>⟧.COST ≡ 32) × (⟦<Carrier as MessageSpec>⟧.COST ≡ 24) }
+{}
+
+/// Which values are read back from their encoding, and how deep it nests. Nothing is open.
+pub fn messages_are_read_back(options: &FieldOptions)
+    ensures options { (v : _) → ⟦<FieldOptions as MessageSpec>⟧.normal v ↔ OthersAreKept v }
+    ensures carrier { (rs : List (ℕ × Datum)) → ⟦<Carrier as MessageSpec>⟧.normal rs }
+    ensures levels { (v : _) → ⟦<FieldOptions as MessageSpec>⟧.levels v ≡ height v.1 }
+    ensures carrier_levels { ⟦<Carrier as MessageSpec>⟧.levels ≡ height }
+{
+    members_read_back(options);
+}
+
+/// The declared field is read by itself, any other is kept behind the others, and what is refused, by the fault of its
+/// bytes, changes and spends nothing. Open is what stands unread of the declared one then, and where memory runs out.
+pub fn fields_are_taken_alone()
+    ensures options { TakesOptions ⟦<FieldOptions as Fields>⟧.layout.Taken }
+    ensures carrier { KeepsFields ⟦<Carrier as Fields>⟧.layout.Taken (λ m. m.fields.records) }
+{}
+
+/// The constant `PROTO_FQN` of each of these is that name, too. Nothing is left open.
+pub fn names_are_these() -> (&'static str, &'static str)
+    ensures options { result.0.now ≡ codes "google.protobuf.FieldOptions" }
+    ensures carrier { result.1.now ≡ codes "test.Carrier" }
+{
+    (FieldOptions::PROTO_FQN, Carrier::PROTO_FQN)
+}

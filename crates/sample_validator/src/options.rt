@@ -1,0 +1,217 @@
+//! The custom options of a field, read of the unknown fields of its options.
+
+ghost use Rattle.std.specs.Prelude.{◌≡◌, ◌≢◌, [], codes, refl, pos, unwrap_or};
+ghost use Rattle.std.proofs.Common.{lit<};
+ghost use Rattle.std.specs.Prelude.{IfOk, IsOk, OnErr, option_map, string_bytes};
+ghost use Rattle.buffa_codec.specs.Decoded.{HasByte};
+ghost use Rattle.buffa_fields.specs.Members.{field, keep};
+ghost use Rattle.sample_validator.specs.Options.{bool_option, int32_list, int32_option, string_option};
+
+use buffa_codec::{Repeated, StringCodec};
+use buffa_ext::{Extension, ExtensionSet};
+use buffa_fields::fields::Fields;
+use buffa_fields::kept::{self, KeptFields};
+use buffa_fields::meaning::And;
+use buffa_fields::member::Member;
+use buffa_fields::message::{Listed, Listing};
+use buffa_fields::optional::Optional;
+use buffa_fields::visitor::Visitor;
+use buffa_wire::scalars::{Bool, Int32};
+use buffa_wire::{Blank, DecodeContext, DecodeError, Formed, Tag, UnknownFields};
+use std::alloc::{AllocError, Global};
+
+/// The options of a field, as `google.protobuf.FieldOptions` has them: one that is declared, and the records
+/// of all others, custom options among them.
+///
+/// message FieldOptions { optional bool deprecated = 3; extensions 1000 to max; }
+///
+/// ```ignore
+/// impl ExtensionSet for FieldOptions { .. }
+/// ```
+#[derive(Drop, PartialEq)]
+pub struct FieldOptions {
+    /// Whether the field is deprecated.
+    pub deprecated: Option<bool>,
+    /// The records of the other options, in order.
+    pub fields: UnknownFields,
+}
+
+impl Fields for FieldOptions {
+    type Meaning = And<Option<bool>, KeptFields>;
+
+    const COST: usize = 32;
+
+    ghost COST = { 32 };
+
+    ghost positive = { lit< tt };
+
+    ghost layout = { field 3 (λ m. m.deprecated) ⟦<Optional<Bool> as Member>⟧.shape (keep (λ m. m.fields.records)) };
+
+    ghost sound = { refl };
+
+    fn visit<V: Visitor>(&self, visitor: &mut V) {
+        visitor.visit::<Optional<Bool>>(3, &self.deprecated);
+        visitor.visit_kept(&self.fields);
+    }
+
+    fn take(
+        &mut self,
+        alloc: Global,
+        tag: Tag,
+        buf: &mut &[u8],
+        ctx: DecodeContext<'_>,
+    ) -> Result<(), DecodeError> {
+        match tag.field_number() {
+            3 => Optional::<Bool>::merge(&mut self.deprecated, alloc, tag, buf, ctx),
+            _ => kept::keep(alloc, &mut self.fields, tag, buf, ctx),
+        }
+    }
+}
+
+impl Blank for FieldOptions {
+    type Meaning = <FieldOptions as Fields>::Meaning;
+
+    ghost meaning = { ⟦<FieldOptions as Fields>⟧.layout.meaning };
+
+    ghost blank_is = { ⟦<FieldOptions as Fields>⟧.layout.blank };
+
+    fn blank(alloc: Global) -> FieldOptions {
+        FieldOptions {
+            deprecated: None,
+            fields: UnknownFields::new(alloc),
+        }
+    }
+}
+
+impl Listing for FieldOptions {
+    ghost means = { λ m. refl };
+
+    ghost starts = { refl };
+}
+
+impl Formed for FieldOptions {
+    type Form = Listed;
+}
+
+impl ExtensionSet for FieldOptions {
+    const PROTO_FQN: &'static str = "google.protobuf.FieldOptions";
+
+    ghost fqn = { codes "google.protobuf.FieldOptions" };
+
+    ghost fields_of = { λ m. m.fields };
+
+    ghost with_fields = { λ m w. record m { fields = w } };
+
+    fn extendee_name() -> &'static str {
+        Self::PROTO_FQN
+    }
+
+    fn unknown_fields(&self) -> &UnknownFields {
+        &self.fields
+    }
+
+    fn unknown_fields_mut(&mut self) -> &mut UnknownFields {
+        &mut self.fields
+    }
+
+    ghost fields_of_with = { λ m w. refl };
+
+    ghost with_fields_of = { λ m. refl };
+
+    ghost with_fields_twice = { λ m w u. refl };
+}
+
+/// A custom option of type `int32`, by its number; none where no record says it.
+///
+/// # Errors
+/// None: reading a number takes no memory.
+///
+/// ```ignore
+/// let limit = read_int32(alloc, &options, 50001)?; // Some(80)
+/// ```
+pub fn read_int32(
+    alloc: Global,
+    options: &FieldOptions,
+    number: u32,
+) -> Result<Option<i32>, AllocError>
+    ensures value { IfOk result (λ o. o ≡ int32_option number options.now.fields.records) }
+    ensures always { IsOk result }
+{
+    let option = Extension::<Int32>::new(number, FieldOptions::PROTO_FQN);
+    options.extension(alloc, &option)
+}
+
+/// A custom option of type `bool`, by its number; none where no record says it.
+///
+/// # Errors
+/// None: reading a number takes no memory.
+///
+/// ```ignore
+/// let required = read_bool(alloc, options, 50013)?; // Some(true)
+/// ```
+pub fn read_bool(
+    alloc: Global,
+    options: &FieldOptions,
+    number: u32,
+) -> Result<Option<bool>, AllocError>
+    ensures value { IfOk result (λ o. o ≡ bool_option number options.now.fields.records) }
+    ensures always { IsOk result }
+{
+    let option = Extension::<Bool>::new(number, FieldOptions::PROTO_FQN);
+    options.extension(alloc, &option)
+}
+
+/// The option `int32 max_length = 50001`, or 255 where no record says it.
+///
+/// # Errors
+/// None: neither reading a number nor making this default takes memory.
+///
+/// ```ignore
+/// let limit = max_length_or_default(alloc, &options)?; // 255
+/// ```
+pub fn max_length_or_default(alloc: Global, options: &FieldOptions) -> Result<i32, AllocError>
+    ensures value { IfOk result (λ v. v ≡ unwrap_or (int32_option 50001 options.now.fields.records) (pos 255)) }
+    ensures always { IsOk result }
+{
+    let max_length = Extension::<Int32>::with_default(
+        50001,
+        FieldOptions::PROTO_FQN,
+        |_alloc: Global| -> Result<i32, AllocError>
+            ensures value { IfOk result (λ v. v ≡ pos 255) }
+            ensures always { IsOk result }
+        { Ok(255) },
+    );
+    options.extension_or_default(alloc, &max_length)
+}
+
+/// The option `string label = 50002`: the last that is UTF-8.
+///
+/// # Errors
+/// Where memory runs out; never where no record is a string, nor for an empty one.
+///
+/// ```ignore
+/// let label = read_label(alloc, &options)?; // Some("name")
+/// ```
+pub fn read_label(alloc: Global, options: &FieldOptions) -> Result<Option<String>, AllocError>
+    ensures value { IfOk result (λ o. option_map string_bytes o ≡ string_option 50002 options.now.fields.records) }
+    ensures full { OnErr result (HasByte (string_option 50002 options.now.fields.records)) }
+{
+    let label = Extension::<StringCodec>::new(50002, FieldOptions::PROTO_FQN);
+    options.extension(alloc, &label)
+}
+
+/// The option `repeated int32 choices = 50003`: the numbers of all its records, packed or not.
+///
+/// # Errors
+/// Where memory runs out; never where the records have no number.
+///
+/// ```ignore
+/// let choices = read_choices(alloc, &options_of(alloc, &listed)?)?; // [1, 2, 300]
+/// ```
+pub fn read_choices(alloc: Global, options: &FieldOptions) -> Result<Vec<i32>, AllocError>
+    ensures value { IfOk result (λ v. v.items ≡ int32_list 50003 options.now.fields.records) }
+    ensures full { OnErr result (int32_list 50003 options.now.fields.records ≢ []) }
+{
+    let choices = Extension::<Repeated<Int32>>::new(50003, FieldOptions::PROTO_FQN);
+    options.extension(alloc, &choices)
+}

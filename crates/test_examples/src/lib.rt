@@ -1,0 +1,8 @@
+//! Examples of README, of docs/GUIDE.md and of comments, run: those whose lines no other proved function says. Nothing
+//! stands on this crate.
+#![tactic(auto)]
+
+#[cfg(test)]
+mod examples;
+#[cfg(test)]
+mod tasks;

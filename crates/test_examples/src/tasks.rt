@@ -1,0 +1,137 @@
+//! The tasks of README and of docs/GUIDE.md, run: a message that is read, changed and written, bytes that aren't trusted,
+//! unknown fields, steps that are taken later, closed enums, and a loop over fields.
+
+use buffa::extension::codecs::Int32;
+use buffa::extension::{Extension, ExtensionCodec, Step, replay};
+use buffa::{
+    Blank, Budget, Buf, DecodeContext, DecodeError, EnumValue, Message, Tag, UnknownFieldData,
+    UnknownFields, skip_field_depth,
+};
+use sample_error_info::messages::error_info::ErrorInfo;
+use sample_error_info::with_domain;
+use sample_palette::palette::Palette;
+use sample_palette::shade::Shade;
+use sample_palette::swatch::Swatch;
+use std::alloc::Global;
+use std::test::Fail;
+
+// An `ErrorInfo` whose reason is x, and the fields 9, 5, and 8, 1, which it doesn't declare.
+const BYTES: [u8; 7] = [0x0A, 0x01, 0x78, 0x48, 0x05, 0x40, 0x01];
+
+// Reads a message, changes it, writes it.
+fn changed(alloc: Global, bytes: &[u8]) -> Result<Vec<u8>, Fail> {
+    let mut info: ErrorInfo = Blank::blank(alloc);
+    info.merge_from_slice(alloc, bytes)?;
+    info.domain = String::from_str(alloc, "example.com")?;
+    let encoding = info.try_encode_to_vec(alloc)?;
+    Ok(encoding)
+}
+
+#[test]
+fn a_message_is_read_changed_and_written(rt: HostRuntime) -> Result<(), Fail> {
+    let alloc = rt.alloc();
+    let encoding = changed(alloc, &BYTES)?;
+    let written: &[u8] = &[
+        0x0A, 0x01, 0x78, 0x12, 0x0B, 0x65, 0x78, 0x61, 0x6D, 0x70, 0x6C, 0x65, 0x2E, 0x63, 0x6F,
+        0x6D, 0x48, 0x05, 0x40, 0x01,
+    ];
+    assert!(rt; encoding.as_slice() == written);
+    let bytes: &[u8] = &BYTES;
+    let answer = with_domain(alloc, &bytes, String::from_str(alloc, "example.com")?)?;
+    assert!(rt; answer.as_slice() == written);
+    Ok(())
+}
+
+// Reads a message under smaller limits.
+fn within_limits(alloc: Global, bytes: &[u8]) -> Result<ErrorInfo, DecodeError> {
+    let mut info: ErrorInfo = Blank::blank(alloc);
+    let mut budget = Budget::new(1_000).with_element_memory(1_000_000);
+    let mut rest = bytes;
+    info.merge(alloc, &mut rest, DecodeContext::new(20, &mut budget))?;
+    Ok(info)
+}
+
+// Whether there is a field 9.
+fn has_nine(info: &ErrorInfo) -> bool {
+    let mut found = false;
+    for field in info.rest.iter() {
+        if field.number == 9 {
+            found = true;
+        }
+    }
+    found
+}
+
+#[test]
+fn unknown_fields_are_looked_at(rt: HostRuntime) -> Result<(), Fail> {
+    let mut info = within_limits(rt.alloc(), &BYTES)?;
+    assert!(rt; has_nine(&info));
+    info.rest.retain(|field| field.number != 9);
+    assert!(rt; !has_nine(&info));
+    assert!(rt; info.rest.len() == 1);
+    Ok(())
+}
+
+// What the records of number 7 are after two steps.
+fn after_steps(alloc: Global) -> Result<Option<i32>, Fail> {
+    let mut fields = UnknownFields::decode_from_slice(alloc, &[0x38, 0x01, 0x48, 0x05])?;
+    let records = vec![in alloc; UnknownFieldData::Varint(2)]?;
+    let steps = vec![in alloc; Step::Set { number: 7, records }, Step::Clear { number: 9 }]?;
+    replay(alloc, &mut fields, steps)?;
+    Ok(Int32::decode(alloc, 7, &fields)?)
+}
+
+#[test]
+fn steps_are_taken(rt: HostRuntime) -> Result<(), Fail> {
+    assert!(rt; after_steps(rt.alloc())? == Some(2));
+    Ok(())
+}
+
+// How many fields the bytes are.
+fn count_fields(bytes: &[u8], depth: u32) -> Result<u64, DecodeError> {
+    let mut rest = bytes;
+    let mut count: u64 = 0;
+    for _ in 0..u64::MAX {
+        if rest.remaining() == 0 {
+            break;
+        }
+        let tag = Tag::decode(&mut rest)?;
+        skip_field_depth(tag, &mut rest, depth)?;
+        count = count.saturating_add(1);
+    }
+    Ok(count)
+}
+
+#[test]
+fn fields_are_counted(rt: HostRuntime) -> Result<(), Fail> {
+    assert!(rt; count_fields(&BYTES, 10)? == 3);
+    Ok(())
+}
+
+// The swatch that the bytes are.
+fn swatch_of(alloc: Global, bytes: &[u8]) -> Result<Swatch, Fail> {
+    let mut message: Swatch = Blank::blank(alloc);
+    message.merge_from_slice(alloc, bytes)?;
+    Ok(message)
+}
+
+#[test]
+fn a_closed_enum_keeps_what_it_does_not_declare(rt: HostRuntime) -> Result<(), Fail> {
+    let alloc = rt.alloc();
+    let swatch = swatch_of(alloc, &[0x08, 0x63])?;
+    assert!(rt; swatch.shade.is_none());
+    let encoding = swatch.try_encode_to_vec(alloc)?;
+    let written: &[u8] = &[0x08, 0x63];
+    assert!(rt; encoding.as_slice() == written);
+    let open = EnumValue::<Shade>::blank(alloc);
+    assert!(rt; open == EnumValue::Known(Shade::A));
+    let message: Palette = Blank::blank(alloc);
+    assert!(rt; message.list.len() == 0);
+    Ok(())
+}
+
+#[test]
+fn an_extension_names_its_number(rt: HostRuntime) {
+    let ext = Extension::<Int32>::new(7, "test.Carrier");
+    assert!(rt; ext.number() == 7);
+}

@@ -1,0 +1,19 @@
+//! Tests of what crosses crates, by the names of the facade, and of what is no case of a table: the cases stand in
+//! `vectors`, and the programs `conformance..` run them. Then the worked examples of docs/GUIDE.md, run. Nothing stands on
+//! this crate.
+//!
+//! Expected values come from outside: from the protobuf encoding guide, worked out by hand, or from a table. The
+//! messages, enums and keys stand in `sample_types`, an extendee and the options in `sample_validator`. Tests compare
+//! with `==` in `assert!`: of `assert_eq!` it is proved too how both sides print, which takes a fifth of a test's time.
+#![tactic(auto)]
+
+#[cfg(test)]
+mod carrier;
+#[cfg(test)]
+mod facade;
+#[cfg(test)]
+mod guide;
+#[cfg(test)]
+mod large;
+#[cfg(test)]
+mod surface;

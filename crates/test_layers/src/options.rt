@@ -1,0 +1,127 @@
+//! Options by their bytes.
+
+use buffa_ext::codecs::PackedRepeated;
+use buffa_ext::{Extension, ExtensionSet};
+use buffa_wire::UnknownFields;
+use sample_validator::options::{
+    FieldOptions, max_length_or_default, read_choices, read_int32, read_label,
+};
+use sample_validator::price::{Price, PriceCodec, store_price};
+use sample_validator::rules::{Violation, validate};
+use std::alloc::Global;
+use std::test::Fail;
+
+// The options that the bytes are.
+fn options_of(alloc: Global, bytes: &[u8]) -> Result<FieldOptions, Fail> {
+    let fields = UnknownFields::decode_from_slice(alloc, bytes)?;
+    Ok(FieldOptions {
+        deprecated: None,
+        fields,
+    })
+}
+
+#[test]
+fn numbers_are_read_of_their_records(rt: HostRuntime) -> Result<(), Fail> {
+    let alloc = rt.alloc();
+    let rows: [(&[u8], Option<i32>, i32); 4] = [
+        (&[], None, 255),
+        (&[0x88, 0xB5, 0x18, 0x00], Some(0), 0),
+        (
+            &[0x88, 0xB5, 0x18, 0x05, 0x88, 0xB5, 0x18, 0x50],
+            Some(80),
+            80,
+        ),
+        (&[0x8A, 0xB5, 0x18, 0x01, 0x50], None, 255),
+    ];
+    for (bytes, read, filled) in rows {
+        let options = options_of(alloc, bytes)?;
+        assert!(rt; read_int32(alloc, &options, 50001)? == read);
+        assert!(rt; max_length_or_default(alloc, &options)? == filled);
+    }
+    Ok(())
+}
+
+#[test]
+fn texts_are_read_of_their_records(rt: HostRuntime) -> Result<(), Fail> {
+    let alloc = rt.alloc();
+    let options = options_of(alloc, b"\x92\xB5\x18\x04name\x92\xB5\x18\x01\xFF")?;
+    match read_label(alloc, &options)? {
+        Some(label) => assert!(rt; label.as_str() == "name"),
+        None => assert!(rt; false),
+    }
+    Ok(())
+}
+
+#[test]
+fn lists_are_read_of_their_records(rt: HostRuntime) -> Result<(), Fail> {
+    let alloc = rt.alloc();
+    let listed = [0x98, 0xB5, 0x18, 0x01, 0x9A, 0xB5, 0x18, 0x03, 2, 0xAC, 2];
+    let choices = read_choices(alloc, &options_of(alloc, &listed)?)?;
+    assert!(rt; choices.as_slice() == [1, 2, 300].as_slice());
+    Ok(())
+}
+
+// min 1, max 9, required.
+const RULES: [u8; 12] = [
+    0xD8, 0xB5, 0x18, 0x01, 0xE0, 0xB5, 0x18, 0x09, 0xE8, 0xB5, 0x18, 0x01,
+];
+
+#[test]
+fn values_are_judged_by_options(rt: HostRuntime) -> Result<(), Fail> {
+    let alloc = rt.alloc();
+    let options = options_of(alloc, &RULES)?;
+    let rows = [
+        (None, Err(Violation::Missing)),
+        (Some(0), Err(Violation::TooSmall)),
+        (Some(1), Ok(())),
+        (Some(9), Ok(())),
+        (Some(10), Err(Violation::TooGreat)),
+    ];
+    for (value, expected) in rows {
+        assert!(rt; validate(alloc, &options, value)? == expected);
+    }
+    Ok(())
+}
+
+#[test]
+fn values_are_free_without_options(rt: HostRuntime) -> Result<(), Fail> {
+    let alloc = rt.alloc();
+    let free = options_of(alloc, &[])?;
+    assert!(rt; validate(alloc, &free, None)? == Ok(()));
+    assert!(rt; validate(alloc, &free, Some(-1))? == Ok(()));
+    Ok(())
+}
+
+// The price -3, in a record.
+const PRICE: [u8; 4] = [0xA8, 0xB6, 0x18, 0x05];
+
+// Options with a price, and what was read back as it was stored.
+fn options_with(alloc: Global, owed: Price) -> Result<(FieldOptions, Option<Price>), Fail> {
+    let mut options = options_of(alloc, &[])?;
+    let stored = store_price(alloc, &mut options, owed)?;
+    Ok((options, stored))
+}
+
+#[test]
+fn prices_are_stored(rt: HostRuntime) -> Result<(), Fail> {
+    let owed = Price { cents: -3 };
+    let (options, stored) = options_with(rt.alloc(), owed)?;
+    assert!(rt; stored == Some(owed));
+    let mut encoding = Vec::new(rt.alloc());
+    options.fields.write_to(&mut encoding)?;
+    assert!(rt; encoding.as_slice() == PRICE.as_slice());
+    Ok(())
+}
+
+#[test]
+fn prices_are_read_as_a_packed_list(rt: HostRuntime) -> Result<(), Fail> {
+    let alloc = rt.alloc();
+    let options = options_of(alloc, &PRICE)?;
+    let prices = Extension::<PackedRepeated<PriceCodec>>::new(
+        50021,
+        "google.protobuf.FieldOptions",
+    );
+    let all = options.extension(alloc, &prices)?;
+    assert!(rt; all.as_slice() == [Price { cents: -3 }].as_slice());
+    Ok(())
+}

@@ -1,0 +1,166 @@
+"""Whether each wrong body of tests/wrong.py can still be tried: its old texts stand once, and its new ones are read.
+
+Edits that don't touch one another are put into one copy of the repository, and the checker reads that copy without
+proving anything: names, types, numbers of arguments, moves and borrows. The copy's program holds one error of ours, at
+which `rt check` stops before it builds a library. Clauses aren't read so: each of their words has to stand elsewhere in
+the repository or in the kit. A law that the edit leaves as it is may refuse it by its own text: it names a type that
+is another one then.
+"""
+import os
+import re
+import shutil
+import subprocess
+import tempfile
+from concurrent.futures import ThreadPoolExecutor
+
+from wrong_edits import TOP, Edit, below, functions, listed, paths_of, read
+
+ERROR = re.compile(r"^(\S+?):(\d+):\d+: (error.*)", re.M)
+# a moved value is what the checker looks for last of all
+STOP = "\nfn stops_here(text: std::vec::Vec<u8>) -> std::vec::Vec<u8> {\n    let _moved = text;\n    text\n}\n"
+GHOST = re.compile(r"ghost \w+(?:: | = )\{[^;]*\};|(?:requires|ensures)\b[^{]*\{[^{}]*\}|ghost use [^;]*;")
+
+
+class Look(Edit):
+    """An edit of a crate, and where its old texts stand in the files of crates/."""
+
+    def __init__(self, crate, path):
+        super().__init__(path)
+        self.crate, self.why_not, self.places = crate, self.locate(f"{TOP}/crates/{crate}"), []
+        for file, old, new in self.pairs if not self.why_not else []:
+            file = os.path.normpath(f"{crate}/{file}")
+            at = read(f"{TOP}/crates/{file}").find(old)
+            self.places.append((file, at, at + len(old), old, new))
+
+    def line(self, place):
+        return place[0], read(f"{TOP}/crates/{place[0]}").count("\n", 0, place[1]) + 1
+
+    def touches(self, other):
+        return any(a[0] == b[0] and (a[1] < b[2] and b[1] < a[2] or a[1] < 0 or b[1] < 0) for a in self.places for b in other.places)
+
+    def renames(self):
+        """Whether a name that others use stands for something else then."""
+        return self.is_wide and any(" as " in GHOST.sub("", new).replace(" as ", " ", old.count(" as ")) for _, old, new in self.pairs)
+
+    def is_refused_by_its_law(self, errors):
+        """Whether each error stands in the law of that name, in a file that the edit leaves as it is."""
+        edited = {place[0] for place in self.places}
+        return not self.target and all(
+            file not in edited and any(it.name == self.name and it.start < line <= it.end + 1 for it in functions(file, read(f"{TOP}/crates/{file}")))
+            for file, line, _ in errors
+        )
+
+    def strange_words(self, known):
+        """The words of its clauses that stand nowhere else."""
+        found = set()
+        for file, _, new in self.pairs:
+            ghost = " ".join(GHOST.findall(new)) if file.endswith(".rt") else new
+            bound = {it for names in re.findall(r"[λ∀]([^.]*)\.", ghost) for it in names.split()} | {*re.findall(r"(?:struct|enum|fn) (\w+)", new)}
+            found |= {it for it in words(ghost) if it not in known and it not in bound}
+        return sorted(found)
+
+
+def words(text):
+    return set(re.findall(r"[^\W\d]\w+", text))
+
+
+def known_words():
+    """The words of the crates, and those of the kit's own libraries."""
+    kit = os.path.join(os.path.dirname(os.path.dirname(os.path.realpath(shutil.which("rt") or "rt"))), "rattle", "std")
+    found = set()
+    for top in (f"{TOP}/crates", kit):
+        for at, folders, files in os.walk(top):
+            folders[:] = [it for it in folders if it not in ("out", "must-fail")]
+            for name in files:
+                if name.endswith((".rt", ".antt")):
+                    found |= words(read(f"{at}/{name}"))
+                    found.add(name.partition(".")[0])
+            found |= set(folders)
+    return found
+
+
+def copy_to(room, crate, crates):
+    """Copies what the checker reads of the crate, which stands on all those crates, and gives it an error of ours."""
+    lines, needed = listed(), set().union(*[below(it) for it in [crate, *crates]])
+    named = {word for it in needed for word in lines[it].partition(":")[2].split()} | needed - {crate}
+    lines[crate] = f"{crate}: {' '.join(sorted(named))}"
+    shutil.copy(f"{TOP}/HANDLES", room)
+    with open(f"{room}/crates.txt", "w", encoding="utf-8") as it:
+        it.write("".join(f"{lines[name]}\n" for name in lines if name in needed))
+    for name in needed:
+        for part in ("src", "specs", "proofs"):
+            if os.path.isdir(f"{TOP}/crates/{name}/{part}"):
+                shutil.copytree(f"{TOP}/crates/{name}/{part}", f"{room}/crates/{name}/{part}")
+    root = next(it for it in ("src/main.rt", "src/lib.rt") if os.path.isfile(f"{room}/crates/{crate}/{it}"))
+    with open(f"{room}/crates/{crate}/{root}", "a", encoding="utf-8") as it:
+        it.write(STOP)
+    return root
+
+
+def errors_of(edits, crate, crates):
+    """What the checker says of a copy with these edits: file, line and text of each error, but for ours."""
+    with tempfile.TemporaryDirectory(prefix="look-") as room:
+        root = copy_to(room, crate, crates)
+        begins = read(f"{room}/crates/{crate}/{root}").count("\n") - STOP.count("\n")
+        texts = {}
+        for edit in edits:
+            for file, _, _, old, new in edit.places:
+                texts.setdefault(file, read(f"{room}/crates/{file}"))
+                texts[file] = texts[file].replace(old, new, 1)
+        for file, text in texts.items():
+            with open(f"{room}/crates/{file}", "w", encoding="utf-8") as it:
+                it.write(text)
+        words = ["rt", "check", "--jobs", "1", "--only", ""]
+        for _ in range(2):
+            said = subprocess.run(words, cwd=f"{room}/crates/{crate}", stdin=subprocess.DEVNULL, stdout=subprocess.PIPE, stderr=subprocess.STDOUT, text=True, errors="replace", check=False).stdout
+            # where it says nothing of the text, it was killed, most likely for memory: once more
+            if ERROR.search(said):
+                break
+    found = [(os.path.normpath(file.partition("/crates/")[2] or f"{crate}/{file}"), int(line), text) for file, line, text in ERROR.findall(said)]
+    others = [it for it in found if not (it[0] == f"{crate}/{root}" and it[1] > begins)]
+    if not found:
+        raise SystemExit(f"wrong: a copy of the crates isn't read as it should be: {said[-1000:]}")
+    return others
+
+
+def to_blame(edits, crate, crates):
+    """Takes edits out until the others are read together, and returns those: where they stand is an error, or it may
+    come of what they change for others."""
+    blamed, left = [], edits
+    while left:
+        errors = errors_of(left, crate, crates)
+        if not errors:
+            break
+        out = []
+        for inside, line, _ in errors:
+            at = [it for it in left if (inside, line) in [it.line(place) for place in it.places]]
+            lower = below(inside.split("/")[0])
+            out += at or [it for it in left if it.is_wide and it.crate in lower] or [it for it in left if it.crate in lower] or left
+        blamed += [it for it in left if it in out]
+        left = [it for it in left if it not in out]
+    return blamed
+
+
+def look(crates, lanes):
+    """How many edits can be tried, and what is said of the others."""
+    known = known_words()
+    edits = [Look(crate, path) for crate in crates for path in paths_of(crate)]
+    failed = {it: it.why_not for it in edits if it.why_not}
+    failed.update({it: f"no such word stands elsewhere: {' '.join(it.strange_words(known))}" for it in edits if it not in failed and it.strange_words(known)})
+    layers, alone = [], []
+    for edit in edits:
+        if edit in failed:
+            continue
+        if edit.renames():
+            alone.append(edit)
+            continue
+        layer = next((it for it in layers if not any(edit.touches(other) for other in it)), None)
+        layers.append([edit]) if layer is None else layer.append(edit)
+    program = next(it for it in crates if os.path.isfile(f"{TOP}/crates/{it}/src/main.rt"))
+    with ThreadPoolExecutor(lanes) as pool:
+        alone += [it for found in pool.map(lambda it: to_blame(it, program, crates), layers) for it in found]
+        for edit, errors in zip(alone, pool.map(lambda it: errors_of([it], it.crate, []), alone)):
+            if errors and not edit.is_refused_by_its_law(errors):
+                failed[edit] = "{}:{}: {}".format(*errors[0])
+    print(f"wrong: {len(edits)} edits in {len(layers)} copies, and {len(alone)} of them in one each")
+    return len(edits) - len(failed), [f"wrong: {it.crate}/{it.title}: BAD EDIT: {why}" for it, why in failed.items()]

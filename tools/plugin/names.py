@@ -1,0 +1,70 @@
+"""The names of files, types and members that the plugin gives, and the modules that the names of the form stand in."""
+import re
+
+# Words that can't name a member, of Rust and of contracts; and those that contracts write between « and ».
+KEYWORDS = set(
+    "as async await become box break const continue crate do dyn else enum extern false final fn for gen ghost if impl in let "
+    "loop macro match mod move mut override priv pub ref return requires ensures self static struct super trait true try type "
+    "typeof unsafe unsized use virtual where while yield deriving abstract Self".split()
+)
+ESCAPED = set(
+    "data record module package open unfoldable abbrev axiom unfold unfolding ruleset mutual infix infixl infixr elim coe fcoe "
+    "tcoe hcom com".split()
+)
+CODECS = set(
+    "Bool BytesVec ClosedEnum Fixed32 Fixed64 Int32 Int64 Map OpenEnum Sfixed32 Sfixed64 Sint32 Sint64 Str Uint32 Uint64".split()
+)
+
+# The module of each name, over the facade.
+FACADE = {
+    **{it: "buffa::map_codec" for it in CODECS},
+    **{it: "buffa::fields" for it in ["And"] + [f"And{n}" for n in range(3, 17)]},
+    **{it: "buffa::fields" for it in "Fields Formed Group Keeping KeptFields Listed Listing MapOf MapOfNested Member Nested".split()},
+    **{it: "buffa::fields" for it in "Optional OrderedMapOf OrderedMapOfNested Packed Plain Repeated RepeatedGroup".split()},
+    **{it: "buffa::fields" for it in "RepeatedNested Visitor kept".split()},
+    **{it: "buffa" for it in "Blank DecodeContext DecodeError EnumValue Enumeration ExtensionSet Tag UnknownFields".split()},
+    "Global": "std::alloc",
+    "BTreeMap": "std::collections",
+    "String": "std::string",
+}
+# Where the crates below have them.
+BELOW = {
+    **{it: "buffa_map::map_codec" for it in CODECS},
+    **{it: "buffa_fields::meaning" for it in ["And"] + [f"And{n}" for n in range(3, 17)]},
+    **{it: "buffa_wire" for it in "Blank DecodeContext DecodeError EnumValue Enumeration Formed Tag UnknownFields".split()},
+    **{it: f"buffa_fields::{it.lower()}" for it in "Fields Group Keeping Member Nested Optional Packed Plain Repeated Visitor".split()},
+    "ExtensionSet": "buffa_ext",
+    "KeptFields": "buffa_fields::kept",
+    "Listed": "buffa_fields::message",
+    "Listing": "buffa_fields::message",
+    "MapOf": "buffa_fields::map_member",
+    "MapOfNested": "buffa_fields::map_nested",
+    "OrderedMapOf": "buffa_fields::ordered_map",
+    "OrderedMapOfNested": "buffa_fields::ordered_nested",
+    "RepeatedGroup": "buffa_fields::repeated_group",
+    "RepeatedNested": "buffa_fields::repeated_nested",
+    "Global": "std::alloc",
+    "BTreeMap": "std::collections",
+    "String": "std::string",
+    "kept": "buffa_fields::kept",
+}
+# Names that a type of one's own can't have beside those.
+TAKEN = set(FACADE) | set("Option Result Vec Some None Ok Err Box Self V".split())
+
+
+def snake(name):
+    """The name of a file: `ErrorInfo` is in error_info, `In` in in_."""
+    name = re.sub(r"([A-Z]+)([A-Z][a-z])", r"\1_\2", name)
+    name = re.sub(r"([a-z0-9])([A-Z])", r"\1_\2", name).lower()
+    return name + "_" if name in KEYWORDS | ESCAPED else name
+
+
+def camel(name):
+    """The name of a type or of a value: `OPEN_AIR` is OpenAir."""
+    parts = [it for it in name.split("_") if it]
+    return "".join(it[0].upper() + (it[1:].lower() if it.isupper() else it[1:]) for it in parts)
+
+
+def ordered(names):
+    """As rt fmt sorts them: by their letters, and by what their digits mean."""
+    return sorted(names, key=lambda it: [int(p) if p.isdigit() else p for p in re.split(r"(\d+)", it)])

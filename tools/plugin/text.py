@@ -1,0 +1,226 @@
+"""The text of a file: a message from its fields, or an enum, laid out as rt fmt has it."""
+from names import BELOW, FACADE, ordered, snake
+
+WIDTH = 100
+CALL_WIDTH = 60
+
+
+def uses(world, names, own):
+    """The use lines of names and of one's own types."""
+    by_module = {}
+    for name in names:
+        by_module.setdefault((FACADE if world.over == "buffa" else BELOW)[name], set()).add(name)
+    if "kept" in names and world.over != "buffa":
+        by_module["buffa_fields::kept"] |= {"self"}
+        by_module["buffa_fields::kept"].discard("kept")
+    for name in own:
+        by_module[f"crate::{world.module}::{snake(name)}"] = {name}
+    modules = sorted(by_module, key=lambda m: (not m.startswith("crate::"), [(1, p) for p in m.split("::")] + [(9, "")]))
+    made = []
+    for module in modules:
+        made += use_line(module, ["self"] * ("self" in by_module[module]) + ordered(by_module[module] - {"self"}))
+    return made
+
+
+def use_line(module, names):
+    if names == ["self"]:
+        return [f"use {module};"]
+    if len(names) == 1:
+        return [f"use {module}::{names[0]};"]
+    line = f"use {module}::{{{', '.join(names)}}};"
+    if len(line) < WIDTH - 1:
+        return [line]
+    made, row = [f"use {module}::{{"], "   "
+    for name in names:
+        if len(row) + len(name) + 2 >= WIDTH:
+            made.append(row)
+            row = "   "
+        row += f" {name},"
+    return made + [row, "};"]
+
+
+def called(indent, head, args, tail, limit=CALL_WIDTH):
+    """A call on one line, or with each argument on its own."""
+    line = f"{indent}{head}({', '.join(args)}){tail}"
+    if len(line) <= WIDTH and len(", ".join(args)) <= limit:
+        return [line]
+    return [f"{indent}{head}("] + [f"{indent}    {it}," for it in args] + [f"{indent}){tail}"]
+
+
+def meaning(parts, indent="    ", head="type Meaning = ", tail=";"):
+    """The pairs of what the members mean; the sixteenth has what follows it."""
+    if len(parts) == 1:
+        return [f"{indent}{head}{parts[0]}{tail}"]
+    name = "And" if len(parts) == 2 else f"And{min(len(parts), 16)}"
+    one = f"{indent}{head}{joined(parts)}{tail}"
+    if len(one) <= WIDTH:
+        return [one]
+    first, last = (parts, []) if len(parts) <= 16 else (parts[:15], parts[15:])
+    made = [f"{indent}{head}{name}<"] + [f"{indent}    {it}," for it in first]
+    return made + (meaning(last, indent + "    ", "", ",") if last else []) + [f"{indent}>{tail}"]
+
+
+def joined(parts):
+    if len(parts) == 1:
+        return parts[0]
+    if len(parts) > 16:
+        return f"And16<{', '.join(parts[:15])}, {joined(parts[15:])}>"
+    return f"And{len(parts) if len(parts) > 2 else ''}<{', '.join(parts)}>"
+
+
+def docs(lines, indent=""):
+    return [f"{indent}/// {it}".rstrip() for it in lines]
+
+
+def message_docs(message):
+    made = list(message.name.said) + ([""] if message.name.said else [])
+    made += [f"message {message.it.name} {{"] + [f"    {k.declared()}" for k in message.kinds]
+    made += [f"    {r};" for r in ranges(message)] + ["}"]
+    if message.left:
+        made += ["", "Left among the fields that aren't declared: " + ", ".join(f"{f.it.name} = {f.it.number}" for f in message.left) + "."]
+    return docs(made)
+
+
+def ranges(message):
+    ends = [(r.start, "max" if r.end > 536870911 else r.end - 1) for r in message.it.extension_range]
+    return [f"extensions {a}" if a == b else f"extensions {a} to {b}" for a, b in ends]
+
+
+def layout(kinds):
+    made = []
+    for kind in kinds:
+        shape = f"⟦<{kind.kind} as Member>⟧.shape"
+        word = "field_kept" if kind.keeps else "field"
+        made.append(f"{word} {kind.number} (λ m. m.{kind.in_contract}) {shape}")
+        if kind.keeps:
+            made.append(f"⟦<{kind.kind} as Keeping>⟧.aside")
+        made[-1] += " ("
+    made.append("keep (λ m. m.rest.records)" + ")" * len(kinds) + " };")
+    return ["    ghost layout = { " + made[0]] + ["        " + it for it in made[1:]]
+
+
+def visit_and_take(message):
+    made = ["    fn visit<V: Visitor>(&self, visitor: &mut V) {"]
+    for kind in message.kinds:
+        word = "visit_keeping" if kind.keeps else "visit"
+        made += called("        ", f"visitor.{word}::<{kind.kind}>", [str(kind.number), f"&self.{kind.name}"], ";")
+    made += ["        visitor.visit_kept(&self.rest);", "    }", "", "    fn take("]
+    made += [f"        {it}," for it in ("&mut self", "alloc: Global", "tag: Tag", "buf: &mut &[u8]", "ctx: DecodeContext<'_>")]
+    made += ["    ) -> Result<(), DecodeError> {"]
+    keep = "kept::keep(alloc, &mut self.rest, tag, buf, ctx)"
+    if not message.kinds:
+        return made + [f"        {keep}", "    }"]
+    made += ["        match tag.field_number() {"]
+    for kind in message.kinds:
+        beside = ["&mut self.rest"] if kind.keeps else []
+        call = f"{kind.kind.replace('<', '::<', 1)}::{'merge_kept' if kind.keeps else 'merge'}"
+        args = [f"&mut self.{kind.name}"] + beside + ["alloc", "tag", "buf", "ctx"]
+        made += called("            ", f"{kind.number} => {call}", args, ",")
+    return made + [f"            _ => {keep},", "        }", "    }"]
+
+
+def extension_set(message):
+    full = message.name.full
+    line = "    const PROTO_FQN: &'static str ="
+    line += f' "{full}";' if len(line) + len(full) + 4 <= WIDTH else f'\n        "{full}";'
+    return f"""
+impl ExtensionSet for {message.rust} {{
+{line}
+
+    ghost fqn = {{ codes "{full}" }};
+
+    ghost fields_of = {{ λ m. m.rest }};
+
+    ghost with_fields = {{ λ m w. record m {{ rest = w }} }};
+
+    fn extendee_name() -> &'static str {{
+        Self::PROTO_FQN
+    }}
+
+    fn unknown_fields(&self) -> &UnknownFields {{
+        &self.rest
+    }}
+
+    fn unknown_fields_mut(&mut self) -> &mut UnknownFields {{
+        &mut self.rest
+    }}
+
+    ghost fields_of_with = {{ λ m w. refl }};
+
+    ghost with_fields_of = {{ λ m. refl }};
+
+    ghost with_fields_twice = {{ λ m w u. refl }};
+}}""".split("\n")
+
+
+def head_of_message(world, message):
+    kinds = message.kinds
+    names = set("Fields Formed KeptFields Listed Listing Visitor kept Blank DecodeContext DecodeError Tag UnknownFields Global".split())
+    names = names.union(*[k.needs for k in kinds])
+    names |= {"Member"} if kinds else set()
+    if kinds:
+        names.add("And" if len(kinds) == 1 else f"And{min(len(kinds) + 1, 16)}")
+        over = len(kinds) + 1 - 15
+        while len(kinds) >= 16 and over > 1:
+            names.add("And" if over == 2 else f"And{min(over, 16)}")
+            over -= 15
+    has_set = bool(message.it.extension_range)
+    names |= {"ExtensionSet"} if has_set else set()
+    words = ["field"] * any(not k.keeps for k in kinds) + ["field_kept"] * any(k.keeps for k in kinds) + ["keep"]
+    own = {world.types[i] for k in kinds for i in k.inside}
+    made = [f"//! {message.name.full}, made of {message.name.file.name} by protoc-gen-buffa.", ""]
+    made += ["ghost use Rattle.std.proofs.Common.{lit<, refl};"]
+    made += ["ghost use Rattle.std.specs.Prelude.{codes};"] * has_set
+    made += [f"ghost use Rattle.{world.over}.specs.Members.{{{', '.join(words)}}};", ""]
+    return made + uses(world, names, own)
+
+
+def write_message(world, message, messages):
+    name, cost, kinds = message.rust, message.cost(messages), message.kinds
+    made = head_of_message(world, message) + [""] + message_docs(message) + ["#[derive(Drop)]", f"pub struct {name} {{"]
+    for kind in kinds:
+        made += docs(kind.field.said, "    ") + [f"    pub {kind.name}: {kind.rust},"]
+    made += ["    /// The fields that aren't declared, in order.", "    pub rest: UnknownFields,", "}", ""]
+    made += [f"impl Fields for {name} {{"] + meaning([k.means for k in kinds] + ["KeptFields"]) + [""]
+    made += [f"    const COST: usize = {cost};", "", f"    ghost COST = {{ {cost} }};", "", "    ghost positive = { lit< tt };", ""]
+    made += layout(kinds) + ["", "    ghost sound = { refl };", ""] + visit_and_take(message) + ["}", ""]
+    made += [f"impl Blank for {name} {{", f"    type Meaning = <{name} as Fields>::Meaning;", ""]
+    made += [f"    ghost {a} = {{ ⟦<{name} as Fields>⟧.layout.{b} }};\n" for a, b in (("meaning", "meaning"), ("blank_is", "blank"))]
+    made += [f"    fn blank(alloc: Global) -> {name} {{", f"        {name} {{"]
+    made += [f"            {k.name}: {k.blank}," for k in kinds] + ["            rest: UnknownFields::new(alloc),"]
+    made += ["        }", "    }", "}", "", f"impl Listing for {name} {{"]
+    made += ["    ghost means = { λ m. refl };", "", "    ghost starts = { refl };", "}", ""]
+    made += [f"impl Formed for {name} {{", "    type Form = Listed;", "}"]
+    return "\n".join(made + (extension_set(message) if message.it.extension_range else [])) + "\n"
+
+
+def integer(number):
+    """A number as contracts write it."""
+    return f"pos {number}" if number >= 0 else f"negsuc {-number - 1}"
+
+
+def write_enum(world, enum):
+    name, values = enum.rust, enum.values
+    numbers = {n for _, n, _ in values}
+    plain = ["None", "Some", "if◌then◌else◌"] + ["negsuc"] * any(n < 0 for n in numbers) + ["pos"] * any(n >= 0 for n in numbers)
+    variants = f"Rattle.{world.crate}.specs.declared.{world.module}.{snake(name)}.{name}.TheVariants.{{{', '.join(v for v, _, _ in values)}}}"
+    made = [f"//! {enum.name.full}, made of {enum.name.file.name} by protoc-gen-buffa.", ""]
+    made += [f"ghost use Rattle.std.specs.Prelude.{{{', '.join(plain)}, refl}};", "ghost use Rattle.std.specs.Ordering.{int_eq};", ""]
+    made += uses(world, {"Blank", "Enumeration", "Global"}, ()) + [""]
+    listing = [f"enum {enum.name.it.name} {{"] + [f"    {v.name} = {v.number};" for v in enum.name.it.value] + ["}"]
+    made += docs(enum.name.said + [""] * bool(enum.name.said) + listing)
+    made += ["#[derive(Clone, Copy, Debug, PartialEq, Eq)]", f"pub enum {name} {{"]
+    for variant, _, value in values:
+        made += docs(value.said, "    ") + [f"    {variant},"]
+    means = " | ".join(f"{v} ↦ {integer(n)}" for v, n, _ in values)
+    made += ["}", "", f"impl Blank for {name} {{", f"    ghost use {variants};", "", "    type Meaning = i32;", ""]
+    made += [f"    ghost meaning = {{ elim [ {means} ] }};", "", f"    ghost blank_is = {{ {integer(values[0][1])} }};", ""]
+    made += [f"    fn blank(_alloc: Global) -> {name} {{", f"        {name}::{values[0][0]}", "    }", "}", ""]
+    tests = " else ".join(f"if int_eq n ({integer(n)}) then Some {v}" for v, n, _ in values)
+    made += [f"impl Enumeration for {name} {{", f"    ghost use {variants};", "", f"    ghost of_number = {{ λ n. {tests} else None }};", ""]
+    made += [f"    fn from_i32(number: i32) -> Option<{name}> {{", "        match number {"]
+    made += [f"            {n} => Some({name}::{v})," for v, n, _ in values] + ["            _ => None,", "        }", "    }", ""]
+    made += ["    fn to_i32(&self) -> i32 {", "        match self {"] + [f"            {name}::{v} => {n}," for v, n, _ in values]
+    stays = " | ".join(f"{v} ↦ refl" for v, _, _ in values)
+    made += ["        }", "    }", "", f"    ghost stays = {{ elim [ {stays} ] }};", "", "    ghost blank_declared = { refl };", "}"]
+    return "\n".join(made) + "\n"
