@@ -20,7 +20,6 @@ ghost use Rattle.buffa_fields.specs.KeptNumbers.{IsAsideNumber, KeptNumberTakesM
 ghost use Rattle.buffa_wire.specs.Parse.{IsPayload, fields_inside};
 ghost use Rattle.buffa_wire.specs.RecordReading.{RecordTakesMemory, field_at};
 ghost use Rattle.buffa_wire.specs.Records.{Datum, height};
-
 ghost use Rattle.buffa_bytes.specs.Front.{check_wire};
 ghost use Rattle.buffa_bytes.specs.declared.error.DecodeError.TheVariants.{UnknownFieldLimitExceeded};
 ghost use Rattle.buffa_wire.specs.Encoding.{wire_of};
