@@ -31,7 +31,7 @@ pub trait Blank: Drop {
     /// The default. It takes no memory.
     ///
     /// ```ignore
-    /// let value = M::blank(alloc);
+    /// let text = String::blank(alloc); // ""
     /// ```
     fn blank(alloc: Global) -> Self
         ensures { meaning result ≡ blank_is };

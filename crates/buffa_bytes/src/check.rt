@@ -14,7 +14,7 @@ use crate::wire_type::WireType;
 /// memory.
 ///
 /// ```ignore
-/// check_wire_type(tag, WireType::Varint)?;
+/// check_wire_type(tag, WireType::Varint)?; // of another: DecodeError::WireTypeMismatch
 /// ```
 pub fn check_wire_type(tag: Tag, expected: WireType) -> Result<(), DecodeError>
     ensures { Gives (λ _. tt) result (check_wire tag.number expected tag.wire_type) }

@@ -44,7 +44,7 @@ impl Error for MessageSetFault {}
 /// wire types as their numbers: `WireTypeMismatch 1 2 0`.
 ///
 /// ```ignore
-/// return Err(DecodeError::UnexpectedEof);
+/// let is_cut = decode_varint(&mut rest) == Err(DecodeError::UnexpectedEof); // of 96
 /// ```
 #[derive(Clone, Copy, Debug, PartialEq, Eq)]
 pub enum DecodeError {

@@ -16,8 +16,7 @@ use std::alloc::Global;
 /// pattern.
 ///
 /// ```ignore
-/// let value = <String as ProtoString>::from_wire(alloc, bytes)?;
-/// let text = T::as_str(value);
+/// impl ProtoString for Word { .. }
 /// ```
 pub trait ProtoString: Blank {
     /// The text of a meaning, as bytes.
@@ -32,7 +31,7 @@ pub trait ProtoString: Blank {
     /// [`DecodeError::InvalidUtf8`] exactly where they are not, and [`DecodeError::OutOfMemory`].
     ///
     /// ```ignore
-    /// let word = <String as ProtoString>::from_wire(alloc, bytes)?;
+    /// let word = <String as ProtoString>::from_wire(alloc, b"ok")?; // "ok"
     /// ```
     fn from_wire(alloc: Global, bytes: &[u8]) -> Result<Self, DecodeError>
         ensures reads { GivesUnlessFull Self.meaning result (text_as of_text bytes.now) }
@@ -42,7 +41,7 @@ pub trait ProtoString: Blank {
     /// The text of the value.
     ///
     /// ```ignore
-    /// let text = T::as_str(value);
+    /// let text = ProtoString::as_str(&word); // "ok"
     /// ```
     fn as_str(&self) -> &str
         ensures { result.now ≡ text (Self.meaning self.now) };
@@ -63,8 +62,8 @@ pub trait ProtoString: Blank {
 /// A type that holds a bytes field: each value has bytes, and any bytes are those of a value.
 ///
 /// ```ignore
-/// let value = P::from_wire(alloc, part)?;
-/// let bytes = T::as_bytes(value);
+/// let held = <Vec<u8> as ProtoBytes>::from_wire(alloc, &[0xFF])?; // FF
+/// let bytes = ProtoBytes::as_bytes(&held);
 /// ```
 pub trait ProtoBytes: Blank {
     /// The bytes of a meaning.
@@ -79,7 +78,7 @@ pub trait ProtoBytes: Blank {
     /// [`DecodeError::OutOfMemory`] alone.
     ///
     /// ```ignore
-    /// let dead = P::from_wire(alloc, part)?;
+    /// let held = <Vec<u8> as ProtoBytes>::from_wire(alloc, &[0xFF])?; // FF
     /// ```
     fn from_wire(alloc: Global, source: &[u8]) -> Result<Self, DecodeError>
         ensures reads { MatchResult result (λ value. Self.meaning value ≡ of_bytes source.now)
@@ -89,7 +88,7 @@ pub trait ProtoBytes: Blank {
     /// The bytes of the value.
     ///
     /// ```ignore
-    /// let bytes = T::as_bytes(value);
+    /// let bytes = ProtoBytes::as_bytes(&held); // FF
     /// ```
     fn as_bytes(&self) -> &[u8]
         ensures { result.now ≡ bytes (Self.meaning self.now) };

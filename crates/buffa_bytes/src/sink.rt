@@ -25,7 +25,7 @@ pub trait EncodeSink {
     /// of it.
     ///
     /// ```ignore
-    /// sink.put_slice(value)?;
+    /// sink.put_slice(&[7])?; // 07
     /// ```
     fn put_slice(&mut self, b: &[u8]) -> Result<(), EncodeError>
         ensures writes { Writes result (written self.old) b.now (written self.new) }

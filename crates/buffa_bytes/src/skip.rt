@@ -38,8 +38,8 @@ fn skip_bytes<B: Buf>(buf: &mut B, n: u64) -> Result<(), DecodeError>
 /// Source: the protobuf encoding guide, "Message Structure" and "Groups".
 ///
 /// ```ignore
-/// let tag = Tag::decode(buf)?;
-/// skip_field_depth(tag, buf, depth)?;
+/// let tag = Tag::decode(&mut rest)?;
+/// skip_field_depth(tag, &mut rest, depth)?; // `rest` is behind the field
 /// ```
 #[cycle(skip)]
 #[tactic(auto, using(crate::proofs::TailLemmas::tail_whole, crate::proofs::TailLemmas::tail_more))]

@@ -104,7 +104,7 @@ fn decode_digits<B: Buf>(buf: &mut B) -> Result<u64, DecodeError>
 /// [`EncodeError::OutOfMemory`] alone, after a beginning of the spelling.
 ///
 /// ```ignore
-/// encode_varint(number, sink)?; // 96 01 for 150
+/// encode_varint(300, &mut sink)?; // AC 02
 /// ```
 #[tactic(auto, using(crate::proofs::ShortestLemmas::v_laws))]
 pub fn encode_varint<S: EncodeSink>(n: u64, sink: &mut S) -> Result<(), EncodeError>
@@ -122,7 +122,7 @@ pub fn encode_varint<S: EncodeSink>(n: u64, sink: &mut S) -> Result<(), EncodeEr
 /// The length of the shortest spelling of a number, 1 to 10 bytes.
 ///
 /// ```ignore
-/// let len = varint_len(number); // 2 for 150
+/// let len = varint_len(300); // 2
 /// ```
 pub fn varint_len(n: u64) -> usize
     ensures { result ≡ length (varint_encoding n) }

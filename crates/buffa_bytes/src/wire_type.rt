@@ -30,7 +30,7 @@ impl WireType {
     /// The number in a tag, 0 to 5.
     ///
     /// ```ignore
-    /// let number = expected.number(); // 5 for WireType::Fixed32
+    /// let number = WireType::Fixed32.number(); // 5
     /// ```
     pub fn number(self) -> u32
         ensures { result ≡ wire_number self }

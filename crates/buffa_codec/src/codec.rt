@@ -101,7 +101,7 @@ pub trait ExtensionCodec {
     /// room is lost.
     ///
     /// ```ignore
-    /// C::try_encode(alloc, number, value, &mut staged)?;
+    /// <Int32 as ExtensionCodec>::try_encode(alloc, 1, 5, &mut fields)?; // 08 05
     /// ```
     fn try_encode(
         alloc: Global,
@@ -149,8 +149,8 @@ pub trait ExtensionCodec {
 /// How one record is read as a value, and a value is written as one record.
 ///
 /// ```ignore
-/// let payload = C::encode_one(alloc, &value)?;
-/// let value = C::decode_one(alloc, &field.payload)?;
+/// let payload = <Int32 as SingularCodec>::encode_one(alloc, &5)?; // UnknownFieldData::Varint(5)
+/// let value = <Int32 as SingularCodec>::decode_one(alloc, &payload)?; // Some(5)
 /// ```
 pub trait SingularCodec {
     /// The Rust type of the values.
@@ -205,7 +205,7 @@ pub trait SingularCodec {
     /// Where memory runs out; never at a record that is of no use to the codec.
     ///
     /// ```ignore
-    /// let value = C::decode_one(alloc, &field.payload)?;
+    /// let value = <Int32 as SingularCodec>::decode_one(alloc, &payload)?; // of UnknownFieldData::Varint(5): Some(5)
     /// ```
     fn decode_one(
         alloc: Global,
@@ -222,7 +222,7 @@ pub trait SingularCodec {
     /// and is no more than the record may cost.
     ///
     /// ```ignore
-    /// let value = C::decode_one_ctx(alloc, payload, ctx)?;
+    /// let value = <Int32 as SingularCodec>::decode_one_ctx(alloc, &payload, ctx)?;
     /// ```
     fn decode_one_ctx(
         alloc: Global,
@@ -244,7 +244,7 @@ pub trait SingularCodec {
     /// values stands then, and not all.
     ///
     /// ```ignore
-    /// C::decode_packed(bytes.as_slice(), out)?;
+    /// <Int32 as SingularCodec>::decode_packed(&bytes, &mut out)?; // of AC 02: 300
     /// ```
     fn decode_packed(bytes: &[u8], out: &mut Vec<Self::Value>) -> Result<(), AllocError>
         ensures ok { OnOk result (AddsValues Self.Value.meaning out.old.items (packed bytes.now) out.new.items) }
@@ -260,7 +260,7 @@ pub trait SingularCodec {
     /// What is wrong with the value, or out of memory.
     ///
     /// ```ignore
-    /// let payload = C::try_encode_one(alloc, &value)?;
+    /// let payload = <Int32 as SingularCodec>::try_encode_one(alloc, &5)?; // UnknownFieldData::Varint(5)
     /// ```
     fn try_encode_one(alloc: Global, value: &Self::Value) -> Result<UnknownFieldData, EncodeError>
         ensures record { IfOk result (λ d. datum_of d ≡ datum (Self.Value.meaning value.now)) }
@@ -275,7 +275,7 @@ pub trait SingularCodec {
     /// Those of [`SingularCodec::try_encode_one`].
     ///
     /// ```ignore
-    /// let payload = C::encode_one(alloc, &value)?;
+    /// let payload = <Int32 as SingularCodec>::encode_one(alloc, &5)?; // UnknownFieldData::Varint(5)
     /// ```
     fn encode_one(alloc: Global, value: &Self::Value) -> Result<UnknownFieldData, EncodeError>
         ensures record { IfOk result (λ d. datum_of d ≡ datum (Self.Value.meaning value.now)) }
@@ -302,7 +302,7 @@ pub trait SingularCodec {
 /// How values are packed into the bytes of one record.
 ///
 /// ```ignore
-/// C::encode_packed(&value, &mut bytes)?; // AC 02 for 300, where C is Int32
+/// <Int32 as PackableCodec>::encode_packed(&300, &mut bytes)?; // AC 02
 /// ```
 pub trait PackableCodec: SingularCodec {
     /// The bytes of a value.
@@ -314,7 +314,7 @@ pub trait PackableCodec: SingularCodec {
     /// [`EncodeError::OutOfMemory`] alone, where they don't fit in the vector's room; nothing is changed then.
     ///
     /// ```ignore
-    /// C::encode_packed(&value, &mut bytes)?;
+    /// <Int32 as PackableCodec>::encode_packed(&300, &mut bytes)?; // AC 02
     /// ```
     fn encode_packed(value: &Self::Value, buf: &mut Vec<u8>) -> Result<(), EncodeError>
         ensures ok { OnOk result (buf.new.items ≡ buf.old.items ++ packed_encoding (Self.Value.meaning value.now)) }

@@ -15,7 +15,7 @@ use std::alloc::{AllocError, Global};
 /// A type of values that are written as one number each. Every [`Scalar`] is one.
 ///
 /// ```ignore
-/// let number = N::number_of(value); // 18446744073709551615 for -1, where N is Int32
+/// impl Numbered for PriceCodec { .. }
 /// ```
 pub trait Numbered {
     /// The Rust type of the values.
@@ -47,7 +47,7 @@ pub trait Numbered {
     /// The value that a number means. It takes no memory.
     ///
     /// ```ignore
-    /// let value = N::value_of(n); // -1 for 18446744073709551615, where N is Int32
+    /// fn value_of(n: u64) -> Price { .. } // in the impl for PriceCodec
     /// ```
     fn value_of(n: u64) -> Self::Value
         requires { Self.Form.spells n }
@@ -56,7 +56,7 @@ pub trait Numbered {
     /// The number of a value. It takes no memory.
     ///
     /// ```ignore
-    /// let number = N::number_of(value);
+    /// fn number_of(value: &Price) -> u64 { .. } // in the impl for PriceCodec
     /// ```
     fn number_of(value: &Self::Value) -> u64
         ensures number { result ≡ number_of (Self.Value.meaning value.now) }

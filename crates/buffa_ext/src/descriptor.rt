@@ -10,7 +10,7 @@ use std::marker::PhantomData;
 /// A default that a descriptor may declare: [`NoDefault`], or [`Make`].
 ///
 /// ```ignore
-/// let default = ext.declared(alloc)?;
+/// let default = ext.declared(alloc)?; // None, where none is declared
 /// ```
 pub trait Declared<V> {
     /// Where the default may be asked for.
@@ -39,7 +39,7 @@ pub trait Declared<V> {
 /// No default is declared.
 ///
 /// ```ignore
-/// let ext = Extension::<C, NoDefault>::new(number, "test.Carrier");
+/// let ext: Extension<Int32, NoDefault> = Extension::<Int32>::new(7, "test.Carrier");
 /// ```
 #[derive(Clone, Copy)]
 pub struct NoDefault;
@@ -59,7 +59,7 @@ impl<V> Declared<V> for NoDefault {
 /// A default that a function makes anew each time. [`Extension::with_default`] declares it.
 ///
 /// ```ignore
-/// let declares = Extension::<C>::with_default(number, "test.Carrier", |_alloc: Global| { .. });
+/// let ext: Extension<Int32, Make<F>> = Extension::<Int32>::with_default(7, "test.Carrier", default);
 /// ```
 pub struct Make<F> {
     make: F,
@@ -142,7 +142,7 @@ impl<C: ExtensionCodec> Extension<C> {
     /// An extension with a default, which `default` makes each time. It takes no memory here.
     ///
     /// ```ignore
-    /// let declares = Extension::<C>::with_default(number, "test.Carrier", |_alloc: Global| { .. });
+    /// let ext = Extension::<Int32>::with_default(7, "test.Carrier", default); // default: |_alloc: Global| .. { Ok(255) }
     /// ```
     pub fn with_default<F: Fn(Global) -> Result<C::Value, AllocError> + Copy>(
         number: u32,

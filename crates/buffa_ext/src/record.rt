@@ -21,7 +21,8 @@ use std::alloc::Global;
 /// How records of one kind hold the encodings of messages.
 ///
 /// ```ignore
-/// let found = merge_number::<K, M>(alloc, number, &fields, &mut budget, &mut message)?;
+/// pub type MessageCodec<M> = MessageIn<Delimited, M>;
+/// pub type GroupCodec<M> = MessageIn<Grouped, M>;
 /// ```
 pub trait MessageRecord {
     /// The encoding in a record of this kind.
@@ -43,10 +44,6 @@ pub trait MessageRecord {
     ///
     /// # Errors
     /// Those of [`Message::merge`], where there is one; out of memory only where merging it may take some.
-    ///
-    /// ```ignore
-    /// let merged = K::merge_in(alloc, payload, &mut message, lent);
-    /// ```
     fn merge_in<M: Message>(
         alloc: Global,
         payload: &UnknownFieldData,
@@ -63,10 +60,6 @@ pub trait MessageRecord {
     /// # Errors
     /// Why no record holds it; or out of memory, but never for an encoding of no bytes, nor where holding takes
     /// none.
-    ///
-    /// ```ignore
-    /// let payload = K::hold(alloc, encoding)?;
-    /// ```
     fn hold(alloc: Global, encoding: Vec<u8>) -> Result<UnknownFieldData, EncodeError>
         ensures record { IfOk result (λ d. datum_of d ≡ holder encoding.items) }
         ensures refused { Refuses result (refusal encoding.items) }

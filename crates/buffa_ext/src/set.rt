@@ -47,7 +47,7 @@ pub trait ExtensionSet {
     /// [`ExtensionSet::PROTO_FQN`].
     ///
     /// ```ignore
-    /// let name = Self::extendee_name(); // "test.Carrier"
+    /// fn extendee_name() -> &'static str { Self::PROTO_FQN }
     /// ```
     fn extendee_name() -> &'static str
         ensures { result.now ≡ fqn };
@@ -55,7 +55,7 @@ pub trait ExtensionSet {
     /// The unknown fields.
     ///
     /// ```ignore
-    /// let fields = self.unknown_fields();
+    /// fn unknown_fields(&self) -> &UnknownFields { &self.fields }
     /// ```
     fn unknown_fields(&self) -> &UnknownFields
         ensures { result.now ≡ fields_of self.now };
@@ -63,7 +63,7 @@ pub trait ExtensionSet {
     /// The unknown fields, to be changed; the rest of the message stays.
     ///
     /// ```ignore
-    /// let fields = self.unknown_fields_mut();
+    /// fn unknown_fields_mut(&mut self) -> &mut UnknownFields { &mut self.fields }
     /// ```
     fn unknown_fields_mut(&mut self) -> &mut UnknownFields
         ensures* lends { sem 𝓛 (Lends Self.row fields_row self.entry result (λ w. with_fields self.old w)) }

@@ -8,10 +8,6 @@ use buffa_wire::{UnknownField, UnknownFields};
 use std::alloc::AllocError;
 
 /// Whether a record of the number is there.
-///
-/// ```ignore
-/// let is_there = has_number(self.unknown_fields(), ext.number());
-/// ```
 pub fn has_number(fields: &UnknownFields, number: u32) -> bool
     ensures { IsTrue result ↔ (sub number fields.now.records ≢ []) }
 {
@@ -24,10 +20,6 @@ pub fn has_number(fields: &UnknownFields, number: u32) -> bool
 }
 
 /// Takes the records of the number out. It takes no memory.
-///
-/// ```ignore
-/// remove(self.unknown_fields_mut(), number);
-/// ```
 pub fn remove(fields: &mut UnknownFields, number: u32)
     ensures records { fields.new.records ≡ without number fields.old.records }
     ensures room { fields.old.spare ≤ fields.new.spare }
@@ -44,10 +36,6 @@ pub fn remove(fields: &mut UnknownFields, number: u32)
 ///
 /// # Errors
 /// Where memory runs out; nothing is changed then.
-///
-/// ```ignore
-/// replace(fields, number, list)?;
-/// ```
 pub fn replace(
     fields: &mut UnknownFields,
     number: u32,

@@ -15,7 +15,7 @@ use std::alloc::{AllocError, Global};
 /// One after the other, such steps are taken by [`replay`].
 ///
 /// ```ignore
-/// let step = Step::Clear { number };
+/// let steps = vec![in alloc; Step::Set { number: 7, records }, Step::Clear { number: 9 }]?;
 /// ```
 #[derive(Debug, PartialEq, Eq, Drop)]
 pub enum Step {
@@ -36,7 +36,7 @@ pub enum Step {
 /// Why a replay ended early: memory ran out.
 ///
 /// ```ignore
-/// let fault = ReplayFault { done };
+/// Err(ReplayFault { done }) => .. // the first `done` steps are taken
 /// ```
 #[derive(Clone, Copy, Debug, PartialEq, Eq)]
 pub struct ReplayFault {
@@ -84,7 +84,7 @@ fn replay_one(alloc: Global, fields: &mut UnknownFields, step: Step) -> Result<(
 /// room is taken than the steps that stand put records in.
 ///
 /// ```ignore
-/// let answer = replay(alloc, &mut fields, steps);
+/// replay(alloc, &mut fields, steps)?;
 /// ```
 pub fn replay(
     alloc: Global,

@@ -44,7 +44,7 @@ pub trait Fields: Drop {
     /// Visits each member.
     ///
     /// ```ignore
-    /// message.visit(sizer);
+    /// visitor.visit::<Plain<Int32>>(1, &self.total);
     /// ```
     fn visit<V: Visitor>(&self, visitor: &mut V)
         requires { V.Waits (layout.slots (layout.meaning self.now)) visitor.old }
@@ -57,7 +57,7 @@ pub trait Fields: Drop {
     /// The member's own. Of a field that isn't declared, that of keeping it, or of passing over it.
     ///
     /// ```ignore
-    /// let answer = message.take(alloc, tag, &mut rest, lent);
+    /// 1 => Plain::<Int32>::merge(&mut self.total, alloc, tag, buf, ctx),
     /// ```
     fn take(
         &mut self,

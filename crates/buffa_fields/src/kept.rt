@@ -81,7 +81,7 @@ pub fn read_alone(
 /// Those of [`decode_unknown_field`].
 ///
 /// ```ignore
-/// let answer = kept::keep(alloc, &mut self.rest, tag, buf, ctx);
+/// _ => kept::keep(alloc, &mut self.rest, tag, buf, ctx),
 /// ```
 #[tactic(auto, unfolding(crate::specs::Layout::IsFieldKept))]
 pub fn keep(
@@ -115,7 +115,7 @@ pub(crate) fn kept_len(fields: &UnknownFields) -> u32
 /// Those of [`skip_field_depth`].
 ///
 /// ```ignore
-/// let answer = kept::pass(tag, buf, ctx);
+/// _ => kept::pass(tag, buf, ctx),
 /// ```
 #[tactic(auto, unfolding(crate::specs::Layout::Passed))]
 pub fn pass(tag: Tag, buf: &mut &[u8], ctx: DecodeContext<'_>) -> Result<(), DecodeError>

@@ -20,10 +20,6 @@ pub trait Kind: MapCodec {
     ghost is_blank: { Self.Value.Meaning → Bool };
 
     /// Whether a value is the default, which isn't written where nothing says that it is there.
-    ///
-    /// ```ignore
-    /// let is_left_out = C::is_blank(part);
-    /// ```
     fn is_blank(value: &Self::Value) -> bool
         ensures { result ≡ is_blank (Self.Value.meaning value.now) };
 

@@ -38,10 +38,6 @@ pub trait Member {
     ///
     /// # Errors
     /// [`EncodeError::OutOfMemory`] alone, never for a value with no slots.
-    ///
-    /// ```ignore
-    /// let len = M::len(number, part, self.cache);
-    /// ```
     fn len(number: u32, part: &Self::Part, cache: &mut SizeCache) -> Result<u32, EncodeError>
         requires { IsNumber number }
         ensures sized { IsSized (records_encoding (shape.records number (shape.meaning part.now)))
@@ -52,10 +48,6 @@ pub trait Member {
     ///
     /// # Errors
     /// [`EncodeError::OutOfMemory`] alone.
-    ///
-    /// ```ignore
-    /// let answer = M::write_to(number, part, self.cache, self.sink);
-    /// ```
     fn write_to<S: EncodeSink>(
         number: u32,
         part: &Self::Part,
@@ -75,7 +67,7 @@ pub trait Member {
     /// was, and the field unread; and [`DecodeError::OutOfMemory`] only where the member may ask for memory.
     ///
     /// ```ignore
-    /// let answer = Plain::<Int32>::merge(&mut self.total, alloc, tag, buf, ctx);
+    /// 1 => Plain::<Int32>::merge(&mut self.total, alloc, tag, buf, ctx),
     /// ```
     fn merge(
         part: &mut Self::Part,

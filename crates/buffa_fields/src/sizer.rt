@@ -10,11 +10,6 @@ use crate::visitor::Visitor;
 use buffa_wire::{EncodeError, SizeCache, UnknownFields};
 
 /// Adds lengths, up to 2^32 - 1, and puts those of messages into a cache that is lent, until memory runs out.
-///
-/// ```ignore
-/// let mut sizer = Sizer::new(cache);
-/// let size = sizer.finish();
-/// ```
 #[derive(Drop)]
 pub struct Sizer<'a> {
     cache: &'a mut SizeCache,
@@ -23,10 +18,6 @@ pub struct Sizer<'a> {
 
 impl<'a> Sizer<'a> {
     /// Lends a cache.
-    ///
-    /// ```ignore
-    /// let mut sizer = Sizer::new(cache);
-    /// ```
     #[inline(always)]
     pub fn new(cache: &'a mut SizeCache) -> Sizer<'a>
         ensures same_reference { result.cache.ghost_name ≡ cache.entry.ghost_name }
@@ -45,10 +36,6 @@ impl Sizer<'_> {
     ///
     /// # Errors
     /// [`EncodeError::OutOfMemory`] alone.
-    ///
-    /// ```ignore
-    /// let size = sizer.finish();
-    /// ```
     #[inline(always)]
     pub fn finish(self) -> Result<u32, EncodeError>
         ensures result { result ≡ self.entry.total }

@@ -9,11 +9,6 @@ use crate::visitor::Visitor;
 use buffa_wire::{EncodeError, EncodeSink, SizeCache, UnknownFields};
 
 /// Writes into a sink that is lent, by the sizes in a cache that is lent, until memory runs out.
-///
-/// ```ignore
-/// let mut writer = Writer::new(sink, cache);
-/// let answer = writer.finish();
-/// ```
 #[derive(Drop)]
 pub struct Writer<'a, S> {
     sink: &'a mut S,
@@ -23,10 +18,6 @@ pub struct Writer<'a, S> {
 
 impl<'a, S: EncodeSink> Writer<'a, S> {
     /// Lends a sink and a cache.
-    ///
-    /// ```ignore
-    /// let mut writer = Writer::new(sink, cache);
-    /// ```
     #[inline(always)]
     pub fn new(sink: &'a mut S, cache: &'a mut SizeCache) -> Writer<'a, S>
         ensures same_sink { result.sink.ghost_name ≡ sink.entry.ghost_name }
@@ -48,10 +39,6 @@ impl<S: EncodeSink> Writer<'_, S> {
     ///
     /// # Errors
     /// [`EncodeError::OutOfMemory`] alone.
-    ///
-    /// ```ignore
-    /// let answer = writer.finish();
-    /// ```
     #[inline(always)]
     pub fn finish(self) -> Result<(), EncodeError>
         ensures result { result ≡ self.entry.result }

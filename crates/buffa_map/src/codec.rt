@@ -25,7 +25,7 @@ pub(crate) mod sealed {
 /// Whether a payload held a declared value.
 ///
 /// ```ignore
-/// let status = Ok(MapValueDecodeStatus::Known);
+/// assert!(rt; status == MapValueDecodeStatus::Known);
 /// ```
 #[derive(Clone, Copy, Debug, PartialEq, Eq)]
 #[non_exhaustive]
@@ -39,8 +39,7 @@ pub enum MapValueDecodeStatus {
 /// How the payloads of one proto type are read.
 ///
 /// ```ignore
-/// let mut value = V::blank(alloc);
-/// let status = C::merge(alloc, &mut value, buf, lent)?;
+/// let status = <ClosedEnum<Old> as MapValueDecode>::merge(alloc, &mut value, &mut rest, ctx)?;
 /// ```
 pub trait MapValueDecode: sealed::Sealed {
     /// The Rust type of the values.
@@ -53,21 +52,21 @@ pub trait MapValueDecode: sealed::Sealed {
     /// The wire type of the payloads.
     ///
     /// ```ignore
-    /// check_wire_type(tag, KC::WIRE_TYPE)?;
+    /// assert!(rt; <ClosedEnum<Old> as MapValueDecode>::WIRE_TYPE == WireType::Varint);
     /// ```
     const WIRE_TYPE: WireType;
 
     /// Whether a payload may hold a value that is undeclared: of closed enums alone.
     ///
     /// ```ignore
-    /// const MAY_RETURN_UNKNOWN: bool = false;
+    /// assert!(rt; <ClosedEnum<Old> as MapValueDecode>::MAY_RETURN_UNKNOWN);
     /// ```
     const MAY_RETURN_UNKNOWN: bool;
 
     /// The units of element memory that a value costs, besides what is inside a message.
     ///
     /// ```ignore
-    /// charge(&mut *budget, KC::COST, W::COST)?;
+    /// assert!(rt; <Int32 as MapValueDecode>::COST > 0);
     /// ```
     const COST: usize;
 
@@ -92,7 +91,7 @@ pub trait MapValueDecode: sealed::Sealed {
     /// that cost is spent then, and the value is some value of its type.
     ///
     /// ```ignore
-    /// let status = C::merge(alloc, &mut value, buf, lent)?;
+    /// let status = <ClosedEnum<Old> as MapValueDecode>::merge(alloc, &mut value, &mut rest, ctx)?;
     /// ```
     fn merge<B: Buf>(
         alloc: Global,
@@ -145,14 +144,14 @@ pub trait MapValueDecode: sealed::Sealed {
 /// How the payloads of one proto type are read and written.
 ///
 /// ```ignore
-/// let len = C::encoded_len(value);
-/// C::encode(value, sink)?; // 07 for 7, where C is Int32
+/// let len = <Int32 as MapCodec>::encoded_len(&300); // 2
+/// <Int32 as MapCodec>::encode(&300, &mut sink)?; // AC 02
 /// ```
 pub trait MapCodec: MapValueDecode {
     /// The length of every encoding in bytes, where they have one length.
     ///
     /// ```ignore
-    /// const FIXED_LEN: Option<u64> = N::LEN;
+    /// assert!(rt; <Int32 as MapCodec>::FIXED_LEN == None);
     /// ```
     const FIXED_LEN: Option<u64>;
 
@@ -171,7 +170,7 @@ pub trait MapCodec: MapValueDecode {
     /// memory.
     ///
     /// ```ignore
-    /// let len = C::encoded_len(value);
+    /// let len = <Int32 as MapCodec>::encoded_len(&300); // 2
     /// ```
     fn encoded_len(value: &Self::Value) -> u64
         ensures len { result ≡ length (writing.encoding (Self.Value.meaning value.now)) }
@@ -183,7 +182,7 @@ pub trait MapCodec: MapValueDecode {
     /// [`EncodeError::OutOfMemory`] alone, where the encoding doesn't fit for sure; after a beginning of it.
     ///
     /// ```ignore
-    /// C::encode(value, sink)?;
+    /// <Int32 as MapCodec>::encode(&300, &mut sink)?; // AC 02
     /// ```
     fn encode<S: EncodeSink>(value: &Self::Value, sink: &mut S) -> Result<(), EncodeError>
         ensures writes { Writes result (S.written sink.old) (writing.encoding (Self.Value.meaning value.now))

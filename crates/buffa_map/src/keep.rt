@@ -11,16 +11,8 @@ use std::alloc::Global;
 
 /// What becomes of an entry whose value a closed enum doesn't declare: it is kept whole, in a list of unknown fields,
 /// or dropped.
-///
-/// ```ignore
-/// read_run_by::<KC, VC, C, B, Dropped>(alloc, map, number, buf, ctx, &mut Dropped)
-/// ```
 pub trait Keeper {
     /// Whether it keeps such entries.
-    ///
-    /// ```ignore
-    /// if L::KEEPS && W::MAY_RETURN_UNKNOWN { .. }
-    /// ```
     const KEEPS: bool;
 
     ghost KEEPS: { Bool };
@@ -42,10 +34,6 @@ pub trait Keeper {
     /// # Errors
     /// Only where it keeps some: [`DecodeError::UnknownFieldLimitExceeded`] where no unknown field is left, or
     /// [`DecodeError::OutOfMemory`]. The records stay as they were.
-    ///
-    /// ```ignore
-    /// return keeper.keep(alloc, number, entry, budget);
-    /// ```
     fn keep(
         &mut self,
         alloc: Global,
@@ -71,10 +59,6 @@ pub trait Keeper {
 }
 
 /// Entries are dropped, and take none of the unknown fields left.
-///
-/// ```ignore
-/// read_run_by::<KC, VC, C, B, Dropped>(alloc, map, number, buf, ctx, &mut Dropped)
-/// ```
 #[derive(Drop)]
 pub struct Dropped;
 

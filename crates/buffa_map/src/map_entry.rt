@@ -1,10 +1,6 @@
 //! The parts of an entry, as they are read.
 
 /// What the fields of an entry have said: the key, the value, and whether the value is a declared one.
-///
-/// ```ignore
-/// let mut parts = MapEntry { .. };
-/// ```
 #[derive(Drop)]
 pub struct MapEntry<K, V> {
     /// The key of the last key field, or the default.

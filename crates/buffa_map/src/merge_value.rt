@@ -20,38 +20,17 @@ use std::alloc::Global;
 use std::marker::PhantomData;
 
 /// How the value of an entry is merged: [`ByCodec`], or [`ByFunction`] for messages whose type holds itself.
-///
-/// ```ignore
-/// let how = ByCodec::<VC>::new();
-/// let status = how.merge(alloc, &mut parts.value, buf, ctx)?;
-/// ```
 pub trait MergeValue {
     /// The Rust type of the values.
-    ///
-    /// ```ignore
-    /// type Value = VC::Value;
-    /// ```
     type Value: Blank;
 
     /// The wire type of the payloads.
-    ///
-    /// ```ignore
-    /// check_wire_type(tag, W::WIRE_TYPE)?;
-    /// ```
     const WIRE_TYPE: WireType;
 
     /// Whether a payload may hold a value that a closed enum doesn't declare.
-    ///
-    /// ```ignore
-    /// if L::KEEPS && W::MAY_RETURN_UNKNOWN { .. }
-    /// ```
     const MAY_RETURN_UNKNOWN: bool;
 
     /// The units of element memory that a value costs, besides what is inside a message.
-    ///
-    /// ```ignore
-    /// charge(&mut *budget, KC::COST, W::COST)?;
-    /// ```
     const COST: usize;
 
     ghost WIRE_TYPE: { WireType };
@@ -71,10 +50,6 @@ pub trait MergeValue {
     /// # Errors
     /// Those of [`MapValueDecode::merge`]. Of a message's payload any fault may be told, a limit's only where its cost
     /// isn't left.
-    ///
-    /// ```ignore
-    /// let status = how.merge(alloc, &mut parts.value, buf, ctx)?;
-    /// ```
     fn merge<B: Buf>(
         &self,
         alloc: Global,
@@ -111,10 +86,6 @@ pub trait MergeValue {
 }
 
 /// The merge by a codec: [`MapValueDecode::merge`].
-///
-/// ```ignore
-/// let how = ByCodec::<VC>::new();
-/// ```
 #[derive(Drop)]
 pub struct ByCodec<VC> {
     of: PhantomData<VC>,
@@ -122,10 +93,6 @@ pub struct ByCodec<VC> {
 
 impl<VC> ByCodec<VC> {
     /// The merge by the codec `VC`. It takes no memory.
-    ///
-    /// ```ignore
-    /// let how = ByCodec::<VC>::new();
-    /// ```
     pub fn new() -> ByCodec<VC> {
         ByCodec { of: PhantomData }
     }
@@ -173,10 +140,6 @@ impl<VC: MapValueDecode> MergeValue for ByCodec<VC> {
 
 /// The merge by a function: it is passed the message, its bytes, the depth inside it, one less than the context's, and
 /// the budget.
-///
-/// ```ignore
-/// let how = ByFunction::new(merge);
-/// ```
 #[derive(Drop)]
 pub struct ByFunction<M, F> {
     pub merge: F,
@@ -185,10 +148,6 @@ pub struct ByFunction<M, F> {
 
 impl<M, F> ByFunction<M, F> {
     /// The merge by this function. It takes no memory.
-    ///
-    /// ```ignore
-    /// let how = ByFunction::new(merge);
-    /// ```
     pub fn new(merge: F) -> ByFunction<M, F>
         ensures { result.merge ≡ merge }
     {

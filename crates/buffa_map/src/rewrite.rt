@@ -20,7 +20,7 @@ use std::fmt;
 /// `Display` prints the text of the error that it holds.
 ///
 /// ```ignore
-/// let refused = RewriteError::Decode(fault); // prints UnexpectedEof for DecodeError::UnexpectedEof
+/// let refused = RewriteError::Decode(DecodeError::UnexpectedField(6)); // prints UnexpectedField 6
 /// ```
 #[derive(Clone, Copy, Debug, PartialEq, Eq)]
 pub enum RewriteError {

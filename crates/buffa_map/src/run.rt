@@ -17,10 +17,6 @@ use std::alloc::Global;
 ///
 /// # Errors
 /// Those of [`read_map_field`].
-///
-/// ```ignore
-/// read_run_by::<KC, VC, C, B, Dropped>(alloc, map, number, buf, ctx, &mut Dropped)?;
-/// ```
 pub fn read_run_by<
     KC: MapCodec,
     VC: MapValueDecode,

@@ -31,7 +31,7 @@ use std::alloc::Global;
 /// The tag that begins an Item: number 1, start of group.
 ///
 /// ```ignore
-/// encode_varint(ITEM_START_TAG, sink)?;
+/// assert!(rt; decode_varint(&mut rest)? == ITEM_START_TAG);
 /// ```
 pub const ITEM_START_TAG: u64 = 0x0B;
 
@@ -63,7 +63,7 @@ const MAX_TYPE_ID: u64 = 2_147_483_647;
 /// bytes. The sum has to be below 2^64.
 ///
 /// ```ignore
-/// let len = item_encoded_len(number, payload_len); // 12 for 1000 and 5
+/// let len = item_encoded_len(1000, 5); // 12
 /// ```
 pub fn item_encoded_len(number: u32, payload_len: usize) -> usize
     requires { item_size number payload_len < 2 ^ 64 }

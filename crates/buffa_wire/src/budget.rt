@@ -16,7 +16,7 @@ pub const DEFAULT_UNKNOWN_FIELD_LIMIT: usize = 1_000_000;
 /// The units of element memory that a message is read with where nothing else is said.
 ///
 /// ```ignore
-/// budget.take_memory(DEFAULT_ELEMENT_MEMORY_LIMIT)?;
+/// let is_default = budget.memory_left() == DEFAULT_ELEMENT_MEMORY_LIMIT; // of Budget::new(0)
 /// ```
 pub const DEFAULT_ELEMENT_MEMORY_LIMIT: usize = 268_435_456;
 
@@ -65,7 +65,7 @@ impl Budget {
     /// The same unknown fields left, and `memory` units of element memory.
     ///
     /// ```ignore
-    /// let budget = Budget::new(left).with_element_memory(budget.memory_left());
+    /// let mut budget = Budget::new(1_000).with_element_memory(1_000_000);
     /// ```
     pub fn with_element_memory(self, memory: usize) -> Budget
         ensures { result ≡ record { unknown = self.unknown; memory = memory } }

@@ -86,7 +86,7 @@ impl SizeCache {
     /// Puts a size into a reserved slot. It takes no memory.
     ///
     /// ```ignore
-    /// cache.set(slot, inner);
+    /// cache.set(slot, 300u32);
     /// ```
     pub fn set(&mut self, slot: usize, size: u32)
         requires { slot < length self.old.slots }
@@ -98,7 +98,7 @@ impl SizeCache {
     /// Takes the next slot, in the order reserved; one has to be left. It takes no memory.
     ///
     /// ```ignore
-    /// let inner = cache.consume_next();
+    /// let size = cache.consume_next(); // 300
     /// ```
     pub fn consume_next(&mut self) -> u32
         requires { self.old.next < length self.old.slots }

@@ -107,7 +107,7 @@ impl<'a> DecodeContext<'a> {
     /// no memory.
     ///
     /// ```ignore
-    /// ctx.register_element_memory(count)?;
+    /// ctx.register_element_memory(28)?;
     /// ```
     pub fn register_element_memory(&mut self, n: usize) -> Result<(), DecodeError>
         ensures depth { self.new.depth ≡ self.old.depth }

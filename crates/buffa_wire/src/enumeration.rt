@@ -9,8 +9,8 @@ use std::alloc::Global;
 /// An enum: each value has a number, and no two have one. A value means its number.
 ///
 /// ```ignore
-/// let b = E::from_i32(number); // Some(Old::B) for 1, where E is Old
-/// let number = value.to_i32(); // 1 for Old::B
+/// let b = <Old as Enumeration>::from_i32(1); // Some(Old::B)
+/// let number = <Old as Enumeration>::to_i32(&Old::B); // 1
 /// ```
 pub trait Enumeration: Blank<Meaning = i32> {
     /// The value that has the number, if one has it.
@@ -19,7 +19,7 @@ pub trait Enumeration: Blank<Meaning = i32> {
     /// The value of the number, if one has it.
     ///
     /// ```ignore
-    /// let b = E::from_i32(number); // Some(Old::B) for 1, where E is Old
+    /// let b = <Old as Enumeration>::from_i32(1); // Some(Old::B)
     /// ```
     fn from_i32(number: i32) -> Option<Self>
         ensures value { result ≡ of_number number }
@@ -28,7 +28,7 @@ pub trait Enumeration: Blank<Meaning = i32> {
     /// The number.
     ///
     /// ```ignore
-    /// let number = value.to_i32();
+    /// let number = <Old as Enumeration>::to_i32(&Old::B); // 1
     /// ```
     fn to_i32(&self) -> i32
         ensures { result ≡ Self.meaning self.now };
@@ -43,7 +43,7 @@ pub trait Enumeration: Blank<Meaning = i32> {
 /// A value of an open enum: a declared value, or a number.
 ///
 /// ```ignore
-/// let value = EnumValue::<Old>::from_i32(number); // EnumValue::Unknown(7) for 7
+/// let value = EnumValue::<Old>::from_i32(9); // EnumValue::Unknown(9)
 /// ```
 #[derive(Clone, Copy, Debug, PartialEq, Eq, Drop)]
 pub enum EnumValue<E> {
@@ -57,7 +57,7 @@ impl<E: Enumeration> EnumValue<E> {
     /// The declared value of the number, or the number where none has it.
     ///
     /// ```ignore
-    /// let value = EnumValue::<Old>::from_i32(number);
+    /// let value = EnumValue::<Old>::from_i32(1); // EnumValue::Known(Old::B)
     /// ```
     pub fn from_i32(number: i32) -> EnumValue<E>
         ensures { ⟦<EnumValue<E> as Blank>⟧.meaning result ≡ open_number E.of_number number }
@@ -71,7 +71,7 @@ impl<E: Enumeration> EnumValue<E> {
     /// The number.
     ///
     /// ```ignore
-    /// let number = value.to_i32();
+    /// let number = EnumValue::<Old>::Unknown(9).to_i32(); // 9
     /// ```
     pub fn to_i32(&self) -> i32
         ensures { result ≡ (⟦<EnumValue<E> as Blank>⟧.meaning self.now).1 }

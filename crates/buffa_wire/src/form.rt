@@ -22,14 +22,10 @@ use buffa_bytes::{Buf, DecodeError, EncodeError, EncodeSink, WireType, varint_le
 /// A spelling of numbers.
 ///
 /// ```ignore
-/// type Form = FourBytes;
+/// type Form = <Sint64 as Scalar>::Form; // in an impl of Numbered
 /// ```
 pub trait Form: Sealed {
     /// The wire type of the payloads.
-    ///
-    /// ```ignore
-    /// const WIRE_TYPE: WireType = <N::Form as Form>::WIRE_TYPE;
-    /// ```
     const WIRE_TYPE: WireType;
 
     ghost WIRE_TYPE: { WireType };
@@ -45,10 +41,6 @@ pub trait Form: Sealed {
     /// # Errors
     /// [`DecodeError::UnexpectedEof`], and of varints [`DecodeError::VarintTooLong`]. What follows the tenth byte of a
     /// varint stays unread then, and all of other bytes.
-    ///
-    /// ```ignore
-    /// let n = <N::Form as Form>::read(buf)?;
-    /// ```
     fn read<B: Buf>(buf: &mut B) -> Result<u64, DecodeError>
         ensures reads { Gives (λ n. (number n, B.unread buf.new)) result (content_at WIRE_TYPE (B.unread buf.old)) }
         ensures spelled { IfOk result spells }
@@ -57,10 +49,6 @@ pub trait Form: Sealed {
         ensures tail { IsTailOf (B.unread buf.new) (B.unread buf.old) };
 
     /// The length of a number's encoding in bytes, 1 to 10; the number has to be one that can be spelled.
-    ///
-    /// ```ignore
-    /// let len = <N::Form as Form>::len(N::number_of(value));
-    /// ```
     fn len(n: u64) -> u64
         requires { spells n }
         ensures { result ≡ length (encoding n) };
@@ -69,10 +57,6 @@ pub trait Form: Sealed {
     ///
     /// # Errors
     /// [`EncodeError::OutOfMemory`] alone, after a beginning of the encoding.
-    ///
-    /// ```ignore
-    /// let answer = <N::Form as Form>::write(N::number_of(value), sink);
-    /// ```
     fn write<S: EncodeSink>(n: u64, sink: &mut S) -> Result<(), EncodeError>
         requires { spells n }
         ensures writes { Writes result (S.written sink.old) (encoding n) (S.written sink.new) }
@@ -85,19 +69,11 @@ pub trait Form: Sealed {
     ghost found: { Datum → Option ℕ };
 
     /// The number in a record of this form.
-    ///
-    /// ```ignore
-    /// let n = <N::Form as Form>::in_record(payload);
-    /// ```
     fn in_record(held: &UnknownFieldData) -> Option<u64>
         ensures found { result ≡ found (datum_of held.now) }
         ensures spelled { IfSome result spells };
 
     /// The record data of a number.
-    ///
-    /// ```ignore
-    /// let payload = <N::Form as Form>::record_of(N::number_of(value));
-    /// ```
     fn record_of(n: u64) -> UnknownFieldData
         requires { spells n }
         ensures { datum_of result ≡ datum n };

@@ -24,10 +24,6 @@ use std::alloc::Global;
 /// ```
 pub trait MessageForm<M: Blank> {
     /// The units of element memory that a message costs where it is the value of a map or an element of a list.
-    ///
-    /// ```ignore
-    /// const COST: usize = <M::Form as MessageForm<M>>::COST;
-    /// ```
     const COST: usize;
 
     ghost COST: { ℕ };
@@ -81,10 +77,6 @@ pub trait MessageForm<M: Blank> {
     ///
     /// # Errors
     /// Those of [`Message::compute_size`].
-    ///
-    /// ```ignore
-    /// let size = <M::Form as MessageForm<M>>::compute_size(self, cache)?;
-    /// ```
     fn compute_size(message: &M, cache: &mut SizeCache) -> Result<u32, EncodeError>
         ensures sized { IsSized (records_encoding (records (M.meaning message.now))) (slots (M.meaning message.now))
             cache.old result cache.new }
@@ -94,10 +86,6 @@ pub trait MessageForm<M: Blank> {
     ///
     /// # Errors
     /// Those of [`Message::write_to`].
-    ///
-    /// ```ignore
-    /// <M::Form as MessageForm<M>>::write_to(self, cache, sink)?;
-    /// ```
     fn write_to<S: EncodeSink>(
         message: &M,
         cache: &mut SizeCache,
@@ -111,10 +99,6 @@ pub trait MessageForm<M: Blank> {
     ///
     /// # Errors
     /// Those of [`Message::merge_field`].
-    ///
-    /// ```ignore
-    /// <M::Form as MessageForm<M>>::merge_field(self, alloc, tag, buf, ctx)?;
-    /// ```
     fn merge_field(
         message: &mut M,
         alloc: Global,

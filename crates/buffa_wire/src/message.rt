@@ -27,7 +27,7 @@ use std::alloc::Global;
 /// The most bytes that a message's encoding may have: 2^31 - 1.
 ///
 /// ```ignore
-/// if len > MAX_MESSAGE_BYTES { .. }
+/// assert!(rt; MAX_MESSAGE_BYTES == 2_147_483_647);
 /// ```
 pub const MAX_MESSAGE_BYTES: u32 = 2_147_483_647;
 
@@ -46,14 +46,14 @@ pub fn capped(len: u64) -> u32
 /// What the bytes of a type of messages mean.
 ///
 /// ```ignore
-/// impl MessageSpec for Tree { .. }
+/// impl MessageSpec for CountMsg { .. }
 /// ```
 pub trait MessageSpec: Blank {
     /// The units of element memory that a message costs where it is the value of a map or an element of a list: 1 or
     /// more.
     ///
     /// ```ignore
-    /// const COST: usize = M::COST;
+    /// const COST: usize = 8;
     /// ```
     const COST: usize;
 
@@ -137,7 +137,7 @@ pub trait Message: MessageSpec {
     /// consumed then.
     ///
     /// ```ignore
-    /// message.write_to(cache, sink)?;
+    /// message.write_to(&mut cache, &mut sink)?; // as many bytes as compute_size said
     /// ```
     fn write_to<S: EncodeSink>(
         &self,
@@ -166,7 +166,7 @@ pub trait Message: MessageSpec {
     /// [`EncodeError::OutOfMemory`].
     ///
     /// ```ignore
-    /// let encoding = message.try_encode_to_vec(alloc)?;
+    /// let encoding = info.try_encode_to_vec(alloc)?;
     /// ```
     fn try_encode_to_vec(&self, alloc: Global) -> Result<Vec<u8>, EncodeError>
         ensures encoding { IfOk result (λ v. (v.items ≡ Self.encoding (Self.meaning self.now))
@@ -192,7 +192,8 @@ pub trait Message: MessageSpec {
     /// refused.
     ///
     /// ```ignore
-    /// message.merge_field(alloc, tag, buf, ctx)?;
+    /// let tag = Tag::decode(&mut rest)?;
+    /// message.merge_field(alloc, tag, &mut rest, ctx)?; // of 08 05: field 1 is 5
     /// ```
     fn merge_field(
         &mut self,
@@ -217,7 +218,7 @@ pub trait Message: MessageSpec {
     /// anywhere in the bytes.
     ///
     /// ```ignore
-    /// let answer = message.merge(alloc, &mut bytes, DecodeContext::new(1, &mut budget));
+    /// info.merge(alloc, &mut rest, DecodeContext::new(20, &mut budget))?;
     /// ```
     fn merge(
         &mut self,
@@ -253,7 +254,7 @@ pub trait Message: MessageSpec {
     /// Those of [`Message::merge`], and the value is then as it says.
     ///
     /// ```ignore
-    /// message.merge_from_slice(alloc, bytes)?;
+    /// info.merge_from_slice(alloc, bytes)?;
     /// ```
     fn merge_from_slice(&mut self, alloc: Global, bytes: &[u8]) -> Result<(), DecodeError>
         ensures merged { IsMergedAlone (Self.merged RECURSION_LIMIT (Self.meaning self.old) bytes.now)
@@ -282,7 +283,7 @@ pub trait Message: MessageSpec {
     /// message.
     ///
     /// ```ignore
-    /// message.merge_length_delimited(alloc, buf, ctx)?;
+    /// message.merge_length_delimited(alloc, &mut rest, ctx)?; // of 02 08 07: field 1 is 7
     /// ```
     fn merge_length_delimited<B: Buf>(
         &mut self,

@@ -9,7 +9,7 @@ use buffa_bytes::Blank;
 /// A proto type whose values are one number each.
 ///
 /// ```ignore
-/// impl Scalar for Int32 { .. }
+/// let ext = Extension::<Sint64>::new(7, "test.Carrier");
 /// ```
 pub trait Scalar: Sealed {
     /// The Rust type of the values.
@@ -22,22 +22,14 @@ pub trait Scalar: Sealed {
     /// How the numbers are spelled.
     ///
     /// ```ignore
-    /// type Form = <Int32 as Scalar>::Form;
+    /// type Form = <Sint64 as Scalar>::Form;
     /// ```
     type Form: Form;
 
     /// The units of element memory that a value costs.
-    ///
-    /// ```ignore
-    /// const COST: usize = N::UNITS;
-    /// ```
     const UNITS: usize;
 
     /// The length of every encoding in bytes, where they have one length.
-    ///
-    /// ```ignore
-    /// const FIXED_LEN: Option<u64> = N::LEN;
-    /// ```
     const LEN: Option<u64>;
 
     ghost UNITS: { ℕ };
@@ -56,7 +48,7 @@ pub trait Scalar: Sealed {
     /// The value that a number means.
     ///
     /// ```ignore
-    /// let value = <Int32 as Scalar>::value_of(n);
+    /// cents: <Sint64 as Scalar>::value_of(n), // -3 for 5
     /// ```
     fn value_of(n: u64) -> Self::Value
         requires { Self.Form.spells n }
@@ -65,7 +57,7 @@ pub trait Scalar: Sealed {
     /// The number of a value.
     ///
     /// ```ignore
-    /// let number = <Int32 as Scalar>::number_of(&value.to_i32());
+    /// let number = <Sint64 as Scalar>::number_of(&value.cents); // 5 for -3
     /// ```
     fn number_of(value: &Self::Value) -> u64
         ensures number { result ≡ number_of (Self.Value.meaning value.now) }

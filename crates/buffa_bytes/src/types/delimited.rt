@@ -21,7 +21,7 @@ use std::alloc::Global;
 /// The length of a string's encoding: the length varint and the bytes.
 ///
 /// ```ignore
-/// let len = string_encoded_len(value.as_str()); // 8 for "testing"
+/// let len = string_encoded_len("ok"); // 3
 /// ```
 pub fn string_encoded_len(value: &str) -> usize
     ensures { result ≡ length (delimited_encoding value.now) }
@@ -55,7 +55,7 @@ pub fn encode_string<S: EncodeSink>(value: &str, sink: &mut S) -> Result<(), Enc
 /// stays unread then, and what follows the string.
 ///
 /// ```ignore
-/// let bee = decode_string(alloc, buf)?; // of 03 62 65 65: "bee"
+/// let word = decode_string(alloc, &mut rest)?; // of 02 6F 6B: "ok"
 /// ```
 #[tactic(auto, using(crate::proofs::TailLemmas::tail_more))]
 pub fn decode_string<B: Buf>(alloc: Global, buf: &mut B) -> Result<String, DecodeError>
@@ -82,7 +82,7 @@ pub fn decode_string<B: Buf>(alloc: Global, buf: &mut B) -> Result<String, Decod
 /// The length of a bytes value's encoding: the length varint and the bytes.
 ///
 /// ```ignore
-/// let len = bytes_encoded_len(value.as_slice()); // 3 for DE AD
+/// let len = bytes_encoded_len(b"a"); // 2
 /// ```
 pub fn bytes_encoded_len(value: &[u8]) -> usize
     ensures { result ≡ length (delimited_encoding value.now) }
@@ -96,7 +96,7 @@ pub fn bytes_encoded_len(value: &[u8]) -> usize
 /// [`EncodeError::OutOfMemory`] alone, after a beginning of the encoding.
 ///
 /// ```ignore
-/// encode_bytes(value.as_slice(), sink)?; // 02 DE AD for DE AD
+/// encode_bytes(b"a", &mut sink)?; // 01 61
 /// ```
 #[inline(always)]
 #[tactic(auto, using(crate::proofs::SinkLemmas::writes_then, crate::proofs::SinkLemmas::front_first, crate::proofs::SinkLemmas::room_then))]
@@ -116,7 +116,7 @@ pub fn encode_bytes<S: EncodeSink>(value: &[u8], sink: &mut S) -> Result<(), Enc
 /// the bytes.
 ///
 /// ```ignore
-/// let dead = decode_bytes(alloc, buf)?; // of 02 DE AD: DE AD
+/// let one = decode_bytes(alloc, &mut rest)?; // of 01 61: "a"
 /// ```
 #[tactic(auto, using(crate::proofs::TailLemmas::tail_more))]
 pub fn decode_bytes<B: Buf>(alloc: Global, buf: &mut B) -> Result<Vec<u8>, DecodeError>
@@ -137,7 +137,7 @@ pub fn decode_bytes<B: Buf>(alloc: Global, buf: &mut B) -> Result<Vec<u8>, Decod
 /// As [`decode_bytes`].
 ///
 /// ```ignore
-/// let dead = decode_bytes_to_bytes(alloc, buf)?; // of 02 DE AD: DE AD
+/// let shared = decode_bytes_to_bytes(alloc, &mut rest)?; // of 01 62: "b"
 /// ```
 pub fn decode_bytes_to_bytes<B: Buf>(alloc: Global, buf: &mut B) -> Result<Bytes, DecodeError>
     ensures reads { GivesUnlessFull (λ b. (b, B.unread buf.new)) result (delimited_at (B.unread buf.old)) }
@@ -192,7 +192,7 @@ pub fn with_delimited<B: Buf, T, F: FnMut(&[u8]) -> Result<T, DecodeError>>(
 /// As [`decode_string`].
 ///
 /// ```ignore
-/// let bee = decode_string_to::<S, B>(alloc, buf)?; // of 03 62 65 65: "bee"
+/// let own = decode_string_to::<String, _>(alloc, &mut rest)?; // of 02 6F 6E: "on"
 /// ```
 pub fn decode_string_to<S: ProtoString, B: Buf>(
     alloc: Global,
@@ -215,7 +215,7 @@ pub fn decode_string_to<S: ProtoString, B: Buf>(
 /// As [`decode_bytes`].
 ///
 /// ```ignore
-/// let dead = decode_bytes_to::<P, B>(alloc, buf)?; // of 02 DE AD: DE AD
+/// let own = decode_bytes_to::<Vec<u8>, _>(alloc, &mut rest)?; // of 01 63: "c"
 /// ```
 pub fn decode_bytes_to<P: ProtoBytes, B: Buf>(alloc: Global, buf: &mut B) -> Result<P, DecodeError>
     ensures reads { GivesUnlessFull (λ p. (P.meaning p, B.unread buf.new)) result

@@ -15,14 +15,14 @@ use crate::sink::EncodeSink;
 /// The length of a fixed32's and an sfixed32's encoding, in bytes.
 ///
 /// ```ignore
-/// ensures fixed32 { FIXED32_ENCODED_LEN ≡ 4 }
+/// assert!(rt; types::FIXED32_ENCODED_LEN == 4);
 /// ```
 pub const FIXED32_ENCODED_LEN: usize = 4;
 
 /// The length of a fixed64's and an sfixed64's encoding, in bytes.
 ///
 /// ```ignore
-/// ensures fixed64 { FIXED64_ENCODED_LEN ≡ 8 }
+/// assert!(rt; types::FIXED64_ENCODED_LEN == 8);
 /// ```
 pub const FIXED64_ENCODED_LEN: usize = 8;
 
@@ -55,7 +55,7 @@ fn take_into<B: Buf>(buf: &mut B, bytes: &mut [u8]) -> Result<(), DecodeError>
 /// [`EncodeError::OutOfMemory`] alone, after a beginning of the encoding.
 ///
 /// ```ignore
-/// encode_fixed32(*value, sink)?; // 04 03 02 01 for 0x0102_0304
+/// encode_fixed32(1, &mut sink)?; // 01 00 00 00
 /// ```
 pub fn encode_fixed32<S: EncodeSink>(value: u32, sink: &mut S) -> Result<(), EncodeError>
     ensures writes { Writes result (S.written sink.old) (fixed32_encoding value) (S.written sink.new) }
@@ -70,7 +70,7 @@ pub fn encode_fixed32<S: EncodeSink>(value: u32, sink: &mut S) -> Result<(), Enc
 /// [`DecodeError::UnexpectedEof`] where fewer bytes are left. It takes no memory.
 ///
 /// ```ignore
-/// let one = decode_fixed32(buf)?; // of 01 00 00 00
+/// let one = decode_fixed32(&mut rest)?; // of 01 00 00 00
 /// ```
 pub fn decode_fixed32<B: Buf>(buf: &mut B) -> Result<u32, DecodeError>
     ensures reads { Gives (λ v. (v, B.unread buf.new)) result (fixed32_at (B.unread buf.old)) }
@@ -89,7 +89,7 @@ pub fn decode_fixed32<B: Buf>(buf: &mut B) -> Result<u32, DecodeError>
 /// [`EncodeError::OutOfMemory`] alone, after a beginning of the encoding.
 ///
 /// ```ignore
-/// encode_fixed64(*value, sink)?; // 08 07 06 05 04 03 02 01 for 0x0102_0304_0506_0708
+/// encode_fixed64(2, &mut sink)?; // 02 00 00 00 00 00 00 00
 /// ```
 pub fn encode_fixed64<S: EncodeSink>(value: u64, sink: &mut S) -> Result<(), EncodeError>
     ensures writes { Writes result (S.written sink.old) (fixed64_encoding value) (S.written sink.new) }
@@ -104,7 +104,7 @@ pub fn encode_fixed64<S: EncodeSink>(value: u64, sink: &mut S) -> Result<(), Enc
 /// [`DecodeError::UnexpectedEof`] where fewer bytes are left. It takes no memory.
 ///
 /// ```ignore
-/// let one = decode_fixed64(buf)?; // of 01 00 00 00 00 00 00 00
+/// let two = decode_fixed64(&mut rest)?; // of 02 00 00 00 00 00 00 00
 /// ```
 pub fn decode_fixed64<B: Buf>(buf: &mut B) -> Result<u64, DecodeError>
     ensures reads { Gives (λ v. (v, B.unread buf.new)) result (fixed64_at (B.unread buf.old)) }
@@ -123,7 +123,7 @@ pub fn decode_fixed64<B: Buf>(buf: &mut B) -> Result<u64, DecodeError>
 /// [`EncodeError::OutOfMemory`] alone, after a beginning of the encoding.
 ///
 /// ```ignore
-/// encode_sfixed32(*value, sink)?; // FE FF FF FF for -2
+/// encode_sfixed32(-1, &mut sink)?; // FF FF FF FF
 /// ```
 pub fn encode_sfixed32<S: EncodeSink>(value: i32, sink: &mut S) -> Result<(), EncodeError>
     ensures writes { Writes result (S.written sink.old) (sfixed32_encoding value) (S.written sink.new) }
@@ -138,7 +138,7 @@ pub fn encode_sfixed32<S: EncodeSink>(value: i32, sink: &mut S) -> Result<(), En
 /// [`DecodeError::UnexpectedEof`] where fewer bytes are left. It takes no memory.
 ///
 /// ```ignore
-/// let minus_one = decode_sfixed32(buf)?; // of FF FF FF FF
+/// let minus_one = decode_sfixed32(&mut rest)?; // of FF FF FF FF
 /// ```
 pub fn decode_sfixed32<B: Buf>(buf: &mut B) -> Result<i32, DecodeError>
     ensures reads { Gives (λ v. (v, B.unread buf.new)) result (sfixed32_at (B.unread buf.old)) }
@@ -157,7 +157,7 @@ pub fn decode_sfixed32<B: Buf>(buf: &mut B) -> Result<i32, DecodeError>
 /// [`EncodeError::OutOfMemory`] alone, after a beginning of the encoding.
 ///
 /// ```ignore
-/// encode_sfixed64(*value, sink)?; // FE FF FF FF FF FF FF FF for -2
+/// encode_sfixed64(-2, &mut sink)?; // FE FF FF FF FF FF FF FF
 /// ```
 pub fn encode_sfixed64<S: EncodeSink>(value: i64, sink: &mut S) -> Result<(), EncodeError>
     ensures writes { Writes result (S.written sink.old) (sfixed64_encoding value) (S.written sink.new) }
@@ -172,7 +172,7 @@ pub fn encode_sfixed64<S: EncodeSink>(value: i64, sink: &mut S) -> Result<(), En
 /// [`DecodeError::UnexpectedEof`] where fewer bytes are left. It takes no memory.
 ///
 /// ```ignore
-/// let minus_one = decode_sfixed64(buf)?; // of FF FF FF FF FF FF FF FF
+/// let minus_two = decode_sfixed64(&mut rest)?; // of FE FF FF FF FF FF FF FF
 /// ```
 pub fn decode_sfixed64<B: Buf>(buf: &mut B) -> Result<i64, DecodeError>
     ensures reads { Gives (λ v. (v, B.unread buf.new)) result (sfixed64_at (B.unread buf.old)) }

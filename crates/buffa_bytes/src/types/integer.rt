@@ -20,7 +20,7 @@ use crate::varint::{decode_varint, encode_varint, varint_len};
 /// The length of an int32's encoding: 1 to 5 bytes, or 10 for a negative one.
 ///
 /// ```ignore
-/// let len = int32_encoded_len(*value); // 10 for -2
+/// let len = int32_encoded_len(-1); // 10
 /// ```
 pub fn int32_encoded_len(value: i32) -> usize
     ensures { result ≡ length (int32_encoding value) }
@@ -35,7 +35,7 @@ pub fn int32_encoded_len(value: i32) -> usize
 /// [`EncodeError::OutOfMemory`] alone, after a beginning of the encoding.
 ///
 /// ```ignore
-/// encode_int32(*value, sink)?; // FE FF FF FF FF FF FF FF FF 01 for -2
+/// encode_int32(-1, &mut sink)?; // FF FF FF FF FF FF FF FF FF 01
 /// ```
 pub fn encode_int32<S: EncodeSink>(value: i32, sink: &mut S) -> Result<(), EncodeError>
     ensures writes { Writes result (S.written sink.old) (int32_encoding value) (S.written sink.new) }
@@ -50,7 +50,7 @@ pub fn encode_int32<S: EncodeSink>(value: i32, sink: &mut S) -> Result<(), Encod
 /// Those of a varint. It takes no memory.
 ///
 /// ```ignore
-/// let answer = decode_int32(buf)?; // of 2A: 42
+/// let answer = decode_int32(&mut rest)?; // of 2A: 42
 /// ```
 pub fn decode_int32<B: Buf>(buf: &mut B) -> Result<i32, DecodeError>
     ensures reads { Gives (λ v. (v, B.unread buf.new)) result (int32_at (B.unread buf.old)) }
@@ -65,7 +65,7 @@ pub fn decode_int32<B: Buf>(buf: &mut B) -> Result<i32, DecodeError>
 /// The length of an int64's encoding: 1 to 9 bytes, or 10 for a negative one.
 ///
 /// ```ignore
-/// let len = int64_encoded_len(*value); // 10 for -1
+/// let len = int64_encoded_len(1); // 1
 /// ```
 pub fn int64_encoded_len(value: i64) -> usize
     ensures { result ≡ length (int64_encoding value) }
@@ -80,7 +80,7 @@ pub fn int64_encoded_len(value: i64) -> usize
 /// [`EncodeError::OutOfMemory`] alone, after a beginning of the encoding.
 ///
 /// ```ignore
-/// encode_int64(*value, sink)?; // FF FF FF FF FF FF FF FF FF 01 for -1
+/// encode_int64(-2, &mut sink)?; // FE FF FF FF FF FF FF FF FF 01
 /// ```
 pub fn encode_int64<S: EncodeSink>(value: i64, sink: &mut S) -> Result<(), EncodeError>
     ensures writes { Writes result (S.written sink.old) (int64_encoding value) (S.written sink.new) }
@@ -95,7 +95,7 @@ pub fn encode_int64<S: EncodeSink>(value: i64, sink: &mut S) -> Result<(), Encod
 /// Those of a varint. It takes no memory.
 ///
 /// ```ignore
-/// let answer = decode_int64(buf)?; // of 2A: 42
+/// let answer = decode_int64(&mut rest)?; // of 2A: 42
 /// ```
 pub fn decode_int64<B: Buf>(buf: &mut B) -> Result<i64, DecodeError>
     ensures reads { Gives (λ v. (v, B.unread buf.new)) result (int64_at (B.unread buf.old)) }
@@ -110,7 +110,7 @@ pub fn decode_int64<B: Buf>(buf: &mut B) -> Result<i64, DecodeError>
 /// The length of a uint32's encoding: 1 to 5 bytes.
 ///
 /// ```ignore
-/// let len = uint32_encoded_len(*value); // 2 for 150
+/// let len = uint32_encoded_len(300); // 2
 /// ```
 pub fn uint32_encoded_len(value: u32) -> usize
     ensures { result ≡ length (uint32_encoding value) }
@@ -124,7 +124,7 @@ pub fn uint32_encoded_len(value: u32) -> usize
 /// [`EncodeError::OutOfMemory`] alone, after a beginning of the encoding.
 ///
 /// ```ignore
-/// encode_uint32(*value, sink)?; // 96 01 for 150
+/// encode_uint32(300, &mut sink)?; // AC 02
 /// ```
 pub fn encode_uint32<S: EncodeSink>(value: u32, sink: &mut S) -> Result<(), EncodeError>
     ensures writes { Writes result (S.written sink.old) (uint32_encoding value) (S.written sink.new) }
@@ -139,7 +139,7 @@ pub fn encode_uint32<S: EncodeSink>(value: u32, sink: &mut S) -> Result<(), Enco
 /// Those of a varint. It takes no memory.
 ///
 /// ```ignore
-/// let number = decode_uint32(buf)?; // of 96 01: 150
+/// let number = decode_uint32(&mut rest)?; // of AC 02: 300
 /// ```
 pub fn decode_uint32<B: Buf>(buf: &mut B) -> Result<u32, DecodeError>
     ensures reads { Gives (λ v. (v, B.unread buf.new)) result (uint32_at (B.unread buf.old)) }
@@ -154,7 +154,7 @@ pub fn decode_uint32<B: Buf>(buf: &mut B) -> Result<u32, DecodeError>
 /// The length of a uint64's encoding: 1 to 10 bytes.
 ///
 /// ```ignore
-/// let len = uint64_encoded_len(*value); // 2 for 150
+/// let len = uint64_encoded_len(7); // 1
 /// ```
 pub fn uint64_encoded_len(value: u64) -> usize
     ensures { result ≡ length (uint64_encoding value) }
@@ -168,7 +168,7 @@ pub fn uint64_encoded_len(value: u64) -> usize
 /// [`EncodeError::OutOfMemory`] alone, after a beginning of the encoding.
 ///
 /// ```ignore
-/// encode_uint64(*value, sink)?; // 96 01 for 150
+/// encode_uint64(7, &mut sink)?; // 07
 /// ```
 pub fn encode_uint64<S: EncodeSink>(value: u64, sink: &mut S) -> Result<(), EncodeError>
     ensures writes { Writes result (S.written sink.old) (uint64_encoding value) (S.written sink.new) }
@@ -183,7 +183,7 @@ pub fn encode_uint64<S: EncodeSink>(value: u64, sink: &mut S) -> Result<(), Enco
 /// Those of a varint. It takes no memory.
 ///
 /// ```ignore
-/// let number = decode_uint64(buf)?; // of 96 01: 150
+/// let number = decode_uint64(&mut rest)?; // of AC 02: 300
 /// ```
 pub fn decode_uint64<B: Buf>(buf: &mut B) -> Result<u64, DecodeError>
     ensures reads { Gives (λ v. (v, B.unread buf.new)) result (uint64_at (B.unread buf.old)) }
@@ -197,7 +197,7 @@ pub fn decode_uint64<B: Buf>(buf: &mut B) -> Result<u64, DecodeError>
 /// The length of a sint32's encoding: 1 to 5 bytes.
 ///
 /// ```ignore
-/// let len = sint32_encoded_len(*value); // 1 for -2
+/// let len = sint32_encoded_len(-64); // 1
 /// ```
 pub fn sint32_encoded_len(value: i32) -> usize
     ensures { result ≡ length (sint32_encoding value) }
@@ -211,7 +211,7 @@ pub fn sint32_encoded_len(value: i32) -> usize
 /// [`EncodeError::OutOfMemory`] alone, after a beginning of the encoding.
 ///
 /// ```ignore
-/// encode_sint32(*value, sink)?; // 03 for -2
+/// encode_sint32(-64, &mut sink)?; // 7F
 /// ```
 pub fn encode_sint32<S: EncodeSink>(value: i32, sink: &mut S) -> Result<(), EncodeError>
     ensures writes { Writes result (S.written sink.old) (sint32_encoding value) (S.written sink.new) }
@@ -226,7 +226,7 @@ pub fn encode_sint32<S: EncodeSink>(value: i32, sink: &mut S) -> Result<(), Enco
 /// Those of a varint. It takes no memory.
 ///
 /// ```ignore
-/// let minus_two = decode_sint32(buf)?; // of 03
+/// let minus_two = decode_sint32(&mut rest)?; // of 03
 /// ```
 pub fn decode_sint32<B: Buf>(buf: &mut B) -> Result<i32, DecodeError>
     ensures reads { Gives (λ v. (v, B.unread buf.new)) result (sint32_at (B.unread buf.old)) }
@@ -241,7 +241,7 @@ pub fn decode_sint32<B: Buf>(buf: &mut B) -> Result<i32, DecodeError>
 /// The length of a sint64's encoding: 1 to 10 bytes.
 ///
 /// ```ignore
-/// let len = sint64_encoded_len(*value); // 1 for -2
+/// let len = sint64_encoded_len(64); // 2
 /// ```
 pub fn sint64_encoded_len(value: i64) -> usize
     ensures { result ≡ length (sint64_encoding value) }
@@ -255,7 +255,7 @@ pub fn sint64_encoded_len(value: i64) -> usize
 /// [`EncodeError::OutOfMemory`] alone, after a beginning of the encoding.
 ///
 /// ```ignore
-/// encode_sint64(*value, sink)?; // 03 for -2
+/// encode_sint64(64, &mut sink)?; // 80 01
 /// ```
 pub fn encode_sint64<S: EncodeSink>(value: i64, sink: &mut S) -> Result<(), EncodeError>
     ensures writes { Writes result (S.written sink.old) (sint64_encoding value) (S.written sink.new) }
@@ -270,7 +270,7 @@ pub fn encode_sint64<S: EncodeSink>(value: i64, sink: &mut S) -> Result<(), Enco
 /// Those of a varint. It takes no memory.
 ///
 /// ```ignore
-/// let minus_two = decode_sint64(buf)?; // of 03
+/// let minus_two = decode_sint64(&mut rest)?; // of 03
 /// ```
 pub fn decode_sint64<B: Buf>(buf: &mut B) -> Result<i64, DecodeError>
     ensures reads { Gives (λ v. (v, B.unread buf.new)) result (sint64_at (B.unread buf.old)) }
@@ -285,7 +285,7 @@ pub fn decode_sint64<B: Buf>(buf: &mut B) -> Result<i64, DecodeError>
 /// The length of a bool's encoding, in bytes.
 ///
 /// ```ignore
-/// ensures bool { BOOL_ENCODED_LEN ≡ 1 }
+/// let is_one_byte = sink.len() == types::BOOL_ENCODED_LEN;
 /// ```
 pub const BOOL_ENCODED_LEN: usize = 1;
 
@@ -295,7 +295,7 @@ pub const BOOL_ENCODED_LEN: usize = 1;
 /// [`EncodeError::OutOfMemory`] alone, after a beginning of the encoding.
 ///
 /// ```ignore
-/// encode_bool(*value, sink)?; // 01 for true
+/// encode_bool(true, &mut sink)?; // 01
 /// ```
 pub fn encode_bool<S: EncodeSink>(value: bool, sink: &mut S) -> Result<(), EncodeError>
     ensures writes { Writes result (S.written sink.old) (bool_encoding value) (S.written sink.new) }
@@ -310,7 +310,7 @@ pub fn encode_bool<S: EncodeSink>(value: bool, sink: &mut S) -> Result<(), Encod
 /// Those of a varint. It takes no memory.
 ///
 /// ```ignore
-/// let yes = decode_bool(buf)?; // of 01: true
+/// let yes = decode_bool(&mut rest)?; // of 01: true
 /// ```
 pub fn decode_bool<B: Buf>(buf: &mut B) -> Result<bool, DecodeError>
     ensures reads { Gives (λ v. (v, B.unread buf.new)) result (bool_at (B.unread buf.old)) }

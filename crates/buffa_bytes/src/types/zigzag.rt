@@ -7,7 +7,7 @@ ghost use Rattle.buffa_bytes.specs.Scalars.{unzigzag, zigzag};
 /// guide, "Signed Integers".
 ///
 /// ```ignore
-/// let number = zigzag_encode_i32(value); // 1 for -1
+/// let number = zigzag_encode_i32(-1); // 1
 /// ```
 #[tactic(auto, using(crate::proofs::ScalarLemmas::zigzag_fits32))]
 pub fn zigzag_encode_i32(value: i32) -> u32
@@ -19,7 +19,7 @@ pub fn zigzag_encode_i32(value: i32) -> u32
 /// The number whose zigzag this is.
 ///
 /// ```ignore
-/// let value = zigzag_decode_i32(number); // -1 for 1
+/// let value = zigzag_decode_i32(2); // 1
 /// ```
 #[tactic(auto, using(crate::proofs::ScalarLemmas::unzigzag_fits32))]
 pub fn zigzag_decode_i32(number: u32) -> i32
@@ -32,7 +32,7 @@ pub fn zigzag_decode_i32(number: u32) -> i32
 /// guide, "Signed Integers".
 ///
 /// ```ignore
-/// let number = zigzag_encode_i64(value); // 3 for -2
+/// let number = zigzag_encode_i64(-2); // 3
 /// ```
 pub fn zigzag_encode_i64(value: i64) -> u64
     ensures { result ≡ zigzag value }
@@ -47,7 +47,7 @@ pub fn zigzag_encode_i64(value: i64) -> u64
 /// The number whose zigzag this is.
 ///
 /// ```ignore
-/// let value = zigzag_decode_i64(number); // -2 for 3
+/// let value = zigzag_decode_i64(4); // 2
 /// ```
 pub fn zigzag_decode_i64(number: u64) -> i64
     ensures { result ≡ unzigzag number }

@@ -14,7 +14,7 @@ impl UnknownField {
     /// Where memory runs out; a number takes none, nor do no bytes and a group of no fields.
     ///
     /// ```ignore
-    /// copies.push(field.copy()?)?;
+    /// let copy = field.copy()?;
     /// ```
     #[cycle(copy)]
     pub fn copy(&self) -> Result<UnknownField, AllocError>

@@ -38,7 +38,7 @@ impl UnknownFields {
     /// How many more fields fit without new memory.
     ///
     /// ```ignore
-    /// let room = fields.spare();
+    /// let spare = fields.spare();
     /// ```
     pub fn spare(&self) -> usize
         ensures { result ≡ self.now.spare }
@@ -86,7 +86,7 @@ impl UnknownFields {
     /// Where that room is missing and memory runs out; nothing is changed then.
     ///
     /// ```ignore
-    /// fields.reserve(more.len())?;
+    /// fields.reserve(1)?;
     /// ```
     pub fn reserve(&mut self, n: usize) -> Result<(), AllocError>
         ensures records { self.new.records ≡ self.old.records }
@@ -118,7 +118,7 @@ impl UnknownFields {
     /// once, in order. It takes no memory, and leaves no less room.
     ///
     /// ```ignore
-    /// fields.retain(|kept| kept.number != gone);
+    /// info.rest.retain(|field| field.number != 9);
     /// ```
     pub fn retain<F: FnMut(&UnknownField) -> bool>(&mut self, f: F)
     where
