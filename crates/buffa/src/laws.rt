@@ -90,9 +90,9 @@ pub fn law_4<C: PackableCodec>()
     buffa_codec::laws::lists_read_alike::<C>();
 }
 
-/// A set of a number leaves the records of every other number, and the new records stand last.
+/// A set of a number leaves the records of every other number, and the new records come last.
 ///
-/// Then the number's records hold what was set; all others stand as they were, in order. No other list is so.
+/// Then the number's records hold what was set; all others are as they were, in order. No other list is so.
 pub fn law_5()
     ensures others { LeavesOthers }
     ensures last { StandsLast }
@@ -106,7 +106,7 @@ pub fn law_5()
 
 /// Two sets of a number are the second one, and two clears are one.
 ///
-/// A clear leaves the one list without records of the number in which all others stand as they were.
+/// A clear leaves the one list without records of the number in which all others are as they were.
 pub fn law_6()
     ensures sets { SecondCounts }
     ensures clears { ClearsAreOne }

@@ -2,7 +2,7 @@
 //!
 //! This crate is the one that a user names. [`fields`] has messages by their fields, [`map_codec`] map fields,
 //! [`extension`] typed extensions, [`message_set`] Items, and [`laws`] what is proved of them together, one function a
-//! law. [`samples`] has two messages. The items of the wire stand at the top.
+//! law. [`samples`] has two messages. The items of the wire are at the top.
 #![tactic(auto)]
 
 pub mod extension;

@@ -14,7 +14,7 @@ use std::alloc::Allocator;
 ///
 /// What is unread is what the buffer has left, and chunks are those that it shows. What no read changes of it, as
 /// the bytes past the limit of a `Take`, is part of what every contract over a [`Buf`] keeps (`beyond`). The field
-/// is the buffer, which stands where reading stopped.
+/// is the buffer, whose unread bytes begin where reading stopped.
 ///
 /// ```ignore
 /// let mut both = Adapted(front.chain(back)); // two `Bytes`, an entry cut anywhere

@@ -21,7 +21,7 @@ pub trait EncodeSink {
     /// Appends `b`.
     ///
     /// # Errors
-    /// [`EncodeError::OutOfMemory`] alone, where `b` doesn't fit for sure. A beginning of `b` stands then, but not all
+    /// [`EncodeError::OutOfMemory`] alone, where `b` may not fit. A beginning of `b` is written then, but not all
     /// of it.
     ///
     /// ```ignore

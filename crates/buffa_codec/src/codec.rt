@@ -71,7 +71,7 @@ pub trait ExtensionCodec {
     /// Reading takes no memory.
     ghost never_fails: { Type 0 };
 
-    /// The values that are written without memory where the list has room for their records.
+    /// The values that are written without memory where the list has spare capacity for their records.
     ghost in_room: { Meaning → Type 0 };
 
     /// Whether reading these records of the number takes memory. Of a codec of one value, only the record that counts does.
@@ -97,8 +97,8 @@ pub trait ExtensionCodec {
     /// Puts the records of the value behind the others.
     ///
     /// # Errors
-    /// What is wrong with the value, or out of memory; a beginning of its records stands then, and not all. No
-    /// room is lost.
+    /// What is wrong with the value, or out of memory; a beginning of its records is there then, and not all. No
+    /// spare capacity is lost.
     ///
     /// ```ignore
     /// <Int32 as ExtensionCodec>::try_encode(alloc, 1, 5, &mut fields)?; // 08 05
@@ -241,7 +241,7 @@ pub trait SingularCodec {
     ///
     /// # Errors
     /// Where memory runs out, if they don't fit in the vector, whose capacity gets no smaller; a beginning of the
-    /// values stands then, and not all.
+    /// values is there then, and not all.
     ///
     /// ```ignore
     /// <Int32 as SingularCodec>::decode_packed(&bytes, &mut out)?; // of AC 02: 300
@@ -311,7 +311,7 @@ pub trait PackableCodec: SingularCodec {
     /// Puts the bytes of a value behind the others.
     ///
     /// # Errors
-    /// [`EncodeError::OutOfMemory`] alone, where they don't fit in the vector's room; nothing is changed then.
+    /// [`EncodeError::OutOfMemory`] alone, where they don't fit in the vector's spare capacity; nothing is changed then.
     ///
     /// ```ignore
     /// <Int32 as PackableCodec>::encode_packed(&300, &mut bytes)?; // AC 02

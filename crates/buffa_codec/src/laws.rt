@@ -287,7 +287,7 @@ pub fn scalars_are_read()
 
 /// Strings and bytes are read of the last record of bytes, strings where these are UTF-8; all of them are
 /// written, and read back; and no packed ones are read. Only a value of a byte or more takes memory to be
-/// read, the last one alone, and an empty one is written in the list's room.
+/// read, the last one alone, and an empty one is written in the list's spare capacity.
 pub fn strings_and_bytes_are_read()
     ensures strings { (ds : List Datum) (o : Option (List ℕ)) → ⟦<StringCodec as ExtensionCodec>⟧.reads ds o
         ↔ (o ≡ last_read string_held ds) }
@@ -367,7 +367,7 @@ pub fn lists_are_read<C: SingularCodec, P: PackableCodec>()
 
 /// Records are read as one value or none, and in lists as one list, by codecs whose reading spends nothing.
 ///
-/// Left open: whether memory runs out, where there is a record whose reading takes some (`asks`).
+/// Not promised: whether memory runs out, where there is a record whose reading takes some (`asks`).
 pub fn answers_are_pinned<C: LastWins, P: LastWins + PackableCodec>()
     ensures one { OneAnswer ⟦<C as ExtensionCodec>⟧.reads }
     ensures there { HasAnswer ⟦<C as ExtensionCodec>⟧.reads }
@@ -380,7 +380,7 @@ pub fn answers_are_pinned<C: LastWins, P: LastWins + PackableCodec>()
 /// A list of values that cost something is one up to the first record that is no value, and so where all
 /// records are values; and what a value leaves of a budget is one.
 ///
-/// Left open: what a record that is no value leaves, of which at most its cost is spent, and so which of the
+/// Not promised: what a record that is no value leaves, of which at most its cost is spent, and so which of the
 /// records behind it are values.
 pub fn costly_lists_are_pinned<C: SingularCodec>()
     ensures leaves { LeavesOne (C.one 100) (C.leaves 100) }
@@ -390,7 +390,7 @@ pub fn costly_lists_are_pinned<C: SingularCodec>()
 
 /// Values are written as one list of records, and packed values are read as one list.
 ///
-/// Left open: of a list that is refused, how many of its records stand, but never all.
+/// Not promised: of a list that is refused, how many of its records are there, but never all.
 pub fn encodings_are_pinned<C: SingularCodec>()
     ensures records { EncodingIsPinned }
     ensures unpacked { UnpackingIsPinned C.Value.meaning }
@@ -398,7 +398,7 @@ pub fn encodings_are_pinned<C: SingularCodec>()
 
 /// Memory aside, a value that is written isn't refused, and one that is refused is for one reason.
 ///
-/// Left open: whether memory runs out.
+/// Not promised: whether memory runs out.
 pub fn refusals_are_pinned<T>()
     ensures { (refusal : Option EncodeError) → RefusalIsPinned T refusal }
 {}

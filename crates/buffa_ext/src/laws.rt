@@ -32,13 +32,13 @@ use buffa_codec::{ExtensionCodec, LastWins, Repeated, SingularCodec};
 use buffa_wire::{Message, MessageSpec};
 use std::alloc::{AllocError, Global};
 
-/// `==` of steps says whether they are one step, and of faults whether they are one. It leaves nothing open.
+/// `==` of steps says whether they are one step, and of faults whether they are one. It leaves nothing out.
 pub fn equal_steps_are_one()
     ensures step { SameIsOneStep ⟦<Step as PartialEq>⟧.eq }
     ensures fault { SameIsOne ⟦<ReplayFault as PartialEq>⟧.eq }
 {}
 
-/// What `clone` makes of a fault is the same again, and it doesn't fail. It leaves nothing open.
+/// What `clone` makes of a fault is the same again, and it doesn't fail. It leaves nothing out.
 pub fn clones_are_these()
     ensures { IsCopied ⟦<ReplayFault as Clone>⟧.is_clone ⟦<ReplayFault as Clone>⟧.is_infallible }
 {}
@@ -48,20 +48,20 @@ pub fn last_step_counts()
     ensures { (n : ℕ) (rs : List (ℕ × Datum)) (cs : List NumberStep) → sub n (after rs cs) ≡ history n rs cs }
 {}
 
-/// A set leaves the other numbers, and its records stand last.
+/// A set leaves the other numbers, and its records come last.
 pub fn sets_leave_others()
     ensures others { LeavesOthers }
     ensures last { StandsLast }
 {}
 
-/// After a set the number's records hold what was set, those of other numbers stand, and no other list is so.
+/// After a set the number's records hold what was set, those of other numbers stay, and no other list is so.
 pub fn sets_take_the_place()
     ensures place { TakesThePlace }
     ensures others { KeepsTheRest }
     ensures exactly { IsExactlySet }
 {}
 
-/// After a clear no record of the number is there, those of other numbers stand, and no other list is so.
+/// After a clear no record of the number is there, those of other numbers stay, and no other list is so.
 pub fn clears_take_out()
     ensures { TakesOut }
 {}
@@ -211,8 +211,8 @@ pub fn defaults_are_these<V, F: Fn(Global) -> Result<V, AllocError>>()
 /// A message is read as one value or none; and merging records in order, or one at any depth, ends in one way,
 /// memory aside: it stops at the first encoding that is refused, or at none.
 ///
-/// Left open: where memory runs out, of those records up to the first refused encoding for which merging may
-/// take some (`asks`); which fault is told of that encoding, and how much of its own cost is spent.
+/// Not promised: where memory runs out, of those records up to the first refused encoding for which merging may
+/// take some (`asks`); which fault is returned for that encoding, and how much of its own cost is spent.
 pub fn messages_are_pinned<K: MessageRecord, M: Message>()
     ensures read { OneAnswer ⟦<MessageIn<K, M> as ExtensionCodec>⟧.reads }
     ensures merged { MergingIsPinned (M.merged 100) (M.cost 100) K.held (K.asks 100) }
@@ -222,7 +222,7 @@ pub fn messages_are_pinned<K: MessageRecord, M: Message>()
 /// A list of messages whose encodings cost together no more than a default budget has one answer:
 /// the value of each encoding that means one.
 ///
-/// Left open: past that budget, which records behind the first refused one are values.
+/// Not promised: past that budget, which records behind the first refused one are values.
 pub fn lists_of_messages_are_pinned<M: Message>()
     ensures delimited { ListIsExact ⟦<Repeated<MessageCodec<M>> as ExtensionCodec>⟧.reads (M.merged 100) (M.cost 100)
         M.blank_is bytes_held }
@@ -232,7 +232,7 @@ pub fn lists_of_messages_are_pinned<M: Message>()
 
 /// A number's value, or else its default, is one.
 ///
-/// Left open: which of the values that a declared default may be it is, where more than one may be.
+/// Not promised: which of the values that a declared default may be it is, where more than one may be.
 pub fn defaults_are_pinned<
     C: LastWins,
     D: Declared<C::Value>,
@@ -248,7 +248,7 @@ pub fn defaults_are_pinned<
 
 /// Sets and clears leave one list of records.
 ///
-/// Left open: how much room the list has, beyond what `room` says.
+/// Not promised: how much spare capacity the list has, beyond what `room` says.
 pub fn steps_are_pinned()
     ensures sets { SetIsPinned }
     ensures clears { ClearIsPinned }

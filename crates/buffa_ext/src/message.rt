@@ -132,7 +132,7 @@ impl<K: MessageRecord, M: Message> SingularCodec for MessageIn<K, M> {
     ghost spends = { λ b left d h. spent (M.merged 100) (M.cost 100) M.blank_is b left (encodings_in K.held (d ∷ [])) h };
 }
 
-/// Merges the encodings in all records of the number, 100 levels deep, and tells whether there is one. It
+/// Merges the encodings in all records of the number, 100 levels deep, and returns whether there is one. It
 /// spends exactly what they cost together.
 ///
 /// # Errors

@@ -40,7 +40,7 @@ pub trait MessageRecord {
     /// Holding an encoding takes no memory.
     ghost never_fails: { Type 0 };
 
-    /// Merges the encoding in a record of this kind, at the context's depth, and tells whether there is one.
+    /// Merges the encoding in a record of this kind, at the context's depth, and returns whether there is one.
     ///
     /// # Errors
     /// Those of [`Message::merge`], where there is one; out of memory only where merging it may take some.

@@ -40,7 +40,7 @@ pub enum Step {
 /// ```
 #[derive(Clone, Copy, Debug, PartialEq, Eq)]
 pub struct ReplayFault {
-    /// How many steps stand; the next one changed nothing.
+    /// How many steps were taken; the next one changed nothing.
     pub done: usize,
 }
 
@@ -80,8 +80,8 @@ fn replay_one(alloc: Global, fields: &mut UnknownFields, step: Step) -> Result<(
 /// Takes the steps, or those before the first for which there is no memory.
 ///
 /// # Errors
-/// Where memory runs out: how many steps stand. It runs out at no clear, and at no set to no records. No more
-/// room is taken than the steps that stand put records in.
+/// Where memory runs out: how many steps were taken. It runs out at no clear, and at no set to no records. No more
+/// spare capacity is used than these steps put records in.
 ///
 /// ```ignore
 /// replay(alloc, &mut fields, steps)?;

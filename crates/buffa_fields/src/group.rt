@@ -146,7 +146,7 @@ pub(crate) fn take_group<N: Message>(
     }
 }
 
-/// A message that may be absent, as a group. What is read is merged into the message that stands; where none does and a
+/// A message that may be absent, as a group. What is read is merged into the message that is there; where none is and a
 /// field is refused, none does afterwards.
 ///
 /// ```ignore

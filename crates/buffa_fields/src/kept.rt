@@ -41,7 +41,7 @@ impl Model for KeptFields {
     ghost view = { λ m. m.fields.records };
 }
 
-/// Reads the field whose tag was read, with so many unknown fields left, and says how many are left then.
+/// Reads the field whose tag was read, with so many unknown fields left, and returns how many are left then.
 ///
 /// # Errors
 /// Those of [`decode_unknown_field`].

@@ -1,4 +1,4 @@
-//! Proto types whose values can stand in a field by themselves.
+//! Proto types whose values can be in a field by themselves.
 
 ghost use Rattle.std.specs.Prelude.{◌≡◌, ◌++◌, ℕ, Bool, true};
 ghost use Rattle.buffa_wire.specs.Records.{Datum};
@@ -7,7 +7,7 @@ ghost use Rattle.buffa_bytes.specs.Values.{tag_encoding};
 
 use buffa_map::map_codec::MapCodec;
 
-/// A proto type whose values can stand in a field by themselves.
+/// A proto type whose values can be in a field by themselves.
 ///
 /// ```ignore
 /// impl Kind for Int32 { .. }

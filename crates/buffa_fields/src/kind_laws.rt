@@ -84,7 +84,7 @@ pub fn texts_and_enums_are_these<T: ProtoString, B: ProtoBytes, E: Enumeration>(
 {}
 
 /// Which members lose nothing of what they read: those whose codec returns only values that are declared, and those of
-/// messages. A layout with another one isn't sound. Nothing is open.
+/// messages. A layout with another one isn't sound. Nothing is left out.
 pub fn members_that_lose_nothing_are_these<C: Packable, KC: MapCodec, VC: MapCodec, N: Message>()
 where
     KC::Value: MapKey + Hash + OrderedKey,

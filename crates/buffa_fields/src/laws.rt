@@ -137,7 +137,7 @@ pub fn packed_lists_are_these<C: Packable>()
     ensures normal { (v : _) → ⟦<Packed<C> as Member>⟧.shape.normal v ↔ (AllByRecursion (λ x. C.fits x × C.normal x) v) }
 {}
 
-/// A message that may be absent: each record is merged into the one that stands.
+/// A message that may be absent: each record is merged into the one that is there.
 pub fn nested_members_are_these<N: Message>()
     ensures meaning { (p : _) → ⟦<Nested<N> as Member>⟧.shape.meaning p ≡ option_map N.meaning p }
     ensures blank { ⟦<Nested<N> as Member>⟧.shape.blank ≡ None }
@@ -174,7 +174,7 @@ pub fn lists_of_messages_are_these<N: Message>()
         ↔ (AllByRecursion (FitsInside N.normal N.records) v) }
 {}
 
-/// A message that may be absent, as a group: each group is merged into the one that stands.
+/// A message that may be absent, as a group: each group is merged into the one that is there.
 pub fn groups_are_these<N: Message>()
     ensures meaning { (p : _) → ⟦<Group<N> as Member>⟧.shape.meaning p ≡ option_map N.meaning p }
     ensures blank { ⟦<Group<N> as Member>⟧.shape.blank ≡ None }
@@ -461,7 +461,7 @@ pub fn keeping_packed_lists_are_these<E: Enumeration>()
     ensures costs { CostsEach ⟦<Packed<ClosedEnum<E>> as Member>⟧.shape ⟦<Packed<ClosedEnum<E>> as Keeping>⟧.aside }
 {}
 
-/// What keeps fields: the records that are kept, which more are put behind, and the members' own, which stand before
+/// What keeps fields: the records that are kept, which more are put behind, and the members' own, which come before
 /// them.
 pub fn kept_records_are_these<M: Fields, N: Keeping>()
     ensures keep { (get : M → List (ℕ × Datum)) (v rs : List (ℕ × Datum)) → ((keep get).keeps ≡ true)

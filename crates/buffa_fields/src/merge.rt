@@ -1,4 +1,4 @@
-//! Merging all fields, and what stands after a refusal.
+//! Merging all fields, and what a message holds after a refusal.
 
 ghost use Rattle.std.specs.Prelude.{◌≡◌, [], IfErr, OnOk};
 ghost use Rattle.buffa_bytes.specs.Gives.{FullOnlyIf};

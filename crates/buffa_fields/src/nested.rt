@@ -115,7 +115,7 @@ pub(crate) fn take_inside<N: Message>(
     }
 }
 
-/// A message that may be absent. What is read is merged into the message that stands; where none does and a field is
+/// A message that may be absent. What is read is merged into the message that is there; where none is and a field is
 /// refused, none does afterwards.
 ///
 /// ```ignore

@@ -86,7 +86,7 @@ fn write_parts<C: Kind, S: EncodeSink>(
 /// Writes a field.
 ///
 /// # Errors
-/// [`EncodeError::OutOfMemory`] where the sink has no room.
+/// [`EncodeError::OutOfMemory`] where the sink doesn't take it.
 ///
 /// ```ignore
 /// write_value::<C, S>(number, part, sink)

@@ -32,7 +32,7 @@ pub(crate) mod sealed {
 pub enum MapValueDecodeStatus {
     /// The value is taken.
     Known,
-    /// A number that a closed enum doesn't declare; the value stands as it stood.
+    /// A number that a closed enum doesn't declare; the value is as it was.
     Unknown,
 }
 
@@ -87,7 +87,7 @@ pub trait MapValueDecode: sealed::Sealed {
     /// all where four or eight bytes were asked for; of a length and bytes what follows the bytes, or the length where
     /// it passes the end.
     ///
-    /// Inside a message any error may be told, but a limit's only where the message's cost isn't left; at most
+    /// Inside a message any error may be returned, but a limit's only where the message's cost isn't left; at most
     /// that cost is spent then, and the value is some value of its type.
     ///
     /// ```ignore

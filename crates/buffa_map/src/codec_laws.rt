@@ -41,7 +41,7 @@ impl<VC: MapCodec> IsCodec for VC {
     } };
 }
 
-/// What these laws call a codec: how it reads and writes, and what is said of its values. Nothing is open.
+/// What these laws call a codec: how it reads and writes, and what is said of its values. Nothing is left out.
 pub fn coded_is_this<VC: MapCodec>()
     ensures reading { ⟦<VC as IsCodec>⟧.coded.reading ≡ VC.reading }
     ensures writing { ⟦<VC as IsCodec>⟧.coded.writing ≡ VC.writing }

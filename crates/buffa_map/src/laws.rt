@@ -1,4 +1,4 @@
-//! All laws of map fields, handed on; those of entries, runs, sizes and rewrites stand in `map_laws.rt`.
+//! All laws of map fields, handed on; those of entries, runs, sizes and rewrites are in `map_laws.rt`.
 
 ghost use Rattle.std.specs.Prelude.{◌≡◌, ◌↔◌, List, Some, true};
 ghost use Rattle.buffa_bytes.specs.Pinned.{IsCopied, SameIsOne};
@@ -33,13 +33,13 @@ pub fn rewrite_errors_print()
     ensures { (e : RewriteError) → ⟦<RewriteError as Display>⟧.output e ≡ Some (rewrite_error_text e) }
 {}
 
-/// `==` says exactly whether two of these are one. It leaves nothing open.
+/// `==` says exactly whether two of these are one. It leaves nothing out.
 pub fn equal_ones_are_one()
     ensures refusal { SameIsOne ⟦<RewriteError as PartialEq>⟧.eq }
     ensures status { SameIsOne ⟦<MapValueDecodeStatus as PartialEq>⟧.eq }
 {}
 
-/// What `clone` makes of each of these is the same again, and it doesn't fail. It leaves nothing open.
+/// What `clone` makes of each of these is the same again, and it doesn't fail. It leaves nothing out.
 pub fn clones_are_these()
     ensures refusal { IsCopied ⟦<RewriteError as Clone>⟧.is_clone ⟦<RewriteError as Clone>⟧.is_infallible }
     ensures status { IsCopied ⟦<MapValueDecodeStatus as Clone>⟧.is_clone

@@ -47,7 +47,7 @@ pub fn plain_entries_are_exact<KC: MapCodec, VC: MapCodec>()
     plain_entries_need_units::<KC, VC>();
 }
 
-/// A budget's error is told of an entry only where what it needs isn't left: its units, what the messages in
+/// A budget's error is returned for an entry only where what it needs isn't left: its units, what the messages in
 /// it cost, and the unknown field of one with an undeclared value, where it is kept.
 ///
 /// ```ignore

@@ -67,8 +67,8 @@ pub fn read_run_by<
 ///
 /// # Errors
 /// The first fault of a record, in this order: of its tag; [`DecodeError::UnexpectedField`] for another
-/// number; [`DecodeError::WireTypeMismatch`]; those of [`crate::entry::merge_entry_with_unknowns`]. What
-/// the records before it say stands in the map and in the list, and what they cost stays spent.
+/// number; [`DecodeError::WireTypeMismatch`]; those of [`crate::entry::merge_entry_with_unknowns`]. The
+/// entries of the records before it are in the map and in the list, and what they cost stays spent.
 ///
 /// Source: the protobuf encoding guide, "Maps".
 ///

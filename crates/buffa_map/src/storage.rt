@@ -42,7 +42,7 @@ pub trait MapStorage {
     /// Holds of a map and the pairs, in order, that one walk of it may give.
     ghost walks: { Self → List (Self.Key.Meaning × Self.Value.Meaning) → Type 0 };
 
-    /// Whether the pairs stand in the order in which their keys came.
+    /// Whether the pairs are in the order in which their keys came.
     ghost keeps_order: { Bool };
 
     /// The number of pairs.

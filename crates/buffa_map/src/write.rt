@@ -1,6 +1,6 @@
 //! The encoding of a map field whose values are no messages, written in one pass.
 //!
-//! The steps of a record stand inside the loop over the pairs (`inline`): a call would hand each result over in
+//! The steps of a record are inside the loop over the pairs (`inline`): a call would hand each result over in
 //! memory, which cost a third of the time.
 
 ghost use Rattle.std.specs.Prelude.{◌++◌};

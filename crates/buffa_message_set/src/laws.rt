@@ -21,7 +21,7 @@ pub fn written_items_are_items()
     ensures only { NoOtherFront }
 {}
 
-/// An Item is read exactly where the grammar has one, and a fault is told exactly where the grammar has it.
+/// An Item is read exactly where the grammar has one, and a fault is returned exactly where the grammar has it.
 ///
 /// Out of memory is no fault of the bytes, and the type id of an Item is 1 to 2,147,483,647.
 pub fn items_are_read()
@@ -46,15 +46,15 @@ pub fn items_are_groups()
 
 /// Bytes, a depth and a budget have one answer as an Item, and leave one budget.
 ///
-/// What is left open: after a refusal, how much stays unread (a tail of what was there, and all of it where
-/// no unknown field was left); and where memory runs out, which is told only where message bytes are there.
+/// Not promised: after a refusal, how much stays unread (a tail of what was there, and all of it where
+/// no unknown field was left); and where memory runs out, which is returned only where message bytes are there.
 pub fn items_are_pinned()
     ensures { ItemIsPinned }
 {}
 
 /// A type id and a message are written in one way, and no others have that encoding.
 ///
-/// What is left open: where memory runs out, how much of the encoding stands.
+/// Not promised: where memory runs out, how much of the encoding is written.
 pub fn written_items_are_pinned()
     ensures { WrittenItemIsPinned }
 {}

@@ -135,10 +135,10 @@ fn write_message<S: EncodeSink>(payload: &[u8], sink: &mut S) -> Result<(), Enco
 ///
 /// # Errors
 /// The first fault, and nothing else is handed out: [`DecodeError::UnknownFieldLimitExceeded`] where no
-/// unknown field is left, and then none is spent and nothing is read; of a tag, as [`Tag::decode`] tells it;
+/// unknown field is left, and then none is spent and nothing is read; of a tag, as [`Tag::decode`] returns it;
 /// of a varint or a length; [`DecodeError::InvalidMessageSet`] for a type id out of range, at once, and for
 /// none at the end; [`DecodeError::InvalidEndGroup`] for an end tag of another number; of a field that is
-/// passed over, as [`skip_field_depth`] tells it. Or [`DecodeError::OutOfMemory`].
+/// passed over, as [`skip_field_depth`] returns it. Or [`DecodeError::OutOfMemory`].
 ///
 /// Source: the documentation of buffa, "MessageSet wire format helpers".
 ///

@@ -47,7 +47,7 @@ impl SizeCache {
         }
     }
 
-    /// Asks for room for so many slots more, in one request for memory in place of many. A hint, for speed: only
+    /// Asks for memory for so many slots more, in one request for memory in place of many. A hint, for speed: only
     /// that the slots stay is promised.
     ///
     /// # Errors

@@ -40,7 +40,7 @@ pub trait MessageForm<M: Blank> {
     /// At a depth, what merging bytes costs, malformed ones too.
     ghost cost: { ℕ → List ℕ → BudgetLeft };
 
-    /// At a depth, what may stand of a value where a field of it is refused.
+    /// At a depth, what a value may hold where a field of it is refused.
     ghost Refused: { FieldRefused M.Meaning };
 
     /// The records that a value is written as.

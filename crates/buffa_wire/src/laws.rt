@@ -1,4 +1,4 @@
-//! What the definitions of the wire say together, and what its contracts leave open: laws, each a function with nothing
+//! What the definitions of the wire say together, and what its contracts leave out: laws, each a function with nothing
 //! to do, whose contract is the law.
 
 pub mod fields;

@@ -71,7 +71,7 @@ pub trait MessageSpec: Blank {
     /// At a depth, what merging bytes costs, malformed ones too.
     ghost cost: { ℕ → List ℕ → BudgetLeft };
 
-    /// At a depth, what may stand of a value where a field of it is refused; a type may leave it open.
+    /// At a depth, what a value may hold where a field of it is refused; a type may not say it.
     ghost Refused: { FieldRefused Self.Meaning };
 
     /// The encoding of a value.
@@ -188,8 +188,8 @@ pub trait Message: MessageSpec {
     ///
     /// # Errors
     /// Those of [`Message::merge`], of this field alone where its payload is whole; never
-    /// [`DecodeError::OutOfMemory`] for an end tag. The value is then one that its type lets stand after this field was
-    /// refused.
+    /// [`DecodeError::OutOfMemory`] for an end tag. What the value holds then is said by its type (`Refused`).
+    /// It may leave that out.
     ///
     /// ```ignore
     /// let tag = Tag::decode(&mut rest)?;
@@ -214,8 +214,8 @@ pub trait Message: MessageSpec {
     /// Where the bytes mean no value, any error but those of a budget, [`DecodeError::UnknownFieldLimitExceeded`] and
     /// [`DecodeError::ElementMemoryLimitExceeded`]; where what they cost isn't left, any error. And
     /// [`DecodeError::OutOfMemory`], only where a tag that is no end tag begins the bytes. The fields before the refused
-    /// one are merged then, and of that one there stands what [`Message::merge_field`] leaves. The buffer stands
-    /// anywhere in the bytes.
+    /// one are merged then, and of that one there is what [`Message::merge_field`] leaves. What is unread then is some
+    /// end of the bytes.
     ///
     /// ```ignore
     /// info.merge(alloc, &mut rest, DecodeContext::new(20, &mut budget))?;

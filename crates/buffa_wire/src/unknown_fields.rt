@@ -1,6 +1,6 @@
 //! Unknown fields: the fields of a message that its type does not declare, kept as they came.
 //!
-//! A contract sees a record, a number and what its payload holds, and a list of records with the room for
+//! A contract sees a record, a number and what its payload holds, and a list of records with the spare capacity for
 //! more. What is read, written and compared goes by records alone.
 
 pub mod copy;

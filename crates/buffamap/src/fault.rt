@@ -9,7 +9,7 @@ use hex::FromHexError;
 use std::alloc::{AllocError, AllocFailed};
 use thiserror::Error;
 
-/// Why a call has no answer. Its own text is never printed: what is told of it is said in [`crate::reply::tell`].
+/// Why a call has no answer. Its own text is never printed: [`crate::reply::tell`] says what is printed of it.
 #[derive(Clone, Copy, Debug, PartialEq, Eq, Error)]
 pub enum Fault {
     /// The words are no command.

@@ -23,19 +23,19 @@ use hex::FromHexError;
 use std::alloc::{AllocError, AllocFailed};
 use std::io::{Read, Sink, Write};
 
-/// `read N` has one reply to each input. Memory is left open: the reply may be that it ran out.
+/// `read N` has one reply to each input. When memory runs out isn't said: the reply may be that it did.
 pub fn one_reply_to_read(number: u32)
     ensures one { ReplyIsPinned (RepliesToRead number) }
     ensures there { HasReply (RepliesToRead number) }
 {}
 
-/// `write N` has one reply to each input. Memory is left open: the reply may be that it ran out.
+/// `write N` has one reply to each input. When memory runs out isn't said: the reply may be that it did.
 pub fn one_reply_to_write(number: u32)
     ensures one { ReplyIsPinned (RepliesToWrite number) }
     ensures there { HasReply (RepliesToWrite number) }
 {}
 
-/// `rewrite N` has one reply to each input. Memory is left open: the reply may be that it ran out.
+/// `rewrite N` has one reply to each input. When memory runs out isn't said: the reply may be that it did.
 pub fn one_reply_to_rewrite(number: u32)
     ensures one { ReplyIsPinned (RepliesToRewrite number) }
     ensures there { HasReply (RepliesToRewrite number) }
@@ -55,26 +55,26 @@ pub fn rewrites_keep_their_meaning(number: u32)
     buffa_map::laws::one_reading::<Int32, ClosedEnum<Choice>>();
 }
 
-/// `ext N` has one reply to each input. Memory is left open: the reply may be that it ran out.
+/// `ext N` has one reply to each input. When memory runs out isn't said: the reply may be that it did.
 pub fn one_reply_to_ext(number: u32)
     ensures one { ReplyIsPinned (RepliesToExt number) }
     ensures there { HasReply (RepliesToExt number) }
 {}
 
-/// `item` has one reply to each input. Memory is left open: the reply may be that it ran out.
+/// `item` has one reply to each input. When memory runs out isn't said: the reply may be that it did.
 pub fn one_reply_to_item()
     ensures one { ReplyIsPinned RepliesToItem }
     ensures there { HasReply RepliesToItem }
 {}
 
-/// `again` has one reply to each input that it accepts, and refuses every other; of any message. Which fault is told of
-/// bytes that are refused is left open, and memory: the reply may be that it ran out.
+/// `again` has one reply to each input that it accepts, and refuses every other; of any message. It doesn't say which
+/// fault is named of bytes that are refused, nor when memory runs out: the reply may be that it did.
 pub fn one_reply_to_again<M: MessageSpec>()
     ensures one { ReplyIsPinnedButForFaults (RepliesToAgain M.merged M.cost M.encoding M.blank_is) }
     ensures there { HasReply (RepliesToAgain M.merged M.cost M.encoding M.blank_is) }
 {}
 
-/// Which numbers the enum of `rewrite N` declares, and no others, by which values, and its default. Nothing is open.
+/// Which numbers the enum of `rewrite N` declares, and no others, by which values, and its default. Nothing is left out.
 pub fn choices_are_these()
     ensures declared { (n : ℤ) → choice_of n
         ≡ (if int_eq n (pos 0) then Some Choice.A else if int_eq n (pos 1) then Some Choice.B else None) }
@@ -83,7 +83,7 @@ pub fn choices_are_these()
     ensures blank { ⟦<Choice as Blank>⟧.blank_is ≡ pos 0 }
 {}
 
-/// Which fault an error of a layer below is: no other, and out of memory where memory ran out. Nothing is open.
+/// Which fault an error of a layer below is: no other, and out of memory where memory ran out. Nothing is left out.
 pub fn faults_are_these<T: Drop>()
     ensures none { (e : AllocError) (f : Fault) → ⟦<Fault as From<AllocError>>⟧.from_gives e f → f ≡ Fault.OutOfMemory }
     ensures failed { (e : AllocFailed T) (f : Fault) → ⟦<Fault as From<AllocFailed<T>>>⟧.from_gives e f →
@@ -95,7 +95,7 @@ pub fn faults_are_these<T: Drop>()
 {}
 
 /// A call of bytes in memory, as a reader, or of a sink that keeps nothing, as a writer, never fails; what is left to read is
-/// these bytes, and what a sink has is what std says of it. Nothing is open.
+/// these bytes, and what a sink has is what std says of it. Nothing is left out.
 pub fn sure_calls_never_fail()
     ensures reader { (bytes : _) → ⟦<&'static [u8] as ReadCalls>⟧.failed bytes ≡ false }
     ensures writer { (sink : _) → ⟦<Sink as WriteCalls>⟧.failed sink ≡ false }
@@ -104,8 +104,8 @@ pub fn sure_calls_never_fail()
 {}
 
 /// One call of the program has one status, and leaves its output and its errors in one way, where no call of its streams
-/// failed; whichever failed, it has one output, if its status is neither 3 nor 4. Left open: that memory ran out; which
-/// fault `again` tells of bytes that it refuses; how much of a line stands on a stream that failed; and a reader or a
+/// failed; whichever failed, it has one output, if its status is neither 3 nor 4. Not promised: that memory ran out; which
+/// fault `again` names of bytes that it refuses; how much of a line is on a stream that failed; and a reader or a
 /// writer that doesn't tell its bytes.
 pub fn one_answer_to_a_call(words: &[&str])
     ensures { CallIsPinned words.now }

@@ -32,7 +32,7 @@ fn complain<C: WriteCalls>(status: u8, line: &[u8], errors: &mut C) -> u8
     status
 }
 
-/// Writes the text to the output and answers the status; where the output fails, that is told.
+/// Writes the text to the output and returns the status; where the output fails, a line on the error stream says so.
 pub fn finish<B: WriteCalls, C: WriteCalls>(
     status: u8,
     text: &[u8],

@@ -17,8 +17,8 @@ use buffa_wire::{
 use std::alloc::Global;
 use std::marker::PhantomData;
 
-/// A closed enum: a declared value. For a number that the enum doesn't declare the value stands as it
-/// stood, and the payload isn't a declared one.
+/// A closed enum: a declared value. For a number that the enum doesn't declare the value stays as it
+/// was, and the payload isn't a declared one.
 ///
 /// ```ignore
 /// read_map_field::<Int32, ClosedEnum<Old>, _, _>(alloc, &mut map, 5, &mut rest, ctx, Some(&mut unknown))?;

@@ -56,7 +56,7 @@ use bytes::{Bytes, BytesMut};
 use std::alloc::{AllocError, AllocFailed};
 use std::fmt;
 
-/// A varint is read exactly where a spelling begins the bytes, and a fault is told exactly where the
+/// A varint is read exactly where a spelling begins the bytes, and a fault is returned exactly where the
 /// grammar has it.
 pub fn varints_are_read()
     ensures ok { (bs : List ℕ) (n : ℕ) (rest : List ℕ) → (varint_at bs ≡ Ok (n, rest)) ↔ TakesVarint bs n rest }
@@ -115,7 +115,7 @@ pub fn memory_is_no_fault()
 {}
 
 /// Refused memory is out of memory, and nothing else, where `?` hands it on, with a value or with none. It leaves nothing
-/// open.
+/// out.
 pub fn refused_memory_is_out_of_memory<T: Drop>()
     ensures decode { (e : _) (f : _) → ⟦<DecodeError as From<AllocError>>⟧.from_gives e f ↔ (f ≡ OutOfMemory) }
     ensures decode_with_value { (e : _) (f : _) → ⟦<DecodeError as From<AllocFailed<T>>>⟧.from_gives e f ↔ (f ≡ OutOfMemory) }
@@ -263,13 +263,13 @@ pub fn values_are_read_of_contents<V>()
         ≡ content_by LengthDelimited (λ c. text_as of (bytes_in c)) bs }
 {}
 
-/// What reads and takes no memory has one answer, and leaves one rest of refused bytes. It leaves open what is unread
+/// What reads and takes no memory has one answer, and leaves one rest of refused bytes. It doesn't say what is unread
 /// after a refusal within a group.
 pub fn answers_are_pinned<X, Y>()
     ensures { AnswerIsPinned X Y }
 {}
 
-/// What refused bytes leave, in the words of the grammar. It leaves groups open, of which a tail is left.
+/// What refused bytes leave, in the words of the grammar. It leaves out groups, of which a tail is left.
 pub fn rests_are_these()
     ensures no_varint { (bs : List ℕ) → past_no_varint bs ≡ drop 10 bs }
     ensures no_number { (bs : List ℕ) (e : DecodeError) → VarintFault bs e → (past_no_tag bs ≡ drop 10 bs)
@@ -284,31 +284,31 @@ pub fn rests_are_these()
     ensures fixed { (bs : List ℕ) → (past_no_payload Fixed32 bs ≡ bs) × (past_no_payload Fixed64 bs ≡ bs) }
 {}
 
-/// The same of what takes memory. It leaves open whether out of memory is told where the whole is there and isn't
+/// The same of what takes memory. It doesn't say whether out of memory is returned where the whole is there and isn't
 /// empty, and how much of the whole is unread then.
 pub fn answers_are_pinned_unless_full<X, Y, Z>()
     ensures { AnswerIsPinnedUnlessFull X Y Z }
 {}
 
-/// The bytes that are lent to a function are those at the front, and it is called once, or not at all. It leaves open
-/// which of the function's answers is given, whether out of memory is told where there is a byte or more, and how many
+/// The bytes that are lent to a function are those at the front, and it is called once, or not at all. It doesn't say
+/// which of the function's answers is given, whether out of memory is returned where there is a byte or more, and how many
 /// are unread then.
 pub fn lent_bytes_are_pinned<T, F: FnMut(&[u8]) -> Result<T, DecodeError>>()
     ensures { LentIsPinned F.FnMut }
 {}
 
-/// An encoding is written in one way. It leaves open whether an encoding is refused that doesn't fit for
-/// sure, before which of its bytes, and whether more room is left than is promised.
+/// An encoding is written in one way. It doesn't say whether an encoding is refused that doesn't fit the
+/// spare capacity, before which of its bytes, and whether more capacity is left than is promised.
 pub fn writes_are_pinned<T>()
     ensures { WriteIsPinned T }
 {}
 
-/// Chunks and fronts of the same bytes are beginnings of them. It leaves open where a chunk ends.
+/// Chunks and fronts of the same bytes are beginnings of them. It doesn't say where a chunk ends.
 pub fn chunks_are_pinned()
     ensures { ChunkIsPinned }
 {}
 
-/// What the values of each type mean, and its default. It leaves open the capacity and the layout of a text.
+/// What the values of each type mean, and its default. It says nothing of the capacity and the layout of a text.
 pub fn meanings_are_these()
     ensures int32 { Means (λ n. n) (pos 0) ⟦<i32 as Blank>⟧.meaning ⟦<i32 as Blank>⟧.blank_is }
     ensures int64 { Means (λ n. n) (pos 0) ⟦<i64 as Blank>⟧.meaning ⟦<i64 as Blank>⟧.blank_is }
@@ -320,7 +320,7 @@ pub fn meanings_are_these()
     ensures shared { Means (λ b. b) [] ⟦<Bytes as Blank>⟧.meaning ⟦<Bytes as Blank>⟧.blank_is }
 {}
 
-/// Two values of each of these types are one key exactly where they mean the same. It leaves nothing open.
+/// Two values of each of these types are one key exactly where they mean the same. It leaves nothing out.
 pub fn keys_are_these()
     ensures int32 { SameIsOne ⟦<i32 as MapKey>⟧.same }
     ensures int64 { SameIsOne ⟦<i64 as MapKey>⟧.same }
@@ -332,13 +332,13 @@ pub fn keys_are_these()
     ensures shared { SameIsOne ⟦<Bytes as MapKey>⟧.same }
 {}
 
-/// The text of a `String`, and the bytes of a vector, are its bytes. It leaves nothing open.
+/// The text of a `String`, and the bytes of a vector, are its bytes. It leaves nothing out.
 pub fn values_are_their_bytes()
     ensures string { IsItsBytes ⟦<String as ProtoString>⟧.text ⟦<String as ProtoString>⟧.of_text }
     ensures bytes { IsItsBytes ⟦<Vec<u8> as ProtoBytes>⟧.bytes ⟦<Vec<u8> as ProtoBytes>⟧.of_bytes }
 {}
 
-/// The bytes that each buffer shows, and what it keeps past them. It leaves open where chunks of pieces end.
+/// The bytes that each buffer shows, and what it keeps past them. It doesn't say where chunks of pieces end.
 pub fn buffers_are_these<B: Buf>()
     ensures slice { ShowsBytes (λ s. s.now) ⟦<&'static [u8] as Buf>⟧.unread ⟦<&'static [u8] as Buf>⟧.beyond }
     ensures shared { ShowsBytes (λ b. b) ⟦<Bytes as Buf>⟧.unread ⟦<Bytes as Buf>⟧.beyond }
@@ -356,14 +356,14 @@ pub fn fronts_let_go_stay<B: Buf + Drop>(buf: &mut B, limit: usize)
     }
 }
 
-/// An adapted buffer shows what the one within does, and keeps what that one keeps. It leaves open where chunks end.
+/// An adapted buffer shows what the one within does, and keeps what that one keeps. It doesn't say where chunks end.
 #[tactic(auto, using(buffa_bytes::proofs::AdaptedLemmas::kept_is_one))]
 pub fn adapted_buffers_are_these<B: bytes::Buf>()
     ensures inner { ShowsInner ⟦<Adapted<B> as Buf>⟧.unread ⟦<Adapted<B> as Buf>⟧.beyond (λ s. s.0) B.unread B.kept }
     ensures kept { (x y : List (List ℕ × ℕ)) → kept_beyond x ≡ kept_beyond y → x ≡ y }
 {}
 
-/// What was written to a vector or to a `BytesMut`, and its room. It leaves nothing open.
+/// What was written to a vector or to a `BytesMut`, and its spare capacity. It leaves nothing out.
 pub fn sinks_are_these()
     ensures written { (v : Vec ℕ Global) → ⟦<Vec<u8> as EncodeSink>⟧.written v ≡ v.items }
     ensures room { (v : Vec ℕ Global) → ⟦<Vec<u8> as EncodeSink>⟧.room v ≡ vec_capacity v - vec_len v }
@@ -371,7 +371,7 @@ pub fn sinks_are_these()
     ensures spare { (b : Filled) → ⟦<BytesMut as EncodeSink>⟧.room b ≡ b.spare }
 {}
 
-/// Two types of one's own for strings read one text out of the same bytes. It leaves open how a value holds its text.
+/// Two types of one's own for strings read one text out of the same bytes. It doesn't say how a value holds its text.
 pub fn own_strings_are_pinned<S: ProtoString, T: ProtoString>()
     ensures one { (bs x y : List ℕ) (s : S.Meaning) (t : T.Meaning) → string_as S.of_text bs ≡ Ok (s, x) →
         string_as T.of_text bs ≡ Ok (t, y) → (S.text s ≡ T.text t) × (x ≡ y) }
@@ -392,7 +392,7 @@ pub fn own_keys_are_pinned<K: MapKey, P: PlainKey>()
     ensures plain { (a b : P) → (P.eq a b ≡ true) ↔ (P.meaning a ≡ P.meaning b) }
 {}
 
-/// `==` says exactly whether two of these are one: two tags by what they hold. It leaves nothing open.
+/// `==` says exactly whether two of these are one: two tags by what they hold. It leaves nothing out.
 pub fn equal_ones_are_one()
     ensures wire_type { SameIsOne ⟦<WireType as PartialEq>⟧.eq }
     ensures item { SameIsOne ⟦<MessageSetFault as PartialEq>⟧.eq }
@@ -402,7 +402,7 @@ pub fn equal_ones_are_one()
         × (a.wire_type ≡ b.wire_type)) }
 {}
 
-/// What `clone` makes of each of these is the same again, and it doesn't fail. It leaves nothing open.
+/// What `clone` makes of each of these is the same again, and it doesn't fail. It leaves nothing out.
 pub fn clones_are_these()
     ensures wire_type { IsCopied ⟦<WireType as Clone>⟧.is_clone ⟦<WireType as Clone>⟧.is_infallible }
     ensures item { IsCopied ⟦<MessageSetFault as Clone>⟧.is_clone ⟦<MessageSetFault as Clone>⟧.is_infallible }
@@ -411,7 +411,7 @@ pub fn clones_are_these()
     ensures tag { IsCopied ⟦<Tag as Clone>⟧.is_clone ⟦<Tag as Clone>⟧.is_infallible }
 {}
 
-/// What is printed of each error, in std's words for text. It leaves nothing open.
+/// What is printed of each error, in std's words for text. It leaves nothing out.
 pub fn errors_print_these()
     ensures decode { (e : DecodeError) → ⟦<DecodeError as fmt::Display>⟧.output e ≡ Some (decode_error_text e) }
     ensures encode { (e : EncodeError) → ⟦<EncodeError as fmt::Display>⟧.output e ≡ Some (encode_error_text e) }

@@ -33,7 +33,7 @@ use crate::unknown_fields::{UnknownField, UnknownFieldData, UnknownFields};
 use buffa_bytes::Blank;
 
 /// Whole bytes are read as records exactly where the grammar has them and an unknown field is left for each
-/// record, nested ones too; else the first fault is told.
+/// record, nested ones too; else the first fault is returned.
 pub fn records_are_read()
     ensures ok { (d s : ℕ) (bs : List ℕ) (rs : List (ℕ × Datum)) → (list_at d s bs ≡ Ok rs)
         ↔ (Parse d bs (records_of rs) × (field_count (records_of rs) ≤ s)) }
@@ -49,7 +49,7 @@ pub fn fields_are_read()
 {}
 
 /// What a field costs that is kept, a malformed one too: it is refused for want of unknown fields exactly where fewer are
-/// left. With more of them the same is told, and so many more are left then. Nothing is open.
+/// left. With more of them the result is the same, and so many more are left then. Nothing is left out.
 pub fn kept_fields_cost_so_much()
     ensures limit { (d s n : ℕ) (w : WireType) (bs : List ℕ) → (field_at d s n w bs ≡ Err UnknownFieldLimitExceeded)
         ↔ (s < (keep_need d n w bs).unknown) }
@@ -124,9 +124,9 @@ pub fn costs_add<M: MessageSpec>()
 
 /// Whole bytes are merged in one way, and what is merged isn't refused, memory aside.
 ///
-/// Open: on a refusal which error tells it (any but a limit's where the bytes mean no value, any where their cost
-/// isn't left), what is left of the budget between nothing and all of the cost spent, where the buffer stands, and what
-/// the type leaves open of the field that is refused.
+/// Not promised: on a refusal which error is returned (any but a limit's where the bytes mean no value, any where their cost
+/// isn't left), what is left of the budget between nothing and all of the cost spent, what is unread, and what
+/// the type doesn't say of the field that is refused.
 pub fn merging_is_pinned<M: Message>()
     ensures { (d : ℕ) (old : M.Meaning) (bs : List ℕ) (before : BudgetLeft) → MergeIsPinned (M.merged d old bs)
         (M.cost d bs) before }
@@ -134,7 +134,7 @@ pub fn merging_is_pinned<M: Message>()
 
 /// The same of one field, and of what follows it.
 ///
-/// Open: what is open of whole bytes, and what is left of the buffer after a refusal.
+/// Not promised: what isn't promised of whole bytes, and what is left of the buffer after a refusal.
 pub fn merging_a_field_is_pinned<M: Message>()
     ensures { (d n : ℕ) (w : WireType) (t : List ℕ) (tag : IsTag t n w) (old : M.Meaning) (bs : List ℕ)
         (before : BudgetLeft) → FieldMergeIsPinned M.merged M.cost d n w t tag old bs before }
@@ -142,8 +142,8 @@ pub fn merging_a_field_is_pinned<M: Message>()
 
 /// The same of a length and a message, which leave one rest of bytes that are refused.
 ///
-/// Open: what is open of whole bytes; and where memory runs out, how many of the bytes are unread, but no fewer than
-/// follow the message.
+/// Not promised: what isn't promised of whole bytes; and where memory runs out, how many of the bytes are unread,
+/// but no fewer than follow the message.
 pub fn merging_inside_is_pinned<M: Message>()
     ensures { (d : ℕ) (old : M.Meaning) (bs : List ℕ) (before : BudgetLeft) → InsideIsPinned M.merged M.cost d old bs
         before }
@@ -151,7 +151,7 @@ pub fn merging_inside_is_pinned<M: Message>()
 
 /// A value is sized and, where its encoding is small, written in one way.
 ///
-/// Open: when memory runs out, how many slots are reserved then, and what is written of an encoding that
+/// Not promised: when memory runs out, how many slots are reserved then, and what is written of an encoding that
 /// isn't small.
 pub fn passes_are_pinned()
     ensures { (encoding slots : List ℕ) (old : Cache) → PassesArePinned encoding slots old }
@@ -159,16 +159,16 @@ pub fn passes_are_pinned()
 
 /// A field, and whole bytes, are read as one list of records, or refused by one fault.
 ///
-/// Open: when memory runs out of those cases where reading takes any, and what is unread then; of a group
+/// Not promised: when memory runs out of those cases where reading takes any, and what is unread then; of a group
 /// that is refused how many of the unknown fields left are spent, at most one and one for each byte that was
-/// read, and where the buffer stands.
+/// read, and what is unread.
 pub fn records_are_pinned()
     ensures field { (d s n : ℕ) (w : WireType) (bs : List ℕ) → FieldIsPinned d s n w bs }
     ensures whole { (d s : ℕ) (bs : List ℕ) → RecordsArePinned d s bs }
 {}
 
 /// A type that is a message as another says means, costs and is written as that one says, and of a field that is
-/// refused there stands what that one says. Open is where memory runs out: the calls of the message say that.
+/// refused it leaves what that one says. It doesn't say where memory runs out: the calls of the message do.
 pub fn formed_messages_are_these<M: Formed>()
 where
     M::Form: MessageForm<M>,
@@ -183,13 +183,13 @@ where
     ensures units { ⟦<M as MessageSpec>⟧.COST ≡ M.Form.COST }
 {}
 
-/// What is spent leaves one budget, and it is spent exactly where it is there. Nothing is open.
+/// What is spent leaves one budget, and it is spent exactly where it is there. Nothing is left out.
 pub fn budgets_are_pinned()
     ensures { (left need : BudgetLeft) → BudgetIsPinned left need }
 {}
 
 /// What a value of an open enum means: of a declared value that it is declared, and its number; of a number that it is
-/// none, and the number. It is read as the declared value of the number, where one has it. Nothing is open.
+/// none, and the number. It is read as the declared value of the number, where one has it. Nothing is left out.
 pub fn open_enums_are_these<E: Enumeration>()
     ensures known { (v : E) → ⟦<EnumValue<E> as Blank>⟧.meaning (EnumValue.Known v) ≡ (true, E.meaning v) }
     ensures number { (n : ℤ) → ⟦<EnumValue<E> as Blank>⟧.meaning (EnumValue.Unknown n) ≡ (false, n) }
@@ -199,7 +199,7 @@ pub fn open_enums_are_these<E: Enumeration>()
 
 /// `==` of values of an open enum: declared ones are compared by their type, numbers as numbers, and a declared one
 /// never equals a number. `clone` clones a declared one by its type, and fails only where that may fail; a number is
-/// the same. Nothing else is open.
+/// the same. Nothing else is left out.
 pub fn open_enums_are_compared<E: Enumeration + Clone + PartialEq>()
     ensures known { (a b : E) → ⟦<EnumValue<E> as PartialEq>⟧.eq (EnumValue.Known a) (EnumValue.Known b) ≡ E.eq a b }
     ensures number { (m n : ℤ) → (⟦<EnumValue<E> as PartialEq>⟧.eq (EnumValue.Unknown m) (EnumValue.Unknown n) ≡ true)
@@ -216,7 +216,7 @@ pub fn open_enums_are_compared<E: Enumeration + Clone + PartialEq>()
 {}
 
 /// Slots are consumed in the order in which they were reserved: those that are appended where all are consumed are
-/// the next ones, and the first of the next ones is consumed. Nothing is open but the room, of which nothing is said.
+/// the next ones, and the first of the next ones is consumed. Nothing is left out but the spare capacity.
 pub fn slots_are_consumed_in_order()
     ensures reserved { (slots : List ℕ) (c : Cache) → c.next ≡ length c.slots → IsNext slots (appended slots c) }
     ensures consumed { (n : ℕ) (slots : List ℕ) (c : Cache) → IsNext (n ∷ slots) c →

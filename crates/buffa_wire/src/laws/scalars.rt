@@ -19,7 +19,7 @@ use crate::scalars::{
     Bool, Fixed32, Fixed64, Int32, Int64, Sfixed32, Sfixed64, Sint32, Sint64, Uint32, Uint64,
 };
 
-/// What is written of a value of each scalar. Nothing is open.
+/// What is written of a value of each scalar. Nothing is left out.
 pub fn scalars_are_written()
     ensures int32 { IsSpelled ⟦<Int32 as Scalar>⟧.number_of ⟦<<Int32 as Scalar>::Form as Form>⟧.encoding int32_encoding }
     ensures int64 { IsSpelled ⟦<Int64 as Scalar>⟧.number_of ⟦<<Int64 as Scalar>::Form as Form>⟧.encoding int64_encoding }
@@ -34,7 +34,7 @@ pub fn scalars_are_written()
     ensures sfixed64 { IsSpelled ⟦<Sfixed64 as Scalar>⟧.number_of ⟦<<Sfixed64 as Scalar>::Form as Form>⟧.encoding sfixed64_encoding }
 {}
 
-/// What the number in an encoding of each scalar means. Nothing is open.
+/// What the number in an encoding of each scalar means. Nothing is left out.
 pub fn scalars_are_read()
     ensures int32 { (n : ℕ) → ⟦<Int32 as Scalar>⟧.value_of n ≡ int32_of n }
     ensures int64 { (n : ℕ) → ⟦<Int64 as Scalar>⟧.value_of n ≡ int64_of n }
@@ -49,7 +49,7 @@ pub fn scalars_are_read()
     ensures sfixed64 { (n : ℕ) → ⟦<Sfixed64 as Scalar>⟧.value_of n ≡ sfixed64_of n }
 {}
 
-/// The wire type of each scalar's payloads. Nothing is open.
+/// The wire type of each scalar's payloads. Nothing is left out.
 pub fn scalars_have_wire_types()
     ensures int32 { ⟦<<Int32 as Scalar>::Form as Form>⟧.WIRE_TYPE ≡ wire.Varint }
     ensures int64 { ⟦<<Int64 as Scalar>::Form as Form>⟧.WIRE_TYPE ≡ wire.Varint }
@@ -64,7 +64,7 @@ pub fn scalars_have_wire_types()
     ensures sfixed64 { ⟦<<Sfixed64 as Scalar>::Form as Form>⟧.WIRE_TYPE ≡ wire.Fixed64 }
 {}
 
-/// What a value of each scalar costs where it is an element. Nothing is open.
+/// What a value of each scalar costs where it is an element. Nothing is left out.
 pub fn scalars_cost_so_much()
     ensures int32 { ⟦<Int32 as Scalar>⟧.UNITS ≡ 4 }
     ensures int64 { ⟦<Int64 as Scalar>⟧.UNITS ≡ 8 }
@@ -79,7 +79,7 @@ pub fn scalars_cost_so_much()
     ensures sfixed64 { ⟦<Sfixed64 as Scalar>⟧.UNITS ≡ 8 }
 {}
 
-/// The length of each scalar's encodings, where they have one. Nothing is open.
+/// The length of each scalar's encodings, where they have one. Nothing is left out.
 pub fn scalars_have_lengths()
     ensures int32 { ⟦<Int32 as Scalar>⟧.LEN ≡ None }
     ensures int64 { ⟦<Int64 as Scalar>⟧.LEN ≡ None }
@@ -94,7 +94,7 @@ pub fn scalars_have_lengths()
     ensures sfixed64 { ⟦<Sfixed64 as Scalar>⟧.LEN ≡ Some 8 }
 {}
 
-/// How each form spells a number, which numbers it spells, and the record of one. Nothing is open.
+/// How each form spells a number, which numbers it spells, and the record of one. Nothing is left out.
 pub fn forms_are_these()
     ensures varint { SpellsBelow ⟦<Varint as Form>⟧.encoding ⟦<Varint as Form>⟧.spells varint_encoding (2 ^ 64) }
     ensures varint_record { IsRecordedAs ⟦<Varint as Form>⟧.datum ⟦<Varint as Form>⟧.found varint varint_in }

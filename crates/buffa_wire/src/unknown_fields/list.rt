@@ -11,7 +11,7 @@ use crate::unknown_fields::{UnknownField, UnknownFields};
 use std::alloc::{AllocError, Global};
 
 impl UnknownFields {
-    /// No fields, and room for none. It takes no memory.
+    /// No fields, and spare capacity for none. It takes no memory.
     ///
     /// ```ignore
     /// let fields = UnknownFields::new(alloc);
@@ -63,7 +63,7 @@ impl UnknownFields {
     /// Puts a field behind the others.
     ///
     /// # Errors
-    /// Where no room is left and memory runs out; nothing is changed then.
+    /// Where no spare capacity is left and memory runs out; nothing is changed then.
     ///
     /// ```ignore
     /// fields.push(UnknownField { number: 9, payload })?;
@@ -80,10 +80,10 @@ impl UnknownFields {
         Ok(())
     }
 
-    /// Makes room for `n` more fields.
+    /// Makes spare capacity for `n` more fields.
     ///
     /// # Errors
-    /// Where that room is missing and memory runs out; nothing is changed then.
+    /// Where that is missing and memory runs out; nothing is changed then.
     ///
     /// ```ignore
     /// fields.reserve(1)?;
@@ -98,7 +98,7 @@ impl UnknownFields {
         self.fields.reserve(n)
     }
 
-    /// Puts the fields of `other` behind these, into room that [`UnknownFields::reserve`] made. It takes
+    /// Puts the fields of `other` behind these, into capacity that [`UnknownFields::reserve`] made. It takes
     /// no memory.
     ///
     /// ```ignore
@@ -114,8 +114,8 @@ impl UnknownFields {
         prove!(done.is_ok());
     }
 
-    /// Keeps the fields of which `f` says true, in order, and lets the others go. It calls `f` at each field
-    /// once, in order. It takes no memory, and leaves no less room.
+    /// Keeps the fields for which `f` returns true, in order, and drops the others. It calls `f` at each field
+    /// once, in order. It takes no memory, and leaves no less spare capacity.
     ///
     /// ```ignore
     /// info.rest.retain(|field| field.number != 9);

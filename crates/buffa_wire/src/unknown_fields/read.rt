@@ -64,7 +64,7 @@ fn decode_plain<B: Buf>(
 /// # Errors
 /// The first fault, in this order: [`DecodeError::InvalidEndGroup`] for an end tag, which spends nothing;
 /// [`DecodeError::UnknownFieldLimitExceeded`] where no unknown field is left; those of the payload, as
-/// [`skip_field_depth`](crate::skip_field_depth) tells them. Inside a group, one level less deep, the same
+/// [`skip_field_depth`](crate::skip_field_depth) returns them. Inside a group, one level less deep, the same
 /// of each tag and field. Or [`DecodeError::OutOfMemory`].
 ///
 /// Source: the protobuf encoding guide, "Message Structure" and "Groups".
@@ -171,7 +171,7 @@ impl UnknownFields {
     /// [`DEFAULT_UNKNOWN_FIELD_LIMIT`] unknown fields left.
     ///
     /// # Errors
-    /// The first fault: of a tag, as [`Tag::decode`] tells it, or of the field behind it, as
+    /// The first fault: of a tag, as [`Tag::decode`] returns it, or of the field behind it, as
     /// [`decode_unknown_field`] does. Or [`DecodeError::OutOfMemory`], only where the first field is read or
     /// takes memory itself.
     ///
