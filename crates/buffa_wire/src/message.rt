@@ -71,7 +71,7 @@ pub trait MessageSpec: Blank {
     /// At a depth, what merging bytes costs, malformed ones too.
     ghost cost: { ℕ → List ℕ → BudgetLeft };
 
-    /// At a depth, what a value may hold where a field of it is refused; a type may not say it.
+    /// At a depth, what a value may hold where a field of it is refused; a type need not say it.
     ghost Refused: { FieldRefused Self.Meaning };
 
     /// The encoding of a value.
