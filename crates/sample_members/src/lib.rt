@@ -1,4 +1,4 @@
-//! Messages from their fields: one of all scalars for each way in which these stand in a message.
+//! Messages from their fields: one of all scalars for each way in which a message has these.
 #![tactic(auto)]
 
 pub mod explicit;

@@ -19,7 +19,7 @@ use buffa_wire::{Blank, Enumeration, MessageSpec, UnknownFields};
 use std::collections::BTreeMap;
 
 /// Which message a node is: what bytes make of it and cost, its encoding, its slots, which nodes are read
-/// back, and how deep their encoding nests. Nothing is open.
+/// back, and how deep their encoding nests. Nothing is left out.
 pub fn node_is_this()
     ensures merged { (⟦<Node as MessageSpec>⟧.merged ≡ node_merged) × (⟦<Node as MessageSpec>⟧.cost ≡ node_cost) }
     ensures encoding { (⟦<Node as MessageSpec>⟧.encoding ≡ node_encoding) × (⟦<Node as MessageSpec>⟧.records ≡ node_records) }
@@ -40,14 +40,14 @@ pub fn nodes_stay_normal()
 {}
 
 /// How deep a node nests is exactly so deep: at no lesser depth are its encoding's bytes merged, so that it isn't read back
-/// there. Nothing is open.
+/// there. Nothing is left out.
 pub fn node_levels_are_exact()
     ensures { (d : ℕ) (v : Branch) → Fits (records_of (⟦<Node as MessageSpec>⟧.records v)) →
         ⟦<Node as MessageSpec>⟧.normal v → d < ⟦<Node as MessageSpec>⟧.levels v →
         ⟦<Node as MessageSpec>⟧.merged d ⟦<Node as Blank>⟧.blank_is (⟦<Node as MessageSpec>⟧.encoding v) ≡ None }
 {}
 
-/// What a node means is what its fields hold. Nothing is open.
+/// What a node means is what its fields hold. Nothing is left out.
 pub fn nodes_hold_these(
     node: &Node,
 ) -> (
@@ -63,7 +63,7 @@ pub fn nodes_hold_these(
 }
 
 /// Which numbers shades declare, and no others, by which values, and their default; `==` and `clone` of them. Nothing is
-/// open.
+/// left out.
 pub fn shades_are_these()
     ensures declared { (n : ℤ) → ⟦<Shade as Enumeration>⟧.of_number n
         ≡ (if int_eq n (pos 0) then Some Shade.A else if int_eq n (pos 1) then Some Shade.B else None) }

@@ -1,4 +1,4 @@
-//! Laws: which numbers the sample's enum declares, and what may stand among the fields that are kept.
+//! Laws: which numbers the sample's enum declares, and what may be among the fields that are kept.
 
 ghost use Rattle.std.specs.Prelude.{◌≡◌, ◌↔◌, ℕ, ℤ, List, None, Some, false, if◌then◌else◌, pos};
 ghost use Rattle.std.specs.Ordering.{int_eq};
@@ -16,7 +16,7 @@ use buffa_fields::optional::Optional;
 use buffa_map::map_codec::{ClosedEnum, Int32};
 use buffa_wire::{Blank, Enumeration};
 
-/// The numbers of `Shade`: 0 and 1, and no other; the default is 0. Nothing is open.
+/// The numbers of `Shade`: 0 and 1, and no other; the default is 0. Nothing is left out.
 pub fn shades_are_these()
     ensures declared { (n : ℤ) → ⟦<Shade as Enumeration>⟧.of_number n
         ≡ (if int_eq n (pos 0) then Some Shade.A else if int_eq n (pos 1) then Some Shade.B else None) }

@@ -9,7 +9,7 @@ use crate::set_msg::SetMsg;
 use buffa_ext::ExtensionSet;
 use buffa_wire::{Blank, MessageSpec};
 
-/// What bytes make of a MessageSet, what they cost, its encoding, and what it means. Nothing is open.
+/// What bytes make of a MessageSet, what they cost, its encoding, and what it means. Nothing is left out.
 pub fn sets_are_these()
     ensures merged { ⟦<SetMsg as MessageSpec>⟧.merged ≡ set_merged }
     ensures cost { ⟦<SetMsg as MessageSpec>⟧.cost ≡ set_cost }
@@ -23,13 +23,13 @@ pub fn sets_are_these()
     ensures blank { ⟦<SetMsg as Blank>⟧.blank_is ≡ [] }
 {}
 
-/// Under which name a MessageSet is extended, and that its records are its unknown fields. Nothing is open.
+/// Under which name a MessageSet is extended, and that its records are its unknown fields. Nothing is left out.
 pub fn sets_lend_these()
     ensures name { ⟦<SetMsg as ExtensionSet>⟧.fqn ≡ codes "buffa.sample.SetMsg" }
     ensures fields { (m : SetMsg) → ⟦<SetMsg as ExtensionSet>⟧.fields_of m ≡ m.fields }
 {}
 
-/// The constant `PROTO_FQN` is that name, too. Nothing is open.
+/// The constant `PROTO_FQN` is that name, too. Nothing is left out.
 pub fn set_name_is_this() -> &'static str
     ensures { result.now ≡ codes "buffa.sample.SetMsg" }
 {
@@ -44,7 +44,7 @@ pub fn sets_are_read_back()
     ensures deep { NestOneDeep }
 {}
 
-/// A refused merge leaves one value and one budget, and tells one fault: the fields before the refused one are merged,
+/// A refused merge leaves one value and one budget, and returns one fault: the fields before the refused one are merged,
 /// and paid for. Open is where memory runs out.
 pub fn refused_sets_are_pinned()
     ensures { StopIsPinned }

@@ -1,5 +1,5 @@
 //! A crate as a user writes it: its line of `crates.txt` names `buffa` alone, and its contracts cite what the facade
-//! hands on of the words, and of the laws. Nothing stands on this crate.
+//! hands on of the words, and of the laws. No crate depends on this one.
 #![tactic(auto)]
 
 pub mod stock;

@@ -85,7 +85,7 @@ impl Formed for Stock {
     type Form = Listed;
 }
 
-/// Under which numbers the members of a stock are written, and in which order; what is kept comes last. Nothing is open.
+/// Under which numbers the members of a stock are written, and in which order; what is kept comes last. Nothing is left out.
 pub fn stocks_are_written_so()
     ensures { (v : _) → ⟦<Stock as MessageSpec>⟧.records v
         ≡ ⟦<Plain<Str> as Member>⟧.shape.records 1 v.0

@@ -49,7 +49,7 @@ pub fn trees_stay_normal()
     ensures blank { IsNormalTree ⟦<Tree as Blank>⟧.blank_is }
 {}
 
-/// Which message each sample is: what bytes make of it, what they cost, and its encoding. Nothing is open.
+/// Which message each sample is: what bytes make of it, what they cost, and its encoding. Nothing is left out.
 pub fn messages_are_these()
     ensures flat { ⟦<FlatMsg as MessageSpec>⟧.merged ≡ merged_of flat_takes }
     ensures flat_encoding { (v : _) → ⟦<FlatMsg as MessageSpec>⟧.encoding v ≡ value_encoding v.0 }
@@ -82,7 +82,7 @@ pub fn messages_are_these()
         ⟦<Tree as MessageSpec>⟧.Refused d v n w bs u ↔ (u ≡ v) }
 {}
 
-/// What the values of the samples of numbers mean: their fields. Nothing is open.
+/// What the values of the samples of numbers mean: their fields. Nothing is left out.
 pub fn messages_mean_these()
     ensures flat { (m : FlatMsg) → ⟦<FlatMsg as Blank>⟧.meaning m ≡ (m.value, tt) }
     ensures two { (m : TestMsg) → ⟦<TestMsg as Blank>⟧.meaning m ≡ (m.a, (m.b, tt)) }
@@ -91,8 +91,8 @@ pub fn messages_mean_these()
     ensures tree { (m : Tree) → ⟦<Tree as Blank>⟧.meaning m ≡ m }
 {}
 
-/// A value is what it means: no member of a sample is left out of what is told of it. Where a list keeps fields, how much
-/// memory it has is open, and nothing else.
+/// A value is what it means: no member of a sample is left out of what is said of it. Where a list keeps fields, it
+/// doesn't say how much spare capacity it has; nothing else is left out.
 pub fn messages_are_what_they_mean()
     ensures flat { (a b : FlatMsg) → ⟦<FlatMsg as Blank>⟧.meaning a ≡ ⟦<FlatMsg as Blank>⟧.meaning b → a ≡ b }
     ensures two { (a b : TestMsg) → ⟦<TestMsg as Blank>⟧.meaning a ≡ ⟦<TestMsg as Blank>⟧.meaning b → a ≡ b }
@@ -100,7 +100,7 @@ pub fn messages_are_what_they_mean()
     ensures keep { (a b : BudgetMsg) → a.fields ≡ b.fields → a ≡ b }
 {}
 
-/// What a tree means is what its fields hold: its label, and its children by their keys. Nothing is open.
+/// What a tree means is what its fields hold: its label, and its children by their keys. Nothing is left out.
 pub fn trees_hold_these(tree: &Tree) -> (&i32, &BTreeMap<i32, Tree>)
     ensures { tree.now ≡ grown result.0.now (children_in result.1.now.entries) }
 {
@@ -117,7 +117,7 @@ pub fn fields_are_read_alone()
 {}
 
 /// How deep a value nests is exactly so deep: at no lesser depth are its encoding's bytes merged, so that it isn't read back
-/// there. Of the others no value nests. Nothing is open.
+/// there. Of the others no value nests. Nothing is left out.
 pub fn levels_are_exact()
     ensures tree { (d : ℕ) (t : Grown) → Fits (records_of (⟦<Tree as MessageSpec>⟧.records t)) →
         ⟦<Tree as MessageSpec>⟧.normal t → d < ⟦<Tree as MessageSpec>⟧.levels t →
@@ -127,7 +127,7 @@ pub fn levels_are_exact()
         ⟦<BudgetMsg as MessageSpec>⟧.merged d [] (⟦<BudgetMsg as MessageSpec>⟧.encoding rs) ≡ None }
 {}
 
-/// Which values of each sample are read back from their encoding, and how deep it nests. Nothing is open.
+/// Which values of each sample are read back from their encoding, and how deep it nests. Nothing is left out.
 pub fn messages_are_read_back(flat: &FlatMsg, two: &TestMsg)
     ensures flat { (v : _) → ⟦<FlatMsg as MessageSpec>⟧.normal v ↔ FitsSigned w32 v.0 }
     ensures two { (v : _) → ⟦<TestMsg as MessageSpec>⟧.normal v ↔ (FitsSigned w32 v.0 × FitsSigned w32 v.1.0) }
@@ -147,7 +147,7 @@ pub fn messages_are_read_back(flat: &FlatMsg, two: &TestMsg)
 }
 
 /// Which numbers the two enums declare, and no others, and by which values, and their default; `==`, `clone` and the order
-/// of their values. Nothing is open of these.
+/// of their values. Nothing is left out of these.
 pub fn enums_are_these()
     ensures old { (n : ℤ) → ⟦<Old as Enumeration>⟧.of_number n
         ≡ (if int_eq n (pos 0) then Some Old.A else if int_eq n (pos 1) then Some Old.B else None) }
@@ -162,7 +162,7 @@ pub fn enums_are_these()
         ≡ int_cmp (⟦<Old as Blank>⟧.meaning a) (⟦<Old as Blank>⟧.meaning b) }
 {}
 
-/// What a word means, which words are one key, and which texts it reads and writes. Nothing is open.
+/// What a word means, which words are one key, and which texts it reads and writes. Nothing is left out.
 pub fn words_are_these()
     ensures meaning { (w : Word) → ⟦<Word as Blank>⟧.meaning w ≡ string_bytes w.text }
     ensures blank { ⟦<Word as Blank>⟧.blank_is ≡ [] }
@@ -183,7 +183,7 @@ pub fn trips_are_pinned<
         (C.walks m) }
 {}
 
-/// What a proxy is: by which codecs, enums and storages its two readers read and write. Nothing is open.
+/// What a proxy is: by which codecs, enums and storages its two readers read and write. Nothing is left out.
 pub fn ways_are_these<
     KC: MapCodec,
     E: Enumeration,

@@ -81,7 +81,7 @@ impl<
 /// # Errors
 /// [`PassFault::Rewrite`] with those of [`rewrite_map_field`] at the default limits; the map and the list are as
 /// they were. [`PassFault::Decode`] where memory or the budget ran out as the rewrite was read; the entries before
-/// that stand.
+/// that are in the map.
 ///
 /// ```ignore
 /// passed_on::<Int32, Old, New, _, _>(alloc, 5, &bytes, 10, &mut scratch, &mut map, &mut unknown)?;

@@ -83,7 +83,7 @@ where
     }
 }
 
-/// The same of words in a map whose order is open, where `Bee` and `BEE` are one key: each word comes back
+/// The same of words in a map that keeps no order, where `Bee` and `BEE` are one key: each word comes back
 /// as it was spelled.
 ///
 /// # Errors

@@ -33,9 +33,9 @@ use buffa_fields::fields::Fields;
 use buffa_fields::message::members_read_back;
 use buffa_wire::{Blank, MessageSpec};
 
-/// A value is accepted, or it breaks a rule, and not both; and the rule that is told is one.
+/// A value is accepted, or it breaks a rule, and not both; and the rule that is named is one.
 ///
-/// Nothing is left open.
+/// Nothing is left out.
 pub fn judgements_are_pinned()
     ensures judged { AcceptsOrBreaks }
     ensures either { NotBoth }
@@ -68,14 +68,14 @@ pub fn prices_are_sint64()
         → left ≡ b }
 {}
 
-/// `==` says exactly whether two of these are one. It leaves nothing open.
+/// `==` says exactly whether two of these are one. It leaves nothing out.
 pub fn equal_ones_are_one()
     ensures price { SameIsOne ⟦<Price as PartialEq>⟧.eq }
     ensures rules { SameIsOne ⟦<Rules as PartialEq>⟧.eq }
     ensures violation { SameIsOne ⟦<Violation as PartialEq>⟧.eq }
 {}
 
-/// What `clone` makes of each of these is the same again, and it doesn't fail. It leaves nothing open.
+/// What `clone` makes of each of these is the same again, and it doesn't fail. It leaves nothing out.
 pub fn clones_are_these()
     ensures price { IsCopied ⟦<Price as Clone>⟧.is_clone ⟦<Price as Clone>⟧.is_infallible }
     ensures rules { IsCopied ⟦<Rules as Clone>⟧.is_clone ⟦<Rules as Clone>⟧.is_infallible }
@@ -93,7 +93,7 @@ pub fn holders_are_these()
 {}
 
 /// What options and carriers mean, and from which value they start: what the declared one says, and the records of all
-/// others in order. Options are equal where they mean the same. Nothing is left open.
+/// others in order. Options are equal where they mean the same. Nothing is left out.
 pub fn options_are_equal_by_meaning()
     ensures options { (m : FieldOptions) → ⟦<FieldOptions as Blank>⟧.meaning m ≡ (m.deprecated, m.fields.records) }
     ensures carrier { (m : Carrier) → ⟦<Carrier as Blank>⟧.meaning m ≡ m.fields.records }
@@ -101,7 +101,7 @@ pub fn options_are_equal_by_meaning()
     ensures equal { EqualByMeaning ⟦<FieldOptions as PartialEq>⟧.eq ⟦<FieldOptions as Blank>⟧.meaning }
 {}
 
-/// Which messages they are: what bytes make of them, what they cost, and their encoding. Nothing is open.
+/// Which messages they are: what bytes make of them, what they cost, and their encoding. Nothing is left out.
 pub fn messages_are_these()
     ensures options { (⟦<FieldOptions as MessageSpec>⟧.merged ≡ merged_of options_takes)
         × (⟦<FieldOptions as MessageSpec>⟧.cost ≡ cost_of options_need) }
@@ -115,7 +115,7 @@ pub fn messages_are_these()
     ensures costs { (⟦<FieldOptions as MessageSpec>⟧.COST ≡ 32) × (⟦<Carrier as MessageSpec>⟧.COST ≡ 24) }
 {}
 
-/// Which values are read back from their encoding, and how deep it nests. Nothing is open.
+/// Which values are read back from their encoding, and how deep it nests. Nothing is left out.
 pub fn messages_are_read_back(options: &FieldOptions)
     ensures options { (v : _) → ⟦<FieldOptions as MessageSpec>⟧.normal v ↔ OthersAreKept v }
     ensures carrier { (rs : List (ℕ × Datum)) → ⟦<Carrier as MessageSpec>⟧.normal rs }
@@ -126,13 +126,13 @@ pub fn messages_are_read_back(options: &FieldOptions)
 }
 
 /// The declared field is read by itself, any other is kept behind the others, and what is refused, by the fault of its
-/// bytes, changes and spends nothing. Open is what stands unread of the declared one then, and where memory runs out.
+/// bytes, changes and spends nothing. It doesn't say what is unread of the declared one then, and where memory runs out.
 pub fn fields_are_taken_alone()
     ensures options { TakesOptions ⟦<FieldOptions as Fields>⟧.layout.Taken }
     ensures carrier { KeepsFields ⟦<Carrier as Fields>⟧.layout.Taken (λ m. m.fields.records) }
 {}
 
-/// The constant `PROTO_FQN` of each of these is that name, too. Nothing is left open.
+/// The constant `PROTO_FQN` of each of these is that name, too. Nothing is left out.
 pub fn names_are_these() -> (&'static str, &'static str)
     ensures options { result.0.now ≡ codes "google.protobuf.FieldOptions" }
     ensures carrier { result.1.now ≡ codes "test.Carrier" }

@@ -1,5 +1,5 @@
-//! Examples of README, of docs/GUIDE.md and of comments, run: those whose lines no other proved function says. Nothing
-//! stands on this crate.
+//! Examples of README, of docs/GUIDE.md and of comments, run: those whose lines no other proved function says. No
+//! crate depends on this one.
 #![tactic(auto)]
 
 #[cfg(test)]

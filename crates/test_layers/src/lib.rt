@@ -1,5 +1,5 @@
 //! Tests of the crates below the facade, of what is no case of a table: buffers and sinks of the crate `bytes`,
-//! options, many pairs, and examples of the documentation. Nothing stands on this crate.
+//! options, many pairs, and examples of the documentation. No crate depends on this one.
 //!
 //! Expected values come from outside: from the protobuf encoding guide, or worked out by hand.
 #![tactic(auto)]
