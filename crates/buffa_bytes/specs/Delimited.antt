@@ -24,7 +24,7 @@ abbrev pub bytes_as : {A : Type 0} → (List ℕ → A) → List ℕ → Result 
 bytes_as of bs = delimited_at bs >>= (λ p. Ok (of p.0, p.1))
 
 -- f was given the bytes at the front, answered r and is f' now, and left follows them; or memory ran out, of a byte or
--- more, and f was given nothing; or no such bytes are there, and r tells why
+-- more, and f was given nothing; or no such bytes are there, and r says why
 abbrev pub Lends : {F T : Type 0} → Mut F (Bor (List ℕ) × Unit {0}) (Result T DecodeError) → F → Result (List ℕ × List ℕ) DecodeError → Result T DecodeError → F → List ℕ → Type 0
 Lends g f (Ok (bytes, rest)) r f' left =
     (CalledAt g f bytes r f' × (left ≡ rest)) ⊎ ((r ≡ Err OutOfMemory) × (f' ≡ f) × (bytes ≢ []))

@@ -20,7 +20,7 @@ pub record AnswerIsPinned (X Y : Type 0) : Type 0 where
   pub fault : (f g : X → Y) (d e : DecodeError) (read : Result Y DecodeError) → Gives f (Err d) read → Gives g (Err e) read → d ≡ e
   pub left : (d e : DecodeError) (rest a b : List ℕ) → OnErr {T = X} (Err d) (a ≡ rest) → OnErr {T = Y} (Err e) (b ≡ rest) → a ≡ b
 
--- The same, memory aside; memory is not told where the whole that is asked for isn't there, and what is never refused, as
+-- The same, memory aside; out of memory is not returned where the whole that is asked for isn't there, and what is never refused, as
 -- no bytes are not, is what is read.
 pub record AnswerIsPinnedUnlessFull (X Y Z : Type 0) : Type 0 where
   pub one : (f g : X → Y) (x y : X) (read : Result Y DecodeError) → GivesUnlessFull f (Ok x) read → GivesUnlessFull g (Ok y) read → f x ≡ g y
@@ -31,7 +31,7 @@ pub record AnswerIsPinnedUnlessFull (X Y Z : Type 0) : Type 0 where
   pub left : (e : DecodeError) (rest a b : List ℕ) → e ≢ OutOfMemory → LeavesUnlessFull {X = X} (Err e) rest a → LeavesUnlessFull {X = X} (Err e) rest b → a ≡ b
 
 -- Bytes that are there are given to f, once, and what follows them is left, unless memory ran out, as it never does of no
--- bytes; f is as it was where it was given none; and where no bytes are there their fault is told.
+-- bytes; f is as it was where it was given none; and where no bytes are there their fault is returned.
 pub record LentIsPinned {F T : Type 0} (g : Mut F (Bor (List ℕ) × Unit {0}) (Result T DecodeError)) : Type 0 where
   pub given : (f h : F) (r : Result T DecodeError) (p rest left : List ℕ) → r ≢ Err OutOfMemory → Lends g f (Ok (p, rest)) r h left → CalledAt g f p r h × (left ≡ rest)
   pub none : (f h : F) (r : Result T DecodeError) (rest left : List ℕ) → Lends g f (Ok ([], rest)) r h left → CalledAt g f [] r h × (left ≡ rest)

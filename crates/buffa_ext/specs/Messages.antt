@@ -63,7 +63,7 @@ abbrev pub some_there : List (List ℕ) → Bool
 some_there [] = false
 some_there (b ∷ bs) = true
 
--- merging encodings in order tells whether there was one; on a refusal at most their cost is spent, and it tells why
+-- merging encodings in order returns whether there was one; on a refusal at most their cost is spent, and the error says why
 -- they aren't merged
 abbrev pub IsAllMerged : {X : Type 0} → (X → List ℕ → Option X) → (List ℕ → BudgetLeft) → List (List ℕ) → X → BudgetLeft → Result Bool DecodeError → X → BudgetLeft → Type 0
 IsAllMerged merged cost bs old before r new after =
@@ -79,8 +79,8 @@ MergesOne merged cost held ctx d old r new after = IsAllMerged (merged ctx.depth
 abbrev pub AreMerged : {X : Type 0} → (X → List ℕ → Option X) → (List ℕ → BudgetLeft) → List (List ℕ) → X → BudgetLeft → X → BudgetLeft → Type 0
 AreMerged merged cost bs old before new after = (merged_all merged old bs ≡ Some new) × Pays before (cost_all cost bs) after
 
--- the encoding in a record is refused: at most its own cost is spent, memory is told only of a record that takes some,
--- and anything else tells why the encoding isn't merged
+-- the encoding in a record is refused: at most its own cost is spent, out of memory is returned only for a record that takes some,
+-- and any other error says why the encoding isn't merged
 abbrev pub IsEncodingRefused : {X : Type 0} → (X → List ℕ → Option X) → (List ℕ → BudgetLeft) → (Datum → Option (List ℕ)) → (Datum → Type 0) → Datum → X → BudgetLeft → DecodeError → BudgetLeft → Type 0
 IsEncodingRefused merged cost held asks d old before e after =
     (t : List ℕ) × (held d ≡ Some t) × PaysAtMost before (cost t) after × (e ≡ OutOfMemory → asks d)
@@ -93,7 +93,7 @@ StopsAt {X = X} merged cost held asks ds old before e after =
     (front : List Datum) × (d : Datum) × (back : List Datum) × (mid : X) × (left : BudgetLeft) × (ds ≡ front ++ d ∷ back)
     × AreMerged merged cost (encodings_in held front) old before mid left × IsEncodingRefused merged cost held asks d mid left e after
 
--- merging the encodings in records tells whether there was one; or it stops at a record
+-- merging the encodings in records returns whether there was one; or it stops at a record
 abbrev pub MergesRecords : {X : Type 0} → (X → List ℕ → Option X) → (List ℕ → BudgetLeft) → (Datum → Option (List ℕ)) → (Datum → Type 0) → List Datum → X → BudgetLeft → Result Bool DecodeError → X → BudgetLeft → Type 0
 MergesRecords merged cost held asks ds old before r new after =
     MatchResult r

@@ -9,7 +9,7 @@ use Rattle.buffa_ext.specs.Defaults.{IsDefaulted}
 use Rattle.buffa_ext.specs.Messages.{IsAllMerged, MergesRecords, StopsAt, cost_all, encodings_in}
 use Rattle.buffa_ext.specs.Steps.{IsCleared, IsSet}
 
--- records that are merged leave one value and one budget, and tell in one way whether there was an encoding; what is
+-- records that are merged leave one value and one budget, and return in one way whether there was an encoding; what is
 -- merged isn't refused, memory aside; and what is refused stops at one record, memory aside
 pub record MergingIsPinned {X : Type 0} (merged : X → List ℕ → Option X) (cost : List ℕ → BudgetLeft) (held : Datum → Option (List ℕ)) (asks : Datum → Type 0) : Type 0 where
   pub alike : (ds : List Datum) (old new newer : X) (before left over : BudgetLeft) (f g : Bool)
@@ -22,7 +22,7 @@ pub record MergingIsPinned {X : Type 0} (merged : X → List ℕ → Option X) (
       → (h : StopsAt merged cost held asks ds old before e left) (k : StopsAt merged cost held asks ds old before f over)
       → e ≢ OutOfMemory → f ≢ OutOfMemory → h.0 ≡ k.0
 
--- merging the encoding in one record leaves one value and one budget, and tells in one way whether there was an
+-- merging the encoding in one record leaves one value and one budget, and returns in one way whether there was an
 -- encoding; what is merged isn't refused, memory aside
 pub record RecordMergeIsPinned {X : Type 0} (merged : X → List ℕ → Option X) (cost : List ℕ → BudgetLeft) (held : Datum → Option (List ℕ)) : Type 0 where
   pub alike : (d : Datum) (old new newer : X) (before left over : BudgetLeft) (f g : Bool)

@@ -18,7 +18,7 @@ abbrev pub step_of : Step → NumberStep
 step_of (Set n ds) = set n (map datum_of ds.items)
 step_of (Clear n) = clear n
 
--- two are told to be equal exactly where they are one step: sets of one number to the same, or clears of one number
+-- `==` says that two are equal exactly where they are one step: sets of one number to the same, or clears of one number
 abbrev pub SameIsOneStep : (Step → Step → Bool) → Type 0
 SameIsOneStep same = (a b : Step) → (same a b ≡ true) ↔ (step_of a ≡ step_of b)
 

@@ -37,7 +37,7 @@ abbrev pub AllHold : {K W : Type 0} → (K → Type 0) → (W → Type 0) → Li
 AllHold P Q [] = Unit {0}
 AllHold P Q (p ∷ ps) = P p.0 × Q p.1 × AllHold P Q ps
 
--- what fits is not told as out of memory, and what is written takes no more room than it has bytes
+-- what fits never ends in out of memory, and what is written takes no more room than it has bytes
 abbrev pub UsesRoomOf : {T : Type 0} → Result T EncodeError → ℕ → List ℕ → ℕ → Type 0
 UsesRoomOf r room encoding left = MatchResult r (λ _. room ≤ left + length encoding) (λ e. e ≡ OutOfMemory → room < length encoding)
 

@@ -15,7 +15,7 @@ use Rattle.buffa_map.specs.Pairs.{InOrder, ListsOnce, SamePairs, put}
 use Rattle.buffa_map.specs.Rewrite.{RefusesDecoding, RefusesEncoding, RewritesRun}
 use Rattle.buffa_map.specs.Encoding.{WritesField, field_size, saturated}
 
--- two answers, of which none is told as out of memory
+-- two results, of which none is out of memory
 abbrev pub NoneIsFull : {T : Type 0} → Result T EncodeError → Result T EncodeError → Type 0
 NoneIsFull r s = (r ≢ Err OutOfMemory) × (s ≢ Err OutOfMemory)
 

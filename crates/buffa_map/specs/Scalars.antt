@@ -64,7 +64,7 @@ text_writing = delimited_writing (λ text. text)
 
 -- ---- what a type holds
 
--- as many bytes as a length can tell
+-- as many bytes as a length can say
 abbrev pub IsLengthy : List ℕ → Type 0
 IsLengthy bytes = length bytes < 2 ^ 64
 

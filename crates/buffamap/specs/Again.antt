@@ -19,7 +19,7 @@ module _ {X : Type 0} (meant : Option X) (cost : BudgetLeft) where
   IsEncoded encoding reply =
       (v : X) × (meant ≡ Some v) × (Lacks defaults cost → ⊥) × (reply ≡ encoding_reply (encoding v))
 
-  -- or a fault is told, which isn't that memory ran out: they mean no value, or a budget hasn't the cost
+  -- or a fault is named, which isn't that memory ran out: they mean no value, or a budget hasn't the cost
   abbrev pub RefusesMessageBytes : Reply → Type 0
   RefusesMessageBytes reply =
       (e : DecodeError) × (e ≢ OutOfMemory) × MergeFault meant cost defaults e × (reply ≡ fault (decode_error_text e))

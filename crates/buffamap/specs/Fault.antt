@@ -1,4 +1,4 @@
--- Why a call has no answer, and what is told of it.
+-- Why a call has no answer, and what is printed of it.
 use Rattle.std.specs.Prelude.{◌≡◌, ◌≢◌, ℕ, Bool, true, false, ◌⊎◌, Option, None}
 use Rattle.hex.specs.declared.error.FromHexError.{FromHexError}
 use Rattle.hex.specs.declared.error.FromHexError.TheVariants as of_digits
@@ -28,7 +28,7 @@ abbrev pub IsOfRewrite : RewriteError → Fault → Type 0
 IsOfRewrite (Decode e) f = IsOfBytes e f
 IsOfRewrite (Encode e) f = IsOfEncoding e f
 
--- what is told of a fault
+-- what is printed of a fault
 abbrev pub fault_reply : Fault → Reply
 fault_reply Words = wrong_words
 fault_reply Form = bad_input
@@ -41,7 +41,7 @@ fault_reply (RefusedEncoding e) = fault (encode_error_text e)
 abbrev pub StopsReading : Bool → Fault → Type 0
 StopsReading failed f = ((f ≡ OutOfMemory) × (failed ≡ false)) ⊎ ((f ≡ Stream) × (failed ≡ true))
 
--- memory aside, what is told of the fault is a P
+-- memory aside, what is printed of the fault is a P
 abbrev pub TellsReply : (Reply → Type 0) → Fault → Type 0
 TellsReply P f = f ≢ OutOfMemory → P (fault_reply f)
 
@@ -49,6 +49,6 @@ TellsReply P f = f ≢ OutOfMemory → P (fault_reply f)
 abbrev pub SaysNone : {A : Type 0} → Option A → Fault → Type 0
 SaysNone o f = f ≢ OutOfMemory → (f ≡ Form) × (o ≡ None)
 
--- what is told of the fault was given; or, where naming the fault takes memory, that there is none
+-- what is printed of the fault was given; or, where naming the fault takes memory, that there is none
 abbrev pub TellsFault : Fault → StreamChange → StreamChange → ℕ → Type 0
 TellsFault f out err status = GivesReply (fault_reply f) out err status ⊎ (((fault_reply f).status ≡ 1) × GivesReply no_memory out err status)

@@ -15,11 +15,11 @@ pub record ReplyIsPinned (R : List ℕ → Reply → Type 0) : Type 0 where
   pub one : (input : List ℕ) (a b : Reply) → R input a → R input b → a ≡ b
   pub refused : (input text : List ℕ) (b : Reply) → R input (success text) → R input b → b.status ≡ 0
 
--- bytes are refused, and why is told
+-- bytes are refused, and why is said
 abbrev pub NamesFault : Reply → Type 0
 NamesFault reply = (e : DecodeError) × (reply ≡ fault (decode_error_text e))
 
--- one input has one reply, but that why its bytes are refused may be told in two ways; what is accepted has one
+-- one input has one reply, but that why its bytes are refused may be said in two ways; what is accepted has one
 pub record ReplyIsPinnedButForFaults (R : List ℕ → Reply → Type 0) : Type 0 where
   pub one : (input : List ℕ) (a b : Reply) → R input a → R input b → (a ≡ b) ⊎ (NamesFault a × NamesFault b)
   pub accepted : (input text : List ℕ) (b : Reply) → R input (success text) → R input b → b ≡ success text
@@ -35,7 +35,7 @@ having failed input = record { bytes = Some input; failed = failed }
 abbrev pub holding : Bool → List ℕ → Known → StreamChange
 holding failed old new = record { old = Some old; new = new; failed = failed }
 
--- which fault is told of bytes that are refused is open, of these commands alone
+-- which fault is named of bytes that are refused isn't said, of these commands alone
 abbrev pub LeavesFaultOpen : Option Command → Type 0
 LeavesFaultOpen (Some AgainNode) = Unit {0}
 LeavesFaultOpen (Some AgainSet) = Unit {0}
@@ -61,7 +61,7 @@ module _ (words : List (Bor (List ℕ))) (input out err : List ℕ) where
       AnswersCall words (having false input) (holding false out b) (holding false err q) t →
       (s ≢ 4) × (t ≢ 4) → (s ≡ t) × ((a ≡ b) ⊎ MayDiffer words out a b s) × (p ≡ q)
 
-  -- any streams, whichever fail: where memory doesn't run out, and no stream is told as failed, one status, and one output
+  -- any streams, whichever fail: where memory doesn't run out, and no stream is reported as failed, one status, and one output
   abbrev pub AnyCallIsPinned : Type 0
   AnyCallIsPinned =
       (f g h i j k : Bool) (a b p q : Known) (s t : ℕ) →
