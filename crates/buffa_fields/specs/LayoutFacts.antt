@@ -2,7 +2,7 @@
 use Rattle.std.proofs.Common.{◌≡◌, ◌≢◌, ℕ, ◌+◌, ◌==◌, ◌≤◌, min, Bool, true, false, List, [], ◌∷◌, ◌++◌, length, Some, Result, Ok, Err, IsOk, refl, sym, ap, subst, ◌∙◌, arith, append_assoc, append-nil, length-append}
 use Rattle.std.proofs.lemmas.Bool.{eqb-true, eqb-false}
 use Rattle.std.specs.List.{AllByRecursion}
-use Rattle.std.specs.Prelude.{OnErr}
+use Rattle.std.specs.Prelude.{IfErr}
 use Rattle.buffa_bytes.proofs.ListLemmas.{nil_first, nil_second}
 use Rattle.buffa_bytes.specs.declared.wire_type.WireType.{WireType}
 use Rattle.buffa_bytes.specs.declared.wire_type.WireType.TheVariants.{EndGroup}
@@ -22,6 +22,7 @@ use Rattle.buffa_wire.specs.Encoding.{records_encoding}
 use Rattle.buffa_fields.specs.Layout.{Choice, Comes, Follow, IsCounted, IsPut, IsFieldKept, IsPutBehind, Layout, Passed, Seen, Shape, Took, both_need, both_take, more, passes, visited}
 use Rattle.buffa_wire.specs.Kept.{keep_need}
 use Rattle.buffa_fields.specs.Keep.{KeepTakesMemory, keep_takes}
+use Rattle.buffa_fields.specs.Stands.{IsMemberRefused}
 use Rattle.buffa_fields.specs.KeepFacts.{records_lead}
 use Rattle.buffa_fields.specs.PairFacts.{first_taken, fits_both, joined_back, other_taken}
 use Rattle.buffa_wire.specs.Takes.{IsTaken, Leads, Need, Piece, ReadsBack, Taker, cost_of, costs_nothing, joined_fields, merged_of}
@@ -278,10 +279,11 @@ module _ {M X : Type 0} (l : Layout M X) where
   full_of d old new n wire bs rest before after r h =
       taken_full l.takes l.need d (l.meaning old) (l.meaning new) n wire bs rest before after r (l.taken_is d old n wire bs before r new after rest h)
 
-  pub apart_of : (d : ℕ) (old new : M) (n : ℕ) (wire : WireType) (bs rest : List ℕ) (before after : BudgetLeft) (r : Result (Unit {0}) DecodeError) →
-      l.Taken d old n wire bs before r new after rest → OnErr r (l.Apart n (l.meaning old) (l.meaning new))
-  apart_of d old new n wire bs rest before after (Ok _) h = tt
-  apart_of d old new n wire bs rest before after (Err e) h = l.apart d old n wire bs before e new after rest h
+  pub refused_of : (d : ℕ) (old new : M) (n : ℕ) (wire : WireType) (bs rest : List ℕ) (before after : BudgetLeft) (r : Result (Unit {0}) DecodeError) →
+      l.Taken d old n wire bs before r new after rest → IfErr r (λ e. IsMemberRefused l d (l.meaning old) n wire bs before e (l.meaning new))
+  refused_of d old new n wire bs rest before after (Ok _) h = tt
+  refused_of d old new n wire bs rest before after (Err e) h =
+      (l.apart d old n wire bs before e new after rest h, (old, new, after, rest, refl, refl, h))
 
   -- the encoding reads back: first the members' own records, and then those that are kept
   abbrev put_behind : X → List (ℕ × Datum) → X

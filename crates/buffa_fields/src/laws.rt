@@ -34,6 +34,7 @@ ghost use Rattle.buffa_fields.specs.Members.{field, field_kept, keep, skip};
 ghost use Rattle.buffa_fields.specs.Groups.{GroupTakesMemory, group_cost, group_datum, group_records, group_taken};
 ghost use Rattle.buffa_fields.specs.Nested.{FitsInside, MessageTakesMemory, message_cost, message_levels, message_records, message_slots, message_taken};
 ghost use Rattle.buffa_fields.specs.NestedMaps.{pair_levels, pair_records, pair_slots};
+ghost use Rattle.buffa_fields.specs.Stands.{IsMemberRefused};
 ghost use Rattle.buffa_fields.specs.RepeatedNested.{MessagesTakeMemory, messages_cost, messages_levels, messages_records, messages_slots, messages_taken};
 ghost use Rattle.buffa_fields.specs.OrderedMaps.{KeysAscend};
 ghost use Rattle.buffa_fields.specs.RepeatedGroups.{GroupsTakeMemory, groups_cost, groups_taken};
@@ -536,6 +537,6 @@ pub fn messages_are_these<M: Listing>()
     ensures normal { (v : _) → ⟦<Listed as MessageForm<M>>⟧.normal v ↔ (M.layout.Owes × M.layout.normal v) }
     ensures sure { (v : _) → ⟦<Listed as MessageForm<M>>⟧.sure v ↔ (M.layout.slots v ≡ []) }
     ensures taken { TakeAlike ⟦<Listed as MessageForm<M>>⟧.Taken M.layout.Taken }
-    ensures refused { (d : ℕ) (v : _) (n : ℕ) (w : _) (bs : List ℕ) (u : _) →
-        ⟦<Listed as MessageForm<M>>⟧.Refused d v n w bs u ↔ M.layout.Apart n v u }
+    ensures refused { (d : ℕ) (v : _) (n : ℕ) (w : _) (bs : List ℕ) (l : _) (e : _) (u : _) →
+        ⟦<Listed as MessageForm<M>>⟧.Refused d v n w bs l e u ↔ IsMemberRefused M.layout d v n w bs l e u }
 {}

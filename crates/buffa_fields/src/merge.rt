@@ -6,7 +6,7 @@ ghost use Rattle.buffa_bytes.specs.Unread.{IsTailOf};
 ghost use Rattle.buffa_wire.specs.Message.{Stands};
 ghost use Rattle.buffa_wire.specs.Takes.{cost_of, merged_of};
 ghost use Rattle.buffa_fields.specs.Calls.{MergesAll};
-ghost use Rattle.buffa_fields.specs.Stands.{MergingTakesMemory, OthersStay};
+ghost use Rattle.buffa_fields.specs.Stands.{IsMemberRefused, MergingTakesMemory};
 
 use crate::fields::Fields;
 use buffa_wire::{Buf, DecodeContext, DecodeError, Tag};
@@ -16,7 +16,7 @@ use std::alloc::Global;
 ///
 /// # Errors
 /// The same. The fields before the refused one stay merged, and of the others no member is changed but that of the
-/// refused field's number. Memory runs out only at a field that may ask for it.
+/// refused field's number; the error is what that member tells. Memory runs out only at a field that may ask for it.
 ///
 /// ```ignore
 /// merge_fields(&mut message, alloc, &mut bytes, ctx)?;
@@ -30,7 +30,7 @@ pub fn merge_fields<M: Fields>(
     ensures merged { MergesAll ctx.entry ctx.exit message.old message.new buf.old.now result M.layout.takes
         M.layout.need M.layout.meaning }
     ensures stands { IfErr result (λ e. Stands (merged_of M.layout.takes) (cost_of M.layout.need)
-        (OthersStay M.layout.Apart) ctx.entry.depth (M.layout.meaning message.old) buf.old.now ctx.entry.budget.now e
+        (IsMemberRefused M.layout) ctx.entry.depth (M.layout.meaning message.old) buf.old.now ctx.entry.budget.now e
         (M.layout.meaning message.new)) }
     ensures full { FullOnlyIf result (MergingTakesMemory M.layout.takes M.layout.asks ctx.entry.depth
         (M.layout.meaning message.old) buf.old.now ctx.entry.budget.now.unknown) }

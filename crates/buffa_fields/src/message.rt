@@ -1,13 +1,13 @@
 //! A struct of one's own is a message.
 
-ghost use Rattle.std.specs.Prelude.{◌≡◌, ◌≢◌, [], IsOk, Ok, OnErr, refl};
+ghost use Rattle.std.specs.Prelude.{◌≡◌, ◌≢◌, [], IfErr, IsOk, Ok, refl};
 ghost use Rattle.std.proofs.Common.{ap, ◌∙◌};
 ghost use Rattle.buffa_bytes.specs.Gives.{FullOnlyIf};
 ghost use Rattle.buffa_wire.specs.Passes.{IsNext, IsSized};
 ghost use Rattle.buffa_wire.specs.Encoding.{records_encoding};
 ghost use Rattle.buffa_fields.specs.Calls.{MemberTakes, MembersReadBack, MergesIn, WritesMembers};
 ghost use Rattle.buffa_fields.specs.LayoutFacts.{comes_free, reads_back};
-ghost use Rattle.buffa_fields.specs.Stands.{OthersStay};
+ghost use Rattle.buffa_fields.specs.Stands.{IsMemberRefused};
 ghost use Rattle.buffa_wire.specs.Takes.{cost_of, merged_of};
 
 use crate::fields::Fields;
@@ -84,8 +84,8 @@ fn merge<M: Fields>(
 ) -> Result<(), DecodeError>
     ensures merged { MergesIn tag ctx.entry ctx.exit message.old message.new buf.old buf.new result M.layout.takes
         M.layout.need M.layout.meaning }
-    ensures refused { OnErr result (M.layout.Apart tag.number (M.layout.meaning message.old)
-        (M.layout.meaning message.new)) }
+    ensures refused { IfErr result (λ e. IsMemberRefused M.layout ctx.entry.depth (M.layout.meaning message.old) tag.number
+        tag.wire_type buf.old.now ctx.entry.budget.now e (M.layout.meaning message.new)) }
     ensures full { FullOnlyIf result (tag.wire_type ≢ WireType.EndGroup) }
     ensures taken { MemberTakes tag ctx.entry ctx.exit message.old message.new buf.old buf.new result M.layout }
 {
@@ -143,7 +143,7 @@ impl<M: Listing> MessageForm<M> for Listed {
 
     ghost sure = { λ v. M.layout.slots v ≡ [] };
 
-    ghost Refused = { OthersStay M.layout.Apart };
+    ghost Refused = { IsMemberRefused M.layout };
 
     ghost Taken = { M.layout.Taken };
 
@@ -174,7 +174,7 @@ impl<M: Listing> MessageForm<M> for Listed {
         write(message, cache, sink)
     }
 
-    /// The member of the number takes the field, and what is refused leaves the others as they were.
+    /// The member of the number takes the field; of a refused one it tells the error, and the others stay as they were.
     #[inline(always)]
     fn merge_field(
         message: &mut M,
@@ -185,7 +185,8 @@ impl<M: Listing> MessageForm<M> for Listed {
     ) -> Result<(), DecodeError>
         ensures merged { MergesIn tag ctx.entry ctx.exit message.old message.new buf.old buf.new result M.layout.takes
             M.layout.need M.meaning }
-        ensures refused { OnErr result (M.layout.Apart tag.number (M.meaning message.old) (M.meaning message.new)) }
+        ensures refused { IfErr result (λ e. IsMemberRefused M.layout ctx.entry.depth (M.meaning message.old) tag.number
+            tag.wire_type buf.old.now ctx.entry.budget.now e (M.meaning message.new)) }
         ensures full { FullOnlyIf result (tag.wire_type ≢ WireType.EndGroup) }
         ensures taken { MemberTakes tag ctx.entry ctx.exit message.old message.new buf.old buf.new result M.layout }
     {

@@ -124,8 +124,8 @@ module _ {X : Type 0} {takes : Taker X} {need : Need} {merged : ℕ → X → Li
           (judged_all by d now n w bs left over e why took.0 took.1))
 
       -- what stands then
-      pub stands_refused : (Refused : FieldRefused X) (e : DecodeError) (new : X) (x : List ℕ) (over : BudgetLeft) → IsFieldMerged merged cost d now n w bs left (refusal e) new over x → Refused d now n w bs new → Stands merged cost Refused d old all first e new
-      stands_refused Refused e new x over why leaves = record {
+      pub stands_refused : (Refused : FieldRefused X) (e : DecodeError) (new : X) (x : List ℕ) (over : BudgetLeft) → IsFieldMerged merged cost d now n w bs left (refusal e) new over x → Refused d now n w bs left e new → (e ≡ OutOfMemory → w ≢ EndGroup) → Stands merged cost Refused d old all first e new
+      stands_refused Refused e new x over why leaves other = record {
         front = came.front;
         rest = rest;
         split = came.split;
@@ -134,7 +134,7 @@ module _ {X : Type 0} {takes : Taker X} {need : Need} {merged : ℕ → X → Li
         means = came.means;
         left = left;
         pays = came.pays;
-        next = inr (n, w, bs, tag, leaves, λ t p is judged ne. (why t p is judged).1 ne);
+        next = inr (n, w, bs, tag, leaves, other, λ t p is judged ne. (why t p is judged).1 ne);
       }
 
       -- it is no end of a group

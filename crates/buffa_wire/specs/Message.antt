@@ -64,18 +64,18 @@ IsFieldMerged merged cost d old n w bs before r new after rest =
 abbrev pub MergesField : {X T : Type 0} → (ℕ → X → List ℕ → Option X) → (ℕ → List ℕ → BudgetLeft) → DecodeContext → X → ℕ → WireType → List ℕ → Result T DecodeError → X → BudgetLeft → List ℕ → Type 0
 MergesField merged cost ctx old n w bs r new after rest = IsFieldMerged merged cost ctx.depth old n w bs ctx.budget.now r new after rest
 
--- What a type says of a field that was refused, at a depth: of the old value, the number, the wire type and the bytes
--- behind the tag; and of the value that stands then.
+-- What a type says of a field that was refused, at a depth: of the old value, the number, the wire type, the bytes
+-- behind the tag, and the budget; of the error; and of the value that stands then.
 abbrev pub FieldRefused : Type 0 → Type 1
-FieldRefused X = ℕ → X → ℕ → WireType → List ℕ → X → Type 0
+FieldRefused X = ℕ → X → ℕ → WireType → List ℕ → BudgetLeft → DecodeError → X → Type 0
 
 -- it leaves the value as it was
 abbrev pub Unchanged : {X : Type 0} → FieldRefused X
-Unchanged d old n w bs new = new ≡ old
+Unchanged d old n w bs before e new = new ≡ old
 
 -- What stands where merging bytes was refused by an error: fields at the front were merged, and paid for; what follows
--- them begins with no tag, and the value is what they made; or with the tag of a field that is refused, and there
--- stands what that field leaves of it.
+-- them begins with no tag, and the value is what they made; or with the tag of a field that is refused by this very
+-- error, no end tag where memory ran out, and there stands what that field leaves of it.
 pub record Stands {X : Type 0} (merged : ℕ → X → List ℕ → Option X) (cost : ℕ → List ℕ → BudgetLeft) (Refused : FieldRefused X) (d : ℕ) (old : X) (bytes : List ℕ) (before : BudgetLeft) (e : DecodeError) (new : X) : Type 0 where
   pub front : List ℕ
   pub rest : List ℕ
@@ -87,7 +87,7 @@ pub record Stands {X : Type 0} (merged : ℕ → X → List ℕ → Option X) (c
   pub pays : Pays before (cost d front) left
   pub next :
       ((tag_at rest ≡ Err e) × (new ≡ mid))
-      ⊎ ((n : ℕ) × (w : WireType) × (more : List ℕ) × (tag_at rest ≡ Ok (n, w, more)) × Refused d mid n w more new
+      ⊎ ((n : ℕ) × (w : WireType) × (more : List ℕ) × (tag_at rest ≡ Ok (n, w, more)) × Refused d mid n w more left e new × (e ≡ OutOfMemory → w ≢ EndGroup)
       × ((t p : List ℕ) → IsTag t n w → IsJudged d n w more p → e ≢ OutOfMemory → MergeFault (merged d mid (t ++ p)) (cost d (t ++ p)) left e))
 
 -- The same of a message inside a field, one level down, where its length and so many bytes are there; or memory ran out

@@ -1,7 +1,7 @@
 //! Types whose reading and writing as messages another type says, once for all of them.
 
 ghost use Rattle.std.specs.Prelude.{◌≡◌, ◌≢◌, ◌<◌, ◌≤◌, ℕ, List, Option, Some, refl};
-ghost use Rattle.std.specs.Prelude.{IsOk, OnErr};
+ghost use Rattle.std.specs.Prelude.{IfErr, IsOk};
 ghost use Rattle.buffa_bytes.specs.Gives.{FullOnlyIf};
 ghost use Rattle.buffa_wire.specs.BudgetLeft.{BudgetLeft, budget_left};
 ghost use Rattle.buffa_wire.specs.Message.{FieldRefused, FieldTaken, MergesField, TakesMessageField};
@@ -40,7 +40,7 @@ pub trait MessageForm<M: Blank> {
     /// At a depth, what merging bytes costs, malformed ones too.
     ghost cost: { ℕ → List ℕ → BudgetLeft };
 
-    /// At a depth, what a value may hold where a field of it is refused.
+    /// At a depth and a budget, which error may refuse a field of a value, and what the value may hold then.
     ghost Refused: { FieldRefused M.Meaning };
 
     /// The records that a value is written as.
@@ -108,8 +108,8 @@ pub trait MessageForm<M: Blank> {
     ) -> Result<(), DecodeError>
         ensures merged { MergesField merged cost ctx.entry (M.meaning message.old) tag.number tag.wire_type buf.old.now
             result (M.meaning message.new) (budget_left ctx.exit) buf.new.now }
-        ensures refused { OnErr result (Refused ctx.entry.depth (M.meaning message.old) tag.number tag.wire_type
-            buf.old.now (M.meaning message.new)) }
+        ensures refused { IfErr result (λ e. Refused ctx.entry.depth (M.meaning message.old) tag.number tag.wire_type
+            buf.old.now ctx.entry.budget.now e (M.meaning message.new)) }
         ensures full { FullOnlyIf result (tag.wire_type ≢ WireType.EndGroup) }
         ensures taken { TakesMessageField Taken ctx.entry message.old tag.number tag.wire_type buf.old.now result message.new
             (budget_left ctx.exit) buf.new.now };
@@ -207,8 +207,8 @@ where
     ) -> Result<(), DecodeError>
         ensures merged { MergesField M.Form.merged M.Form.cost ctx.entry (M.meaning self.old) tag.number tag.wire_type
             buf.old.now result (M.meaning self.new) (budget_left ctx.exit) buf.new.now }
-        ensures refused { OnErr result (M.Form.Refused ctx.entry.depth (M.meaning self.old) tag.number tag.wire_type
-            buf.old.now (M.meaning self.new)) }
+        ensures refused { IfErr result (λ e. M.Form.Refused ctx.entry.depth (M.meaning self.old) tag.number
+            tag.wire_type buf.old.now ctx.entry.budget.now e (M.meaning self.new)) }
         ensures full { FullOnlyIf result (tag.wire_type ≢ WireType.EndGroup) }
         ensures taken { TakesMessageField M.Form.Taken ctx.entry self.old tag.number tag.wire_type buf.old.now result self.new
             (budget_left ctx.exit) buf.new.now }

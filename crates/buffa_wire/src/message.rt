@@ -71,7 +71,8 @@ pub trait MessageSpec: Blank {
     /// At a depth, what merging bytes costs, malformed ones too.
     ghost cost: { ℕ → List ℕ → BudgetLeft };
 
-    /// At a depth, what a value may hold where a field of it is refused; a type need not say it.
+    /// At a depth and a budget, which error may refuse a field of a value, and what the value may hold then; a type
+    /// need not say it.
     ghost Refused: { FieldRefused Self.Meaning };
 
     /// The encoding of a value.
@@ -188,8 +189,8 @@ pub trait Message: MessageSpec {
     ///
     /// # Errors
     /// Those of [`Message::merge`], of this field alone where its payload is whole; never
-    /// [`DecodeError::OutOfMemory`] for an end tag. What the value holds then is said by its type (`Refused`).
-    /// It may leave that out.
+    /// [`DecodeError::OutOfMemory`] for an end tag. Which error it is, and what the value holds then, is said by its type
+    /// (`Refused`). It may leave that out.
     ///
     /// ```ignore
     /// let tag = Tag::decode(&mut rest)?;
@@ -204,8 +205,8 @@ pub trait Message: MessageSpec {
     ) -> Result<(), DecodeError>
         ensures merged { MergesField Self.merged Self.cost ctx.entry (Self.meaning self.old) tag.number tag.wire_type
             buf.old.now result (Self.meaning self.new) (budget_left ctx.exit) buf.new.now }
-        ensures refused { OnErr result (Self.Refused ctx.entry.depth (Self.meaning self.old) tag.number tag.wire_type
-            buf.old.now (Self.meaning self.new)) }
+        ensures refused { IfErr result (λ e. Self.Refused ctx.entry.depth (Self.meaning self.old) tag.number
+            tag.wire_type buf.old.now ctx.entry.budget.now e (Self.meaning self.new)) }
         ensures full { FullOnlyIf result (tag.wire_type ≢ WireType.EndGroup) };
 
     /// Merges the fields that the bytes are, all of them: none is left.
@@ -214,8 +215,8 @@ pub trait Message: MessageSpec {
     /// Where the bytes mean no value, any error but those of a budget, [`DecodeError::UnknownFieldLimitExceeded`] and
     /// [`DecodeError::ElementMemoryLimitExceeded`]; where what they cost isn't left, any error. And
     /// [`DecodeError::OutOfMemory`], only where a tag that is no end tag begins the bytes. The fields before the refused
-    /// one are merged then, and of that one there is what [`Message::merge_field`] leaves. What is unread then is some
-    /// end of the bytes.
+    /// one are merged then, and the error and the value are those of [`Message::merge_field`] of that one. What is
+    /// unread then is some end of the bytes.
     ///
     /// ```ignore
     /// info.merge(alloc, &mut rest, DecodeContext::new(20, &mut budget))?;

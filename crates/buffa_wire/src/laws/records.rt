@@ -177,8 +177,8 @@ where
     ensures records { ⟦<M as MessageSpec>⟧.records ≡ M.Form.records }
     ensures slots { ⟦<M as MessageSpec>⟧.slots ≡ M.Form.slots }
     ensures levels { ⟦<M as MessageSpec>⟧.levels ≡ M.Form.levels }
-    ensures refused { (d : ℕ) (v : M.Meaning) (n : ℕ) (w : WireType) (bs : List ℕ) (u : M.Meaning) →
-        ⟦<M as MessageSpec>⟧.Refused d v n w bs u ↔ M.Form.Refused d v n w bs u }
+    ensures refused { (d : ℕ) (v : M.Meaning) (n : ℕ) (w : WireType) (bs : List ℕ) (l : BudgetLeft) (e : DecodeError)
+        (u : M.Meaning) → ⟦<M as MessageSpec>⟧.Refused d v n w bs l e u ↔ M.Form.Refused d v n w bs l e u }
     ensures normal { (v : M.Meaning) → ⟦<M as MessageSpec>⟧.normal v ↔ M.Form.normal v }
     ensures units { ⟦<M as MessageSpec>⟧.COST ≡ M.Form.COST }
 {}

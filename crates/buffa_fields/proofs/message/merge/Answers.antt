@@ -1,10 +1,10 @@
-use Rattle.buffa_fields.specs.LayoutFacts.{apart_of, full_of, merges}
+use Rattle.buffa_fields.specs.LayoutFacts.{full_of, merges, refused_of}
 use Rattle.buffa_fields.proofs.message.merge.Goals as goal
 
 pub returns : goal.returns
 returns g c = record {
   merged = merges g.M.Fields.layout c.args.ctx.depth c.args.message.now c.take.new.self c.args.tag.number c.args.tag.wire_type c.args.buf.now.now c.take.new.buf.now c.args.ctx.budget.now _ c.take.result c.take.ensures;
-  refused = apart_of g.M.Fields.layout c.args.ctx.depth c.args.message.now c.take.new.self c.args.tag.number c.args.tag.wire_type c.args.buf.now.now c.take.new.buf.now c.args.ctx.budget.now _ c.take.result c.take.ensures;
+  refused = refused_of g.M.Fields.layout c.args.ctx.depth c.args.message.now c.take.new.self c.args.tag.number c.args.tag.wire_type c.args.buf.now.now c.take.new.buf.now c.args.ctx.budget.now _ c.take.result c.take.ensures;
   full = full_of g.M.Fields.layout c.args.ctx.depth c.args.message.now c.take.new.self c.args.tag.number c.args.tag.wire_type c.args.buf.now.now c.take.new.buf.now c.args.ctx.budget.now _ c.take.result c.take.ensures;
   taken = c.take.ensures;
 }

@@ -59,7 +59,7 @@ returns-in_err-merge_field-clause-stands g c =
     let by = by_payload g.Self.MessageSpec.stays g.Self.MessageSpec.merged_is g.Self.MessageSpec.cost_is in
     let p = err_from_is_err_and c.from_residual-in_err-merge_field.result c.from_residual-in_err-merge_field.ensures.1 in
     rw (p.1, p.2) (stands_refused by c.fields.invariant c.in_ok-tag.tag.number c.in_ok-tag.tag.wire_type c.decode.new.buf.now c.in_ok-tag.ensures.reads g.Self.MessageSpec.Refused c.in_err-merge_field.field-0.0 (g.Self.Blank.meaning c.merge_field.new.self)
-    c.merge_field.new.buf.now c.merge_field.new.ctx.1.0 c.in_err-merge_field.ensures.merged c.in_err-merge_field.ensures.refused)
+    c.merge_field.new.buf.now c.merge_field.new.ctx.1.0 c.in_err-merge_field.ensures.merged c.in_err-merge_field.ensures.refused c.in_err-merge_field.ensures.full)
 
 pub returns-clause-tail : goal.returns-clause-tail
 returns-clause-tail g c =
