@@ -1,10 +1,7 @@
 -- Merging one field of a node: what the calls for its maps promise, said of the node.
-use Rattle.std.proofs.Common.{◌≡◌, ◌≢◌, ℕ, ℤ, zero, suc, false, List, [], Result, Ok, Err, OnOk, OnErr, IfErr, refl, sym, ap, subst, ◌∙◌, arith}
+use Rattle.std.proofs.Common.{◌≡◌, ◌≢◌, ℕ, ℤ, zero, suc, false, List, Result, Ok, Err, OnOk, OnErr, IfErr, refl, sym, ap, subst, ◌∙◌, arith}
 use Rattle.std.proofs.lemmas.Bool.{eq-eqb, ne_eqb}
-use Rattle.std.specs.Prelude.{nat_eq}
 use Rattle.std.specs.BTreeMap.{insert_entry}
-use Rattle.std.specs.Cmp.{int_cmp_total}
-use Rattle.std.specs.Cmp.Lexicographic.{nat_list_cmp_total, pointwise, texts_ties}
 use Rattle.std.specs.List.Sorted.{IsStrictlySortedBy}
 use Rattle.std.specs.Map.{keys_of}
 use Rattle.std.specs.Option.{option_map}
@@ -15,40 +12,33 @@ use Rattle.buffa_bytes.specs.declared.wire_type.WireType.TheVariants.{LengthDeli
 use Rattle.buffa_wire.specs.BudgetLeft.{BudgetLeft}
 use Rattle.buffa_wire.specs.Message.{IsFieldMerged, cost_in, merged_in}
 use Rattle.buffa_bytes.specs.Front.{check_wire}
-use Rattle.buffa_map.proofs.EntryLemmas.{entry_complete}
-use Rattle.buffa_map.proofs.NeedLemmas.{entry_limited}
 use Rattle.buffa_map.specs.Codec.{Reading}
 use Rattle.buffa_map.specs.Entry.{need_at}
-use Rattle.buffa_map.proofs.InsertLemmas.{is_put, is_put_by}
 use Rattle.buffa_map.proofs.ChildrenLemmas.{ChildPut, ChildRefused, child_limits, child_put}
-use Rattle.buffa_map.specs.Scalars.{int32_reading, text_reading}
+use Rattle.buffa_map.specs.Scalars.{int32_reading}
 use Rattle.buffa_map.specs.Children.{ChildCost, ChildMeaning, children_in, listed-children_in, meant_children-is}
-use Rattle.buffa_map.specs.Merge.{MergesEntry, RefusesEntry, Rules, dropping, keeping, state}
 use Rattle.buffa_map.specs.Message.{message_reading}
-use Rattle.buffa_map.specs.Pairs.{means}
-use Rattle.buffa_map.specs.ScalarFacts.{never_faulty, string_no_limit}
 use Rattle.buffa_map.specs.declared.map_entry.MapEntry.{MapEntry}
 use Rattle.buffa_wire.specs.Kept.{keep_need}
 use Rattle.buffa_fields.specs.Keep.{keep_takes}
 use Rattle.buffa_wire.specs.Takes.{IsTaken}
 use Rattle.buffa_wire.proofs.ByPayloadLemmas.{merges_taken}
 use Rattle.buffa_fields.specs.PairFacts.{part_taken}
-use Rattle.buffa_fields.proofs.OrderedLemmas.{sorted_means}
 use Rattle.buffa_fields.specs.Entries.{entry_cost, entry_taken}
-use Rattle.buffa_fields.proofs.EntriesLemmas.{IsCost, entry_err, entry_ok, entry_wire_err}
+use Rattle.buffa_fields.proofs.EntriesLemmas.{entry_wire_err}
 use Rattle.buffa_fields.proofs.MapLemmas.{map_err, map_ok}
-use Rattle.sample_node.specs.Branch.{Branch, NodeKept, Scores, Shades, blank_node, branch, shade_number}
-use Rattle.sample_node.specs.declared.shade.Shade.{Shade}
+use Rattle.sample_node.specs.Branch.{Branch, NodeKept, Scores, Shades, blank_node, branch}
 use Rattle.sample_node.proofs.StopLemmas.{node_by_payloads}
 use Rattle.buffa_wire.specs.Pinned.{refusal, done}
-use Rattle.sample_node.specs.NodeMeaning.{children_cost, children_take, node_cost, node_field_need, node_field_takes, node_merged, put_shade, scores_cost, scores_take, shade_cost, shade_reading, shades_cost, shades_take, text_cmp}
+use Rattle.sample_node.specs.NodeMeaning.{children_cost, children_take, node_cost, node_field_need, node_field_takes, node_merged, scores_cost, scores_take, shades_cost, shades_take}
 
 abbrev Answer : Type 0
 Answer = Result (Unit {0}) DecodeError
 
-pub both_stay : (r : Answer) (made : Shades → NodeKept → Branch) (old : Branch) (h g : Shades) (q s : NodeKept) → made h q ≡ old → OnErr r (g ≡ h) → OnErr r (s ≡ q) → OnErr r (made g s ≡ old)
-both_stay (Ok x) made old h g q s is a b = tt
-both_stay (Err e) made old h g q s is a b = (λ i. made (a i) (b i)) ∙ is
+-- what holds of a refused call
+pub if_refused : (r : Answer) (P : Type 0) → ((e : DecodeError) → r ≡ Err e → P) → OnErr r P
+if_refused (Ok x) P h = tt
+if_refused (Err e) P h = h e refl
 
 -- ---- a field of another wire type
 module _ {K V X : Type 0} (key : Reading K) (val : Reading V) (does : X → List ℕ → MapEntry K V → X) (costs : ℕ → List ℕ → BudgetLeft)
@@ -58,31 +48,6 @@ module _ {K V X : Type 0} (key : Reading K) (val : Reading V) (does : X → List
   wire_answer r e f is same h =
       subst (λ z. IsTaken (entry_taken key val does) (entry_cost costs) d old n w bs before z old before rest) (sym (is ∙ ap (λ x. Err x) same))
       (entry_wire_err key val does d n costs w old bs rest before e h)
-
--- ---- a score
-module _ {K : Type 0} (f : K → List ℕ) (d n : ℕ) (w : WireType) (es fs : List (K × ℤ)) (bs rest : List ℕ) (before after : BudgetLeft) where
-  abbrev as_scores : List (K × ℤ) → Scores
-  as_scores xs = means f (λ v. v) xs
-
-  abbrev scores_rules : Rules (List ℕ) ℤ
-  scores_rules = dropping text_reading int32_reading (pointwise nat_eq) false d 0 28
-
-  score_ok : IsStrictlySortedBy (λ x y. text_cmp (f x) (f y)) (keys_of es) → IsStrictlySortedBy (λ x y. text_cmp (f x) (f y)) (keys_of fs) → check_wire n LengthDelimited w ≡ Ok tt →
-      MergesEntry scores_rules (state (as_scores es) [] before) bs (state (as_scores fs) [] after) rest → IsTaken scores_take scores_cost d (as_scores es) n w bs before done (as_scores fs) after rest
-  score_ok s t checked m =
-      let put = is_put_by nat_list_cmp_total (as_scores es) (as_scores fs) m.says (sorted_means text_cmp f (λ v. v) es s) (sorted_means text_cmp f (λ v. v) fs t) (pointwise nat_eq) texts_ties m.put in
-      map_ok text_reading int32_reading (pointwise nat_eq) false (insert_entry text_cmp) 28 d n w bs rest _ _ checked (as_scores es) (as_scores fs) m put
-
-  score_err : (e : DecodeError) → check_wire n LengthDelimited w ≡ Ok tt → RefusesEntry scores_rules (state (as_scores es) [] before) bs (state (as_scores fs) [] after) rest e → IsTaken scores_take scores_cost d (as_scores es) n w bs before (refusal e) (as_scores fs) after rest
-  score_err e checked k =
-      map_err text_reading int32_reading (pointwise nat_eq) false (insert_entry text_cmp) 28 d n w bs rest _ _ checked (as_scores es) (as_scores fs)
-      (λ d. entry_limited text_reading int32_reading d (λ d old c x h. string_no_limit (λ t. t) c x h) (λ d old c x h. never_faulty x h)) e k
-
-  pub score_answer : (r : Answer) → IsStrictlySortedBy (λ x y. text_cmp (f x) (f y)) (keys_of es) → IsStrictlySortedBy (λ x y. text_cmp (f x) (f y)) (keys_of fs) → check_wire n LengthDelimited w ≡ Ok tt →
-      OnOk r (MergesEntry scores_rules (state (as_scores es) [] before) bs (state (as_scores fs) [] after) rest) → IfErr r (RefusesEntry scores_rules (state (as_scores es) [] before) bs (state (as_scores fs) [] after) rest) →
-      IsTaken scores_take scores_cost d (as_scores es) n w bs before r (as_scores fs) after rest
-  score_answer (Ok x) s t checked ok err = score_ok s t checked ok
-  score_answer (Err e) s t checked ok err = score_err e checked err
 
 -- ---- a child
 module _ (n : ℕ) (w : WireType) (es fs : List (ℤ × Branch)) (bs rest : List ℕ) (before after : BudgetLeft) where
@@ -113,30 +78,6 @@ module _ (n : ℕ) (w : WireType) (es fs : List (ℤ × Branch)) (bs rest : List
   pub child_stays : (d : ℕ) (r : Answer) → IfErr r (NodeRefused d) → OnErr r (fs ≡ es)
   child_stays d (Ok x) err = tt
   child_stays d (Err e) err = sym (meant_children-is fs) ∙ err.pairs ∙ meant_children-is es
-
--- ---- a shade
-module _ (d n : ℕ) (w : WireType) (es fs : List (ℤ × Shade)) (rs ss : NodeKept) (bs rest : List ℕ) (before after : BudgetLeft) where
-  abbrev as_shades : List (ℤ × Shade) → Shades
-  as_shades xs = means (λ k. k) shade_number xs
-
-  abbrev shades_rules : Rules ℤ ℤ
-  shades_rules = keeping int32_reading shade_reading int_eq false d 3 8
-
-  is_cost : IsCost int32_reading shade_reading d 8 1 (shade_cost d)
-  is_cost e = ((omega arith, omega arith), λ s entry. rw (entry_complete int32_reading shade_reading d e s entry) refl)
-
-  pub shade_ok : IsStrictlySortedBy int_cmp (keys_of es) → IsStrictlySortedBy int_cmp (keys_of fs) → check_wire n LengthDelimited w ≡ Ok tt →
-      MergesEntry shades_rules (state (as_shades es) rs before) bs (state (as_shades fs) ss after) rest → IsTaken shades_take shades_cost d (as_shades es, rs) n w bs before done (as_shades fs, ss) after rest
-  shade_ok s t checked m =
-      let put = is_put int_cmp_total (as_shades es) (as_shades fs) m.says (sorted_means int_cmp (λ k. k) shade_number es s) (sorted_means int_cmp (λ k. k) shade_number fs t) m.put in
-      entry_ok shades_rules put_shade shade_cost is_cost n w (as_shades es, rs) (as_shades fs, ss) bs rest _ _ checked m (λ i. (put i, m.keeps i))
-
-  pub shade_err : (e : DecodeError) (over : BudgetLeft) → check_wire n LengthDelimited w ≡ Ok tt → RefusesEntry shades_rules (state (as_shades es) rs before) bs (state (as_shades fs) ss after) rest e → over.unknown ≡ before.unknown → over.memory ≡ after.memory →
-      IsTaken shades_take shades_cost d (as_shades es, rs) n w bs before (refusal e) (as_shades fs, ss) over rest
-  shade_err e over checked k unknown_back units_same =
-      entry_err shades_rules put_shade shade_cost is_cost n w (as_shades es, rs) (as_shades fs, ss) bs rest _ _ checked
-      (λ d. entry_limited int32_reading shade_reading d (λ d old c x h. never_faulty x h) (λ d old c x h. never_faulty x h))
-      e over k units_same (omega (arith, unknown_back)) (omega (arith, unknown_back))
 
 -- ---- a field of a node
 module _ (d n : ℕ) (w : WireType) (bs rest : List ℕ) (before after : BudgetLeft) (r : Answer) where

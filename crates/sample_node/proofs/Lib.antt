@@ -2,6 +2,5 @@
 pub mod FieldMergeLemmas
 pub mod StopLemmas
 pub mod NodePassLemmas
-pub mod WriteLemmas
 mod NodeLowLemmas
 mod NodeNormalLemmas

@@ -1,6 +1,6 @@
 -- What bytes make of a normal node is one.
 use Rattle.std.proofs.Common.{◌≡◌, inl, inr, ℕ, zero, suc, ℤ, ◌==◌, ◌-◌, ◌^◌, ◌<◌, FitsSigned, Bool, true, false, cond, List, [], ◌∷◌, ◌++◌, length, Option, None, Some, Result, Ok, Err, refl, sym, ap, subst, ◌∙◌, arith, append_assoc, append-nil, true≢false, if◌then◌else◌}
-use Rattle.std.proofs.lemmas.Bool.{eqb-false}
+use Rattle.std.proofs.lemmas.Bool.{eqb-false, eqb-true}
 use Rattle.std.proofs.lemmas.Str.{IsUtf8-nil, is_utf8-from_IsUtf8}
 use Rattle.std.specs.BTreeMap.{insert_entry}
 use Rattle.std.specs.Cmp.{int_cmp_total}
@@ -49,12 +49,14 @@ use Rattle.buffa_map.specs.Run.{undeclared_record}
 use Rattle.buffa_map.specs.Scalars.{IsText, int32_reading, text_reading}
 use Rattle.buffa_map.specs.declared.map_entry.MapEntry.{MapEntry}
 use Rattle.buffa_fields.specs.Entries.{entry_taken}
+use Rattle.buffa_fields.specs.EntryDepthFacts.{undeclared_aside}
 use Rattle.buffa_fields.specs.Keep.{keep_takes}
 use Rattle.buffa_fields.specs.KeepFacts.{kept_record}
+use Rattle.buffa_fields.specs.KeptMaps.{put_or_keep}
 use Rattle.buffa_fields.specs.MapFields.{stepped}
 use Rattle.sample_node.specs.Branch.{Branch, NodeKept, NodeOwn, Scores, Shades, blank_node, branch, shade_numbers}
-use Rattle.sample_node.specs.NodeEncoding.{AreKept, IsKept, IsNormalNode, IsNormalOwn}
-use Rattle.sample_node.specs.NodeMeaning.{children_take, node_field_takes, node_merged, put_shade, scores_take, shade_reading, shades_take, text_cmp}
+use Rattle.sample_node.specs.NodeEncoding.{IsKept, IsNormalNode, IsNormalOwn}
+use Rattle.sample_node.specs.NodeMeaning.{children_take, node_field_takes, node_merged, scores_take, shade_reading, shades_take, text_cmp}
 
 -- ---- parts of bytes are bytes
 abbrev AreBytes : List ℕ → Type 0
@@ -131,30 +133,34 @@ module _ {K V : Type 0} (key : Reading K) (val : Reading V) (d : ℕ) (Q : MapEn
 
 -- ---- the entry that was taken
 module _ {K V X : Type 0} (key : Reading K) (val : Reading V) (does : X → List ℕ → MapEntry K V → X) (d : ℕ) (v u : X) (n : ℕ) where
-  abbrev TakesEntry : Type 0
-  TakesEntry = (e : List ℕ) × (s : MapEntry K V) × AreBytes e × IsEntry key val d e s × (u ≡ does v e s)
+  pub entry_there : (e p : List ℕ) → IsPayload d n (bytes e) p → entry_taken key val does d v n LengthDelimited p ≡ Some u → (s : MapEntry K V) × (entry_of key val d e ≡ Ok s) × (u ≡ does v e s)
+  unfolding entry_taken
+  entry_there e p (t, var, is) taken = by (entry_of key val d e) refl
+    where
+      alone : delimited_at p ≡ Ok (e, [])
+      alone = delimited_taken p e [] (t, var, is ∙ ap (λ z. t ++ z) (sym (append-nil e)))
 
-  taken_entry : (x : Datum) (p : List ℕ) → AreBytes p → IsPayload d n x p → entry_taken key val does d v n (wire_of x) p ≡ Some u → TakesEntry
+      by : (r : Result (MapEntry K V) DecodeError) → entry_of key val d e ≡ r → (s : MapEntry K V) × (entry_of key val d e ≡ Ok s) × (u ≡ does v e s)
+      by (Ok s) k =
+          let q : entry_taken key val does d v n LengthDelimited p ≡ Some (does v e s) = rw (alone, k) refl in
+          let same : (let o : Option X = Some u in o ≡ Some (does v e s)) = sym taken ∙ q in
+          (s, k, cc)
+      by (Err f) k =
+          let none : entry_taken key val does d v n LengthDelimited p ≡ None = rw (alone, k) refl in
+          let bad = sym none ∙ taken in cc
+
+  taken_entry : (x : Datum) (p : List ℕ) → AreBytes p → IsPayload d n x p → entry_taken key val does d v n (wire_of x) p ≡ Some u →
+      (e : List ℕ) × (s : MapEntry K V) × AreBytes e × IsEntry key val d e s × (u ≡ does v e s)
   unfolding entry_taken
   taken_entry (varint y) p b h taken = cc
   taken_entry (fixed32 y) p b h taken = cc
   taken_entry (fixed64 y) p b h taken = cc
   taken_entry (group y) p b h taken = cc
-  taken_entry (bytes e) p b (t, var, is) taken = by (entry_of key val d e) refl
-    where
-      alone : delimited_at p ≡ Ok (e, [])
-      alone = delimited_taken p e [] (t, var, is ∙ ap (λ z. t ++ z) (sym (append-nil e)))
+  taken_entry (bytes e) p b h taken =
+      let s = entry_there e p h taken in
+      (e, s.0, bytes_behind h.0 e (as_bytes p (h.0 ++ e) h.2 b), agree_ok (entry_of key val d e) s.0 (entry_sound key val d e) s.1, s.2)
 
-      by : (r : Result (MapEntry K V) DecodeError) → entry_of key val d e ≡ r → TakesEntry
-      by (Ok s) k =
-          let q : entry_taken key val does d v n LengthDelimited p ≡ Some (does v e s) = rw (alone, k) refl in
-          let same : (let o : Option X = Some u in o ≡ Some (does v e s)) = sym taken ∙ q in
-          (e, s, bytes_behind t e (as_bytes p (t ++ e) is b), agree_ok (entry_of key val d e) s (entry_sound key val d e) k, cc)
-      by (Err f) k =
-          let none : entry_taken key val does d v n LengthDelimited p ≡ None = rw (alone, k) refl in
-          let bad = sym none ∙ taken in cc
-
-mapped : {A B : Type 0} (f : A → B) (o : Option A) (u : B) → option_map f o ≡ Some u → (x : A) × (o ≡ Some x) × (u ≡ f x)
+pub mapped : {A B : Type 0} (f : A → B) (o : Option A) (u : B) → option_map f o ≡ Some u → (x : A) × (o ≡ Some x) × (u ≡ f x)
 mapped f None u h = cc
 mapped f (Some x) u h = (x, refl, cc)
 
@@ -177,7 +183,7 @@ put_normal (e ∷ es) k t a f n = by (int_cmp k e.0) (put_normal es k t a.2 f n)
     by Equal i = (a.0, n, a.2)
     by Greater i = (a.0, a.1, i)
 
-kept_more : (r : NodeKept) (y : ℕ × Datum) → AreKept r → IsKept y → AreKept (r ++ y ∷ [])
+kept_more : (r : NodeKept) (y : ℕ × Datum) → AllByRecursion IsKept r → IsKept y → AllByRecursion IsKept (r ++ y ∷ [])
 kept_more [] y h k = (k, tt)
 kept_more (z ∷ r) y h k = (h.0, kept_more r y h.1 k)
 
@@ -257,18 +263,20 @@ module _ (m : ChildMeaning Branch) (stays : KeepsNormal m) (d : ℕ) where
     )
     with_child s is false = subst (λ z. IsNormalNode (branch a z h r)) (sym (children_in-listed cs)) normal
 
-    with_shade : (e : List ℕ) (s : MapEntry ℤ ℤ) → IsEntry int32_reading shade_reading d e s → FitsSigned w32 s.key → (known : Bool) → s.known ≡ known → (known ≡ true → ClosedFits shade_numbers s.value) →
-        IsNormalNode (branch a cs (cond known (insert_entry int_cmp h s.key s.value) h) (r ++ undeclared_record 3 e known))
-    with_shade e s entry key true is fits = (
+    with_shade : (n : ℕ) → n ≡ 3 → (e : List ℕ) (s : MapEntry ℤ ℤ) → IsEntry int32_reading shade_reading d e s → FitsSigned w32 s.key → (known : Bool) → s.known ≡ known → (known ≡ true → ClosedFits shade_numbers s.value) →
+        IsNormalNode (branch a cs (cond known (insert_entry int_cmp h s.key s.value) h) (r ++ undeclared_record n e known))
+    with_shade n three e s entry key true is fits = (
       (
         normal.0.0,
         (insert_holds int_cmp (FitsSigned w32) (ClosedFits shade_numbers) h s.key s.value normal.0.1.0 key (fits refl), sorted_put int_cmp_total h s.key s.value normal.0.1.1),
-        subst (λ z. AreKept z) (sym (append-nil r)) normal.0.2,
+        subst (λ z. AllByRecursion IsKept z) (sym (append-nil r)) normal.0.2,
       ),
       normal.1,
       normal.2,
     )
-    with_shade e s entry key false is fits = ((normal.0.0, normal.0.1, kept_more r (3, bytes e) normal.0.2 (inr (refl, e, refl, (d, s, entry, is)))), normal.1, normal.2)
+    with_shade n three e s entry key false is fits =
+        let aside = undeclared_aside int32_reading shade_reading (refl, λ k d old c. refl) (refl, λ k d old c. refl) d e (s, entry, is) in
+        ((normal.0.0, normal.0.1, kept_more r (n, bytes e) normal.0.2 (inr (three, aside))), normal.1, normal.2)
 
     module _ (u : Branch) (n : ℕ) (x : Datum) (p : List ℕ) (some : IsNumber n) (b : AreBytes p) (payload : IsPayload d n x p) where
       score_put : option_map (λ z. branch z cs h r) (scores_take d a n (wire_of x) p) ≡ Some u → IsNormalNode u
@@ -283,12 +291,12 @@ module _ (m : ChildMeaning Branch) (stays : KeepsNormal m) (d : ℕ) where
           let t = taken_entry int32_reading (child_reading blank_node m (λ _. nothing)) (λ v e s. stepped (insert_entry int_cmp) v s) d (listed cs) o.0 n x p b payload o.1 in
           subst (λ z. IsNormalNode z) (sym (o.2 ∙ ap (λ es. branch a (children_in es) h r) t.4)) (with_child t.1 (child_is t.0 t.1 t.2 t.3) t.1.known)
 
-      shade_put : option_map (λ (z : Shades × NodeKept). branch a cs z.0 z.1) (shades_take d (h, r) n (wire_of x) p) ≡ Some u → IsNormalNode u
-      shade_put taken =
+      shade_put : n ≡ 3 → option_map (λ (z : Shades × NodeKept). branch a cs z.0 z.1) (shades_take d (h, r) n (wire_of x) p) ≡ Some u → IsNormalNode u
+      shade_put three taken =
           let o = mapped (λ (z : Shades × NodeKept). branch a cs z.0 z.1) (shades_take d (h, r) n (wire_of x) p) u taken in
-          let t = taken_entry int32_reading shade_reading put_shade d (h, r) o.0 n x p b payload o.1 in
+          let t = taken_entry int32_reading shade_reading (put_or_keep int32_reading shade_reading (insert_entry int_cmp) n) d (h, r) o.0 n x p b payload o.1 in
           let is = shade_is d t.0 t.1 t.2 t.3 in
-          subst (λ z. IsNormalNode z) (sym (o.2 ∙ ap (λ (z : Shades × NodeKept). branch a cs z.0 z.1) t.4)) (with_shade t.0 t.1 t.3 is.0 t.1.known refl is.1)
+          subst (λ z. IsNormalNode z) (sym (o.2 ∙ ap (λ (z : Shades × NodeKept). branch a cs z.0 z.1) t.4)) (with_shade n three t.0 t.1 t.3 is.0 t.1.known refl is.1)
 
       other_put : 3 < n → option_map (λ z. branch a cs h z) (keep_takes d r n (wire_of x) p) ≡ Some u → IsNormalNode u
       other_put high taken =
@@ -304,7 +312,7 @@ module _ (m : ChildMeaning Branch) (stays : KeepsNormal m) (d : ℕ) where
           else option_map (λ z. branch a cs h z) (keep_takes d r n (wire_of x) p)) ≡ Some u → IsNormalNode u
       by_number true j k is_one is_two is_three taken = score_put taken
       by_number false true k is_one is_two is_three taken = child_put taken
-      by_number false false true is_one is_two is_three taken = shade_put taken
+      by_number false false true is_one is_two is_three taken = shade_put (eqb-true n 3 is_three) taken
       by_number false false false no_one no_two no_three taken = other_put (omega (arith, some, eqb-false n 1 no_one, eqb-false n 2 no_two, eqb-false n 3 no_three)) taken
 
   field_keeps : (v u : Branch) (n : ℕ) (x : Datum) (p : List ℕ) → IsNormalNode v → IsNumber n → AreBytes p → IsPayload d n x p → node_field_takes m d v n (wire_of x) p ≡ Some u → IsNormalNode u

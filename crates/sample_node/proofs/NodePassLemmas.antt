@@ -5,19 +5,20 @@ use Rattle.buffa_bytes.specs.Written.{Writes}
 use Rattle.buffa_bytes.specs.declared.error.EncodeError.{EncodeError}
 use Rattle.buffa_wire.proofs.PassLemmas.{written_put, written_short, written_then}
 use Rattle.buffa_wire.specs.Cache.{Cache}
-use Rattle.buffa_wire.specs.Passes.{IsSmall, WritesIf, cap}
+use Rattle.buffa_wire.specs.Passes.{IsSmall, IsWritten, WritesIf, cap}
 use Rattle.buffa_wire.specs.Encoding.{records_encoding}
 use Rattle.buffa_wire.specs.Pinned.{done, refusal}
 use Rattle.buffa_map.proofs.MessageFieldLemmas.{small_field}
 use Rattle.buffa_map.proofs.ChildrenLemmas.{size_is, slots_are}
 use Rattle.buffa_map.specs.Children.{children_encoding-field, children_in, meant_children}
+use Rattle.buffa_map.specs.Codec.{Writing}
 use Rattle.buffa_map.specs.Enums.{closed_writing}
 use Rattle.buffa_map.specs.MessageField.{IsFieldWritten, IsSmallField, field_slots}
 use Rattle.buffa_map.specs.Scalars.{delimited_writing, int32_writing, text_writing}
 use Rattle.buffa_map.specs.Encoding.{field_size, field_encoding, saturated}
-use Rattle.sample_node.proofs.WriteLemmas.{as_pass}
+use Rattle.buffa_fields.specs.MapFacts.{map_encoding}
+use Rattle.buffa_fields.specs.MapFields.{entry_records}
 use Rattle.sample_node.specs.Branch.{Branch, NodeKept, Scores, Shades, branch}
-use Rattle.sample_node.specs.Writes.{WritesSmall}
 use Rattle.sample_node.specs.NodeEncoding.{IsNodeWritten, node_encoding, node_slots, node_around, scores_encoding, shades_encoding}
 
 -- ---- capped sums
@@ -29,6 +30,14 @@ cap_sum a b x y s h k e = omega (arith, h, k, e)
 
 cap_saturated : (a x : ℕ) → x ≡ saturated a → cap x ≡ cap a
 cap_saturated a x h = omega (arith, h)
+
+-- ---- a map field as it is written
+abbrev MapWritten : {K V : Type 0} → Writing K → Writing V → ℕ → List (K × V) → Cache → List ℕ → Result (Unit {0}) EncodeError → Cache → List ℕ → Type 0
+MapWritten kw vw n l c b r d e = IsWritten (records_encoding (entry_records kw vw n l)) [] c b r d e
+
+as_field : {K V : Type 0} (kw : Writing K) (vw : Writing V) (n : ℕ) (l : List (K × V)) (c : Cache) (b : List ℕ) (r : Result (Unit {0}) EncodeError) (d : Cache) (e : List ℕ) → MapWritten kw vw n l c b r d e → IsWritten (field_encoding kw vw n l) [] c b r d e
+unfolding entry_records
+as_field kw vw n l c b r d e w = subst (λ z. IsWritten z [] c b r d e) (map_encoding kw vw n l) w
 
 module _ (t : Branch) (a : Scores) (es : List (ℤ × Branch)) (h : Shades) (r : NodeKept) (is : branch a (children_in es) h r ≡ t) where
   -- the records of the children, and their slots
@@ -78,40 +87,41 @@ module _ (t : Branch) (a : Scores) (es : List (ℤ × Branch)) (h : Shades) (r :
         s_is ∙ ap cap all
 
   -- ---- the encoding
-  module _ (c d : Cache) (b0 b1 b2 b3 b4 : List ℕ) where
+  module _ (c0 c1 c2 c3 : Cache) (b0 b1 b2 b3 : List ℕ) where
     abbrev IsSmallNode : Type 0
     IsSmallNode = IsSmall (node_encoding t)
 
-    whole : (e : Cache) (last : List ℕ) (q : Result (Unit {0}) EncodeError) → WritesIf IsSmallNode (scores_encoding a ++ (below ++ (shades_encoding h ++ records_encoding r))) ([] ++ (below_slots ++ [])) c b0 q e last → IsNodeWritten t c b0 q e last
+    whole : (e : Cache) (last : List ℕ) (q : Result (Unit {0}) EncodeError) → WritesIf IsSmallNode (scores_encoding a ++ (below ++ (shades_encoding h ++ records_encoding r))) ([] ++ (below_slots ++ [])) c0 b0 q e last → IsNodeWritten t c0 b0 q e last
     whole e last q w =
-        subst (λ ss. WritesIf IsSmallNode (node_encoding t) ss c b0 q e last) (append-nil below_slots ∙ here_slots)
-        (subst (λ ts. WritesIf IsSmallNode ts (below_slots ++ []) c b0 q e last) (sym encoding_is) w)
+        subst (λ ss. WritesIf IsSmallNode (node_encoding t) ss c0 b0 q e last) (append-nil below_slots ∙ here_slots)
+        (subst (λ ts. WritesIf IsSmallNode ts (below_slots ++ []) c0 b0 q e last) (sym encoding_is) w)
 
-    first_done : WritesSmall (scores_encoding a) b0 done b1 → (e : Cache) (last : List ℕ) (q : Result (Unit {0}) EncodeError) → WritesIf IsSmallNode (below ++ (shades_encoding h ++ records_encoding r)) (below_slots ++ []) c b1 q e last →
-        WritesIf IsSmallNode (scores_encoding a ++ (below ++ (shades_encoding h ++ records_encoding r))) ([] ++ (below_slots ++ [])) c b0 q e last
-    first_done w e last q more = written_then (IsSmall (scores_encoding a)) IsSmallNode IsSmallNode (scores_encoding a) (below ++ (shades_encoding h ++ records_encoding r)) [] (below_slots ++ []) c c e b0 b1 last (λ s. (small_scores s, s)) q (as_pass (scores_encoding a) b0 b1 done c w) more
+    first_done : MapWritten text_writing int32_writing 1 a c0 b0 done c1 b1 → (e : Cache) (last : List ℕ) (q : Result (Unit {0}) EncodeError) → WritesIf IsSmallNode (below ++ (shades_encoding h ++ records_encoding r)) (below_slots ++ []) c1 b1 q e last →
+        WritesIf IsSmallNode (scores_encoding a ++ (below ++ (shades_encoding h ++ records_encoding r))) ([] ++ (below_slots ++ [])) c0 b0 q e last
+    first_done w e last q more = written_then (IsSmall (scores_encoding a)) IsSmallNode IsSmallNode (scores_encoding a) (below ++ (shades_encoding h ++ records_encoding r)) [] (below_slots ++ []) c0 c1 e b0 b1 last (λ s. (small_scores s, s)) q (as_field text_writing int32_writing 1 a c0 b0 done c1 b1 w) more
 
-    second_done : IsFieldWritten int32_writing node_encoding node_slots 2 (meant_children es) c b1 done d b2 → (e : Cache) (last : List ℕ) (q : Result (Unit {0}) EncodeError) → WritesIf IsSmallNode (shades_encoding h ++ records_encoding r) [] d b2 q e last →
-        WritesIf IsSmallNode (below ++ (shades_encoding h ++ records_encoding r)) (below_slots ++ []) c b1 q e last
-    second_done w e last q more = written_then (IsSmallField int32_writing node_encoding (meant_children es)) IsSmallNode IsSmallNode below (shades_encoding h ++ records_encoding r) below_slots [] c d e b1 b2 last (λ s. (small_children s, s)) q w more
+    second_done : IsFieldWritten int32_writing node_encoding node_slots 2 (meant_children es) c1 b1 done c2 b2 → (e : Cache) (last : List ℕ) (q : Result (Unit {0}) EncodeError) → WritesIf IsSmallNode (shades_encoding h ++ records_encoding r) [] c2 b2 q e last →
+        WritesIf IsSmallNode (below ++ (shades_encoding h ++ records_encoding r)) (below_slots ++ []) c1 b1 q e last
+    second_done w e last q more = written_then (IsSmallField int32_writing node_encoding (meant_children es)) IsSmallNode IsSmallNode below (shades_encoding h ++ records_encoding r) below_slots [] c1 c2 e b1 b2 last (λ s. (small_children s, s)) q w more
 
-    pub scores_stop : (q : Result (Unit {0}) EncodeError) (e f : EncodeError) → q ≡ Err f → f ≡ e → WritesSmall (scores_encoding a) b0 (refusal e) b1 → IsNodeWritten t c b0 q c b1
+    pub scores_stop : (q : Result (Unit {0}) EncodeError) (e f : EncodeError) → q ≡ Err f → f ≡ e → MapWritten text_writing int32_writing 1 a c0 b0 (refusal e) c1 b1 → IsNodeWritten t c0 b0 q c1 b1
     scores_stop q e f is same w =
-        subst (λ z. IsNodeWritten t c b0 z c b1) (sym (is ∙ ap (λ x. Err x) same))
-        (whole c b1 (refusal e) (written_short (IsSmall (scores_encoding a)) IsSmallNode IsSmallNode (scores_encoding a) (below ++ (shades_encoding h ++ records_encoding r)) [] (below_slots ++ []) c c c b0 b1 b1 small_scores e (as_pass (scores_encoding a) b0 b1 (refusal e) c w)))
+        subst (λ z. IsNodeWritten t c0 b0 z c1 b1) (sym (is ∙ ap (λ x. Err x) same))
+        (whole c1 b1 (refusal e) (written_short (IsSmall (scores_encoding a)) IsSmallNode IsSmallNode (scores_encoding a) (below ++ (shades_encoding h ++ records_encoding r)) [] (below_slots ++ []) c0 c1 c1 b0 b1 b1 small_scores e (as_field text_writing int32_writing 1 a c0 b0 (refusal e) c1 b1 w)))
 
-    pub children_stop : (q : Result (Unit {0}) EncodeError) (e f : EncodeError) → q ≡ Err f → f ≡ e → WritesSmall (scores_encoding a) b0 done b1 → IsFieldWritten int32_writing node_encoding node_slots 2 (meant_children es) c b1 (refusal e) d b2 → IsNodeWritten t c b0 q d b2
+    pub children_stop : (q : Result (Unit {0}) EncodeError) (e f : EncodeError) → q ≡ Err f → f ≡ e → MapWritten text_writing int32_writing 1 a c0 b0 done c1 b1 → IsFieldWritten int32_writing node_encoding node_slots 2 (meant_children es) c1 b1 (refusal e) c2 b2 → IsNodeWritten t c0 b0 q c2 b2
     children_stop q e f is same w v =
-        subst (λ z. IsNodeWritten t c b0 z d b2) (sym (is ∙ ap (λ x. Err x) same))
-        (whole d b2 (refusal e) (first_done w d b2 (refusal e) (written_short (IsSmallField int32_writing node_encoding (meant_children es)) IsSmallNode IsSmallNode below (shades_encoding h ++ records_encoding r) below_slots [] c d d b1 b2 b2 small_children e v)))
+        subst (λ z. IsNodeWritten t c0 b0 z c2 b2) (sym (is ∙ ap (λ x. Err x) same))
+        (whole c2 b2 (refusal e) (first_done w c2 b2 (refusal e) (written_short (IsSmallField int32_writing node_encoding (meant_children es)) IsSmallNode IsSmallNode below (shades_encoding h ++ records_encoding r) below_slots [] c1 c2 c2 b1 b2 b2 small_children e v)))
 
-    pub shades_stop : (q : Result (Unit {0}) EncodeError) (e f : EncodeError) → q ≡ Err f → f ≡ e → WritesSmall (scores_encoding a) b0 done b1 → IsFieldWritten int32_writing node_encoding node_slots 2 (meant_children es) c b1 done d b2 → WritesSmall (shades_encoding h) b2 (refusal e) b3 →
-        IsNodeWritten t c b0 q d b3
+    pub shades_stop : (q : Result (Unit {0}) EncodeError) (e f : EncodeError) → q ≡ Err f → f ≡ e → MapWritten text_writing int32_writing 1 a c0 b0 done c1 b1 → IsFieldWritten int32_writing node_encoding node_slots 2 (meant_children es) c1 b1 done c2 b2 →
+        MapWritten int32_writing closed_writing 3 h c2 b2 (refusal e) c3 b3 → IsNodeWritten t c0 b0 q c3 b3
     shades_stop q e f is same w v u =
-        subst (λ z. IsNodeWritten t c b0 z d b3) (sym (is ∙ ap (λ x. Err x) same))
-        (whole d b3 (refusal e) (first_done w d b3 (refusal e) (second_done v d b3 (refusal e) (written_short (IsSmall (shades_encoding h)) IsSmallNode IsSmallNode (shades_encoding h) (records_encoding r) [] [] d d d b2 b3 b3 small_shades e (as_pass (shades_encoding h) b2 b3 (refusal e) d u)))))
+        subst (λ z. IsNodeWritten t c0 b0 z c3 b3) (sym (is ∙ ap (λ x. Err x) same))
+        (whole c3 b3 (refusal e) (first_done w c3 b3 (refusal e) (second_done v c3 b3 (refusal e) (written_short (IsSmall (shades_encoding h)) IsSmallNode IsSmallNode (shades_encoding h) (records_encoding r) [] [] c2 c3 c3 b2 b3 b3 small_shades e (as_field int32_writing closed_writing 3 h c2 b2 (refusal e) c3 b3 u)))))
 
-    pub all_written : (q : Result (Unit {0}) EncodeError) → WritesSmall (scores_encoding a) b0 done b1 → IsFieldWritten int32_writing node_encoding node_slots 2 (meant_children es) c b1 done d b2 → WritesSmall (shades_encoding h) b2 done b3 → Writes q b3 (records_encoding r) b4 → IsNodeWritten t c b0 q d b4
-    all_written q w v u x =
-        whole d b4 q (first_done w d b4 q (second_done v d b4 q
-        (written_then (IsSmall (shades_encoding h)) IsSmallNode IsSmallNode (shades_encoding h) (records_encoding r) [] [] d d d b2 b3 b4 (λ s. (small_shades s, s)) q (as_pass (shades_encoding h) b2 b3 done d u) (written_put IsSmallNode (records_encoding r) d b3 b4 q x))))
+    pub all_written : (b4 : List ℕ) (q : Result (Unit {0}) EncodeError) → MapWritten text_writing int32_writing 1 a c0 b0 done c1 b1 → IsFieldWritten int32_writing node_encoding node_slots 2 (meant_children es) c1 b1 done c2 b2 → MapWritten int32_writing closed_writing 3 h c2 b2 done c3 b3 → Writes q b3 (records_encoding r) b4 →
+        IsNodeWritten t c0 b0 q c3 b4
+    all_written b4 q w v u x =
+        whole c3 b4 q (first_done w c3 b4 q (second_done v c3 b4 q
+        (written_then (IsSmall (shades_encoding h)) IsSmallNode IsSmallNode (shades_encoding h) (records_encoding r) [] [] c2 c3 c3 b2 b3 b4 (λ s. (small_shades s, s)) q (as_field int32_writing closed_writing 3 h c2 b2 done c3 b3 u) (written_put IsSmallNode (records_encoding r) c3 b3 b4 q x))))

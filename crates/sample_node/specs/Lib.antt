@@ -3,9 +3,6 @@ pub mod Branch
 pub mod NodeMeaning
 pub mod NodeEncoding
 pub mod NodeFacts
-pub mod Nesting
-pub mod Leading
 pub mod NodeBackFacts
 pub mod Stops
-pub mod Writes
 pub mod Calls

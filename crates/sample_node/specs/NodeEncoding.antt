@@ -1,6 +1,7 @@
 -- The encoding, the records, the slots and the levels of a node, and which nodes their encoding reads back to.
-use Rattle.std.specs.Prelude.{◌≡◌, ◌==◌, ◌<◌, ◌⊎◌, ℕ, zero, suc, ℤ, FitsSigned, false, max, List, [], ◌∷◌, ◌++◌, length, Result, is_some, if◌then◌else◌}
+use Rattle.std.specs.Prelude.{◌≡◌, ◌<◌, ◌⊎◌, ℕ, FitsSigned, max, List, [], ◌∷◌, ◌++◌, Result}
 use Rattle.std.specs.Int.{w32}
+use Rattle.std.specs.List.{AllByRecursion}
 use Rattle.std.specs.List.Sorted.{IsStrictlySortedBy}
 use Rattle.std.specs.Map.{keys_of}
 use Rattle.std.specs.Ordering.{int_cmp}
@@ -8,15 +9,14 @@ use Rattle.buffa_bytes.specs.declared.error.EncodeError.{EncodeError}
 use Rattle.buffa_wire.specs.Cache.{Cache}
 use Rattle.buffa_wire.specs.Parse.{Fits}
 use Rattle.buffa_wire.specs.Passes.{IsWritten}
-use Rattle.buffa_wire.specs.Records.{Datum, bytes, datum_height, records_of}
+use Rattle.buffa_wire.specs.Records.{Datum, height, records_of}
 use Rattle.buffa_wire.specs.Encoding.{records_encoding}
 use Rattle.buffa_map.specs.Children.{IsNormalFamily, children_records, family_encoding, family_levels, family_slots}
-use Rattle.buffa_map.specs.Entry.{IsEntry, entry_of}
 use Rattle.buffa_map.specs.Enums.{ClosedFits, closed_writing}
 use Rattle.buffa_map.specs.Scalars.{IsText, int32_reading, int32_writing, text_writing}
 use Rattle.buffa_map.specs.Encoding.{AllHold, field_encoding}
-use Rattle.buffa_map.specs.declared.map_entry.MapEntry.{MapEntry}
-use Rattle.buffa_wire.specs.ByField.{value_of}
+use Rattle.buffa_fields.specs.Aside.{aside_levels}
+use Rattle.buffa_fields.specs.KeptMaps.{IsAsideEntry, aside_entry_levels}
 use Rattle.buffa_fields.specs.MapFields.{map_records}
 use Rattle.sample_node.specs.Branch.{Branch, NodeOwn, NodeKept, Scores, Shades, branch, shade_numbers}
 use Rattle.sample_node.specs.NodeMeaning.{shade_reading, text_cmp}
@@ -45,23 +45,9 @@ IsNodeWritten t old before r new after = IsWritten (node_encoding t) (node_slots
 abbrev pub node_records : Branch → List (ℕ × Datum)
 node_records (branch a cs h r) = map_records text_writing int32_writing 1 a ++ (children_records node_encoding 2 cs ++ (map_records int32_writing closed_writing 3 h ++ r))
 
--- the first of so many depths, from d on, at which e is an entry of shades; or the one behind them
-abbrev pub first_depth : ℕ → ℕ → List ℕ → ℕ
-first_depth zero d e = d
-first_depth (suc k) d e = if is_some (value_of (entry_of int32_reading shade_reading d e)) then d else first_depth k (suc d) e
-
--- how deep groups nest in an entry: the least depth at which it is one; a level of them has a byte at least
-abbrev pub entry_levels : List ℕ → ℕ
-entry_levels e = first_depth (length e) 0 e
-
-abbrev pub kept_under : Datum → ℕ
-kept_under (bytes e) = entry_levels e
-kept_under x = datum_height x
-
 -- how deep groups nest in what is kept, those in the entries of shades too
 abbrev pub kept_levels : NodeKept → ℕ
-kept_levels [] = 0
-kept_levels (y ∷ ys) = max (if y.0 == 3 then kept_under y.1 else datum_height y.1) (kept_levels ys)
+kept_levels r = max (height r) (aside_levels 3 (aside_entry_levels int32_reading shade_reading) r)
 
 -- how deep messages and groups nest
 abbrev pub node_levels_over : NodeOwn → ℕ → ℕ
@@ -70,24 +56,16 @@ node_levels_over (a, (h, r)) below = max below (kept_levels r)
 abbrev pub node_levels : Branch → ℕ
 node_levels = family_levels node_levels_over
 
--- an entry, at some depth, whose shade is undeclared
-abbrev pub IsUndeclared : List ℕ → Type 0
-IsUndeclared e = (d : ℕ) × (s : MapEntry ℤ ℤ) × IsEntry int32_reading shade_reading d e s × (s.known ≡ false)
-
 -- what a node keeps of bytes: a field of a number that it doesn't declare, or an entry with an undeclared shade
 abbrev pub IsKept : ℕ × Datum → Type 0
-IsKept y = ((3 < y.0) × Fits (records_of (y ∷ []))) ⊎ ((y.0 ≡ 3) × (e : List ℕ) × (y.1 ≡ bytes e) × IsUndeclared e)
-
-abbrev pub AreKept : NodeKept → Type 0
-AreKept [] = Unit {0}
-AreKept (y ∷ ys) = IsKept y × AreKept ys
+IsKept y = ((3 < y.0) × Fits (records_of (y ∷ []))) ⊎ ((y.0 ≡ 3) × IsAsideEntry int32_reading shade_reading y.1)
 
 -- of all but the children: keys and values are of their types, shades are declared, keys ascend
 abbrev pub IsNormalOwn : NodeOwn → Type 0
 IsNormalOwn (a, (h, r)) =
     (AllHold IsText (FitsSigned w32) a × IsStrictlySortedBy text_cmp (keys_of a))
     × (AllHold (FitsSigned w32) (ClosedFits shade_numbers) h × IsStrictlySortedBy int_cmp (keys_of h))
-    × AreKept r
+    × AllByRecursion IsKept r
 
 -- the nodes that their encoding reads back to
 abbrev pub IsNormalNode : Branch → Type 0

@@ -4,7 +4,7 @@ use Rattle.buffa_wire.specs.Encoding.{records_encoding}
 use Rattle.buffa_wire.proofs.KeepLemmas.{keep_stays}
 use Rattle.buffa_fields.specs.MapFields.{map_records}
 use Rattle.buffa_fields.specs.MapFacts.{map_encoding, map_stays}
-use Rattle.buffa_fields.specs.EntriesFacts.{entry_stays}
+use Rattle.buffa_fields.specs.KeptMapFacts.{kept_pair_stays}
 use Rattle.buffa_fields.specs.Layout.{both_need}
 use Rattle.buffa_fields.specs.PairFacts.{both_stay}
 use Rattle.buffa_wire.specs.Kept.{keep_need}
@@ -15,14 +15,14 @@ use Rattle.buffa_map.proofs.ChildrenLemmas.{children_encoding_records}
 use Rattle.buffa_map.specs.Scalars.{int32_reading, int32_writing, text_reading, text_writing}
 use Rattle.buffa_map.specs.Children.{ChildCost, ChildMeaning, child_reading, children_encoding, children_records}
 use Rattle.sample_node.specs.Branch.{Branch, blank_node, branch}
-use Rattle.sample_node.specs.NodeMeaning.{children_cost, node_cost, node_merged, node_need, node_field_need, scores_cost, shade_cost, shades_cost, node_takes}
+use Rattle.sample_node.specs.NodeMeaning.{children_cost, node_cost, node_merged, node_need, node_field_need, scores_cost, shade_reading, shades_cost, node_takes}
 use Rattle.sample_node.specs.NodeEncoding.{node_encoding, node_records, node_around, shades_encoding}
 use Rattle.buffa_wire.proofs.EncodingLemmas.{records_encoding-append}
 
 pub node_field_stays : (m : ChildMeaning Branch) (c : ChildCost) → Stays (node_field_need m c)
 node_field_stays m c =
     both_stay 1 scores_cost (both_need 2 (children_cost m c) (both_need 3 shades_cost keep_need)) (map_stays text_reading int32_reading 28)
-    (both_stay 2 (children_cost m c) (both_need 3 shades_cost keep_need) (map_stays int32_reading (child_reading blank_node m c) 100) (both_stay 3 shades_cost keep_need (entry_stays shade_cost) keep_stays))
+    (both_stay 2 (children_cost m c) (both_need 3 shades_cost keep_need) (map_stays int32_reading (child_reading blank_node m c) 100) (both_stay 3 shades_cost keep_need (kept_pair_stays int32_reading shade_reading 8) keep_stays))
 
 -- ---- all bytes mean, and cost, what payloads do
 pub node_need_stays : Stays node_need

@@ -1,27 +1,23 @@
 -- What bytes mean to a node: field 1 puts a score, field 2 a child, field 3 a shade, or keeps its entry under 3 where the
 -- shade is undeclared; every other field is kept. A child is read one level deeper, so the depth bounds the steps.
 -- Source: the protobuf encoding guide, "Maps"; the protobuf language guide, "Enumerations".
-use Rattle.std.specs.Prelude.{ℕ, zero, suc, ℤ, ◌==◌, List, ◌++◌, cond, Option, None, Result, Ok, Err, if◌then◌else◌}
+use Rattle.std.specs.Prelude.{ℕ, zero, suc, ℤ, ◌==◌, List, Option, None, if◌then◌else◌}
 use Rattle.std.specs.BTreeMap.{insert_entry}
 use Rattle.std.specs.Cmp.Lexicographic.{slice_cmp}
 use Rattle.std.specs.Option.{option_map}
 use Rattle.std.specs.Ordering.{int_cmp, nat_cmp}
 use Rattle.std.specs.declared.cmp.Ordering.{Ordering}
-use Rattle.buffa_bytes.specs.declared.error.DecodeError.{DecodeError}
-use Rattle.buffa_wire.specs.BudgetLeft.{BudgetLeft, nothing, plus, unknown_fields}
+use Rattle.buffa_wire.specs.BudgetLeft.{BudgetLeft, nothing}
 use Rattle.buffa_wire.specs.Message.{cost_in, merged_in}
 use Rattle.buffa_map.specs.Children.{ChildCost, ChildMeaning, child_reading, children_in, listed}
 use Rattle.buffa_map.specs.Codec.{Reading}
-use Rattle.buffa_map.specs.Entry.{entry_of, need_of}
 use Rattle.buffa_map.specs.Enums.{closed_reading}
-use Rattle.buffa_map.specs.Run.{undeclared_record}
 use Rattle.buffa_map.specs.Scalars.{int32_reading, text_reading}
-use Rattle.buffa_map.specs.declared.map_entry.MapEntry.{MapEntry}
 use Rattle.buffa_wire.specs.Kept.{keep_need}
 use Rattle.buffa_fields.specs.Keep.{keep_takes}
 use Rattle.buffa_wire.specs.Takes.{Need, Taker, cost_of, merged_of}
-use Rattle.buffa_fields.specs.Entries.{entry_cost, entry_taken}
-use Rattle.buffa_fields.specs.MapFields.{pair_cost, pair_taken, stepped}
+use Rattle.buffa_fields.specs.KeptMaps.{kept_pair_cost, kept_pair_taken}
+use Rattle.buffa_fields.specs.MapFields.{pair_cost, pair_taken}
 use Rattle.sample_node.specs.Branch.{Branch, NodeKept, Scores, Shades, blank_node, branch, shade_numbers}
 
 -- texts are in the order of their bytes
@@ -46,23 +42,12 @@ children_take m = pair_taken int32_reading (child_reading blank_node m (λ _. no
 abbrev pub children_cost : ChildMeaning Branch → ChildCost → Need
 children_cost m c = pair_cost int32_reading (child_reading blank_node m c) 100
 
--- field 3, and what is kept beside it: an entry with an undeclared shade, byte for byte
-abbrev pub put_shade : Shades × NodeKept → List ℕ → MapEntry ℤ ℤ → Shades × NodeKept
-put_shade x e s = (stepped (insert_entry int_cmp) x.0 s, x.1 ++ undeclared_record 3 e s.known)
-
+-- field 3, and what is kept beside it: an entry with an undeclared shade, byte for byte, which costs an unknown field besides
 abbrev pub shades_take : Taker (Shades × NodeKept)
-shades_take = entry_taken int32_reading shade_reading put_shade
-
--- one that is kept costs an unknown field besides
-abbrev pub undeclared_cost : Result (MapEntry ℤ ℤ) DecodeError → BudgetLeft
-undeclared_cost (Ok s) = unknown_fields (cond s.known 0 1)
-undeclared_cost (Err e) = nothing
-
-abbrev pub shade_cost : ℕ → List ℕ → BudgetLeft
-shade_cost d e = plus (need_of int32_reading shade_reading d 8 e) (undeclared_cost (entry_of int32_reading shade_reading d e))
+shades_take = kept_pair_taken int32_reading shade_reading (insert_entry int_cmp)
 
 abbrev pub shades_cost : Need
-shades_cost = entry_cost shade_cost
+shades_cost = kept_pair_cost int32_reading shade_reading 8
 
 abbrev pub node_field_takes : ChildMeaning Branch → Taker Branch
 node_field_takes m d (branch a cs h r) n w p =

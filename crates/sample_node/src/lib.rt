@@ -2,7 +2,5 @@
 #![tactic(auto)]
 
 pub mod laws;
-mod maps;
 pub mod node;
-mod rest;
 pub mod shade;

@@ -15,9 +15,11 @@ ghost use Rattle.sample_node.specs.NodeMeaning.{node_cost, node_merged};
 ghost use Rattle.sample_node.specs.NodeEncoding.{IsNodeWritten, node_encoding, node_slots};
 ghost use Rattle.sample_node.specs.Stops.{Stops};
 
-use crate::maps::{merge_score, merge_shade, write_map};
-use crate::rest::keep_field;
 use crate::shade::Shade;
+use buffa_fields::keeping::Keeping;
+use buffa_fields::kept;
+use buffa_fields::member::Member;
+use buffa_fields::ordered_map::OrderedMapOf;
 use buffa_map::map_codec::{
     ClosedEnum, Int32, Str, field_len, merge_message_entry_by, message_field_len_by,
     write_message_field_by,
@@ -233,7 +235,7 @@ pub fn write_node<S: EncodeSink>(
     requires { IsNext (node_slots node.now) cache.old }
     ensures { IsNodeWritten node.now cache.old (S.written sink.old) result cache.new (S.written sink.new) }
 {
-    write_map::<Str, Int32, S>(1, &node.scores, sink)?;
+    OrderedMapOf::<Str, Int32>::write_to(1, &node.scores, cache, sink)?;
     write_children_by(
         &node.children,
         cache,
@@ -243,7 +245,7 @@ pub fn write_node<S: EncodeSink>(
             ensures { IsNodeWritten child.now cache.old (S.written sink.old) result cache.new (S.written sink.new) }
         { write_node(child, cache, sink) },
     )?;
-    write_map::<Int32, ClosedEnum<Shade>, S>(3, &node.shades, sink)?;
+    OrderedMapOf::<Int32, ClosedEnum<Shade>>::write_to(3, &node.shades, cache, sink)?;
     node.rest.write_to(sink)
 }
 
@@ -297,7 +299,8 @@ fn merge_node_field(
 {
     let number = tag.field_number();
     if number == 1 {
-        return merge_score(alloc, &mut node.scores, tag, buf, depth, budget);
+        let ctx = DecodeContext { depth, budget };
+        return OrderedMapOf::<Str, Int32>::merge(&mut node.scores, alloc, tag, buf, ctx);
     }
     if number == 2 {
         return merge_child_by(
@@ -316,18 +319,18 @@ fn merge_node_field(
             { merge_node(alloc, child, bytes, depth, budget) },
         );
     }
+    let ctx = DecodeContext { depth, budget };
     if number == 3 {
-        return merge_shade(
-            alloc,
+        return OrderedMapOf::<Int32, ClosedEnum<Shade>>::merge_kept(
             &mut node.shades,
             &mut node.rest,
+            alloc,
             tag,
             buf,
-            depth,
-            budget,
+            ctx,
         );
     }
-    keep_field(alloc, &mut node.rest, tag, buf, depth, budget)
+    kept::keep(alloc, &mut node.rest, tag, buf, ctx)
 }
 
 /// Merges the fields that the bytes are, all of them, where so many levels may still open: a child is one level

@@ -1,13 +1,15 @@
-use Rattle.std.proofs.Common.{◌≡◌, ◌≢◌, Err, ◌∙◌, arith, ap}
+use Rattle.std.proofs.Common.{◌≡◌, ◌≢◌, Err, ◌∙◌, arith, ap, sym}
 use Rattle.std.specs.Prelude.{string_bytes}
 use Rattle.std.proofs.lemmas.Result.{err_from_is_err_and, on_err_weaker}
 use Rattle.buffa_bytes.proofs.FullLemmas.{tag_full}
 use Rattle.buffa_wire.specs.Message.{cost_in, merged_in}
 use Rattle.buffa_map.specs.Pairs.{means}
 use Rattle.buffa_wire.specs.Kept.{keep_need}
+use Rattle.buffa_fields.specs.Aside.{TookBeside}
 use Rattle.buffa_fields.specs.Keep.{keep_takes}
+use Rattle.buffa_fields.specs.Layout.{IsFieldKept, Took}
 use Rattle.buffa_wire.proofs.TakesLemmas.{taken_full}
-use Rattle.sample_node.proofs.FieldMergeLemmas.{both_stay, child_merged, kept_merged, score_merged, shade_merged}
+use Rattle.sample_node.proofs.FieldMergeLemmas.{child_merged, if_refused, kept_merged, score_merged, shade_merged}
 use Rattle.buffa_wire.proofs.MergeLoopLemmas.{begins, ended, goes_on, no_tag, reached, refused_next, shorter}
 use Rattle.sample_node.proofs.StopLemmas.{node_by_payloads, stops_at, stops_untagged}
 use Rattle.buffa_map.specs.Children.{children_in}
@@ -58,15 +60,18 @@ pub merge_node-returns-clause-merged : goal.merge_node-returns-clause-merged
 merge_node-returns-clause-merged t c = ended node_by_payloads c.loop-rest.invariant (omega (arith, c.remaining.ensures, c.loop-rest-test.false))
 
 pub merge_node_field-returns-then-number-eq1 : goal.merge_node_field-returns-then-number-eq1
+unfolding Took
 merge_node_field-returns-then-number-eq1 t c =
     let n = c.node.inside in
     let one : c.args.tag.number ≡ 1 = omega (arith, c.field_number-number.ensures, c.if-number-eq1.true) in
-    let call = c.merge_score in
+    let call = c.merge in
+    let old = means string_bytes (λ v. v) n.scores.entries in
+    let new = means string_bytes (λ v. v) call.new.part.entries in
+    let shades = means (λ k. k) shade_number n.shades.entries in
     record {
-      merged = score_merged c.args.depth c.args.tag.number c.args.tag.wire_type c.args.buf.now.now call.new.buf.now c.args.budget.now call.new.budget call.result (means string_bytes (λ v. v) n.scores.entries) n.children.entries (means (λ k. k) shade_number n.shades.entries) n.rest.records c.args.node.now c.node.view_is
-          (means string_bytes (λ v. v) call.new.scores.entries) one call.ensures.taken;
-      full = taken_full scores_take scores_cost c.args.depth (means string_bytes (λ v. v) n.scores.entries) (means string_bytes (λ v. v) call.new.scores.entries) c.args.tag.number c.args.tag.wire_type c.args.buf.now.now call.new.buf.now c.args.budget.now call.new.budget call.result call.ensures.taken;
-      stays = on_err_weaker call.result (λ h. ap (λ z. branch z (children_in n.children.entries) (means (λ k. k) shade_number n.shades.entries) n.rest.records) h ∙ c.node.view_is) call.ensures.stays;
+      merged = score_merged c.args.depth c.args.tag.number c.args.tag.wire_type c.args.buf.now.now call.new.buf.now c.args.budget.now call.new.ctx.1.0 call.result old n.children.entries shades n.rest.records c.args.node.now c.node.view_is new one call.ensures.0;
+      full = taken_full scores_take scores_cost c.args.depth old new c.args.tag.number c.args.tag.wire_type c.args.buf.now.now call.new.buf.now c.args.budget.now call.new.ctx.1.0 call.result call.ensures.0;
+      stays = if_refused call.result _ (λ e told. ap (λ z. branch z (children_in n.children.entries) shades n.rest.records) (sym (call.ensures.3 e told).0) ∙ c.node.view_is);
     }
 
 pub merge_node_field-returns-then-number-eq2 : goal.merge_node_field-returns-then-number-eq2
@@ -83,27 +88,32 @@ merge_node_field-returns-then-number-eq2 t c =
     }
 
 pub merge_node_field-returns-then-number-eq3 : goal.merge_node_field-returns-then-number-eq3
+unfolding TookBeside
 merge_node_field-returns-then-number-eq3 t c =
     let n = c.node.inside in
     let three : c.args.tag.number ≡ 3 = omega (arith, c.field_number-number.ensures, c.if-number-eq3.true) in
-    let call = c.merge_shade in
+    let call = c.merge_kept in
+    let scores = means string_bytes (λ v. v) n.scores.entries in
+    let old = means (λ k. k) shade_number n.shades.entries in
+    let new = means (λ k. k) shade_number call.new.part.entries in
     record {
-      merged = shade_merged c.args.depth c.args.tag.number c.args.tag.wire_type c.args.buf.now.now call.new.buf.now c.args.budget.now call.new.budget call.result (means string_bytes (λ v. v) n.scores.entries) n.children.entries (means (λ k. k) shade_number n.shades.entries) n.rest.records c.args.node.now c.node.view_is
-          (means (λ k. k) shade_number call.new.shades.entries) call.new.rest.records three call.ensures.taken;
-      full = taken_full shades_take shades_cost c.args.depth (means (λ k. k) shade_number n.shades.entries, n.rest.records) (means (λ k. k) shade_number call.new.shades.entries, call.new.rest.records) c.args.tag.number c.args.tag.wire_type c.args.buf.now.now call.new.buf.now c.args.budget.now call.new.budget call.result call.ensures.taken;
-      stays = both_stay call.result (branch (means string_bytes (λ v. v) n.scores.entries) (children_in n.children.entries)) c.args.node.now (means (λ k. k) shade_number n.shades.entries) (means (λ k. k) shade_number call.new.shades.entries) n.rest.records call.new.rest.records c.node.view_is call.ensures.stays call.ensures.unchanged;
+      merged = shade_merged c.args.depth c.args.tag.number c.args.tag.wire_type c.args.buf.now.now call.new.buf.now c.args.budget.now call.new.ctx.1.0 call.result scores n.children.entries old n.rest.records c.args.node.now c.node.view_is new call.new.kept.records three call.ensures.0;
+      full = taken_full shades_take shades_cost c.args.depth (old, n.rest.records) (new, call.new.kept.records) c.args.tag.number c.args.tag.wire_type c.args.buf.now.now call.new.buf.now c.args.budget.now call.new.ctx.1.0 call.result call.ensures.0;
+      stays = if_refused call.result _ (λ e told. let same = call.ensures.3 e told in (λ i. branch scores (children_in n.children.entries) (sym same.0.0 i) (sym same.1 i)) ∙ c.node.view_is);
     }
 
 pub merge_node_field-returns : goal.merge_node_field-returns
+unfolding IsFieldKept
 merge_node_field-returns t c =
     let n = c.node.inside in
     let one : c.args.tag.number ≢ 1 = λ z. absurd (omega (arith, c.field_number-number.ensures, c.if-number-eq1.false, z)) in
     let two : c.args.tag.number ≢ 2 = λ z. absurd (omega (arith, c.field_number-number.ensures, c.if-number-eq2.false, z)) in
     let three : c.args.tag.number ≢ 3 = λ z. absurd (omega (arith, c.field_number-number.ensures, c.if-number-eq3.false, z)) in
-    let call = c.keep_field in
+    let call = c.keep in
+    let scores = means string_bytes (λ v. v) n.scores.entries in
+    let shades = means (λ k. k) shade_number n.shades.entries in
     record {
-      merged = kept_merged c.args.depth c.args.tag.number c.args.tag.wire_type c.args.buf.now.now call.new.buf.now c.args.budget.now call.new.budget call.result (means string_bytes (λ v. v) n.scores.entries) n.children.entries (means (λ k. k) shade_number n.shades.entries) n.rest.records c.args.node.now c.node.view_is
-          call.new.fields.records one two three call.ensures.taken;
-      full = taken_full keep_takes keep_need c.args.depth n.rest.records call.new.fields.records c.args.tag.number c.args.tag.wire_type c.args.buf.now.now call.new.buf.now c.args.budget.now call.new.budget call.result call.ensures.taken;
-      stays = on_err_weaker call.result (λ h. ap (λ z. branch (means string_bytes (λ v. v) n.scores.entries) (children_in n.children.entries) (means (λ k. k) shade_number n.shades.entries) z) h ∙ c.node.view_is) call.ensures.stays;
+      merged = kept_merged c.args.depth c.args.tag.number c.args.tag.wire_type c.args.buf.now.now call.new.buf.now c.args.budget.now call.new.ctx.1.0 call.result scores n.children.entries shades n.rest.records c.args.node.now c.node.view_is call.new.fields.records one two three call.ensures.0;
+      full = taken_full keep_takes keep_need c.args.depth n.rest.records call.new.fields.records c.args.tag.number c.args.tag.wire_type c.args.buf.now.now call.new.buf.now c.args.budget.now call.new.ctx.1.0 call.result call.ensures.0;
+      stays = on_err_weaker call.result (λ h. ap (λ z. branch scores (children_in n.children.entries) shades z) (sym h) ∙ c.node.view_is) call.ensures.1;
     }
