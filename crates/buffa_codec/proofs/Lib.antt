@@ -11,3 +11,4 @@ pub mod TakesLemmas
 pub mod GrammarLemmas
 pub mod PinLemmas
 pub mod PlaceLemmas
+pub mod StrictLemmas

@@ -8,3 +8,5 @@ pub mod Costs
 pub mod Through
 pub mod PackedGrammar
 pub mod Pinned
+pub mod Strict
+pub mod StrictFacts

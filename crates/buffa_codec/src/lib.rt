@@ -13,6 +13,7 @@ pub mod laws;
 pub mod number;
 pub mod packed;
 pub mod repeated;
+pub mod strict;
 
 pub use codec::{ExtensionCodec, PackableCodec, SingularCodec};
 pub use delimited::{BytesCodec, StringCodec};
@@ -21,3 +22,4 @@ pub use last::LastWins;
 pub use number::Numbered;
 pub use packed::PackedRepeated;
 pub use repeated::Repeated;
+pub use strict::{StrictCodec, StrictElementCodec, StrictSingularCodec};
