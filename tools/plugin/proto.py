@@ -89,11 +89,13 @@ class World:
         self.types = {}
 
     def read_parameters(self, text):
-        self.crate, self.module, self.over, self.maps, self.left, self.optional = "", "messages", "buffa", "", set(), set()
+        self.crate, self.module, self.over, self.maps = "", "messages", "buffa", ""
+        self.left, self.optional, self.encoded = set(), set(), set()
+        named = {"leave": self.left, "optional": self.optional, "encoded": self.encoded}
         for word in filter(None, text.split(",")):
             key, _, value = word.partition("=")
-            if key in ("leave", "optional"):
-                (self.left if key == "leave" else self.optional).add(value)
+            if key in named:
+                named[key].add(value)
             elif key in ("crate", "module") or (key, value) in (("over", "buffa"), ("over", "buffa_fields"), ("maps", "ordered")):
                 setattr(self, key, value)
             else:
@@ -103,7 +105,7 @@ class World:
         """Refuses a parameter that names nothing of the files."""
         known = {it.full for f in self.asked for it in f.messages + f.enums + f.others}
         known |= {f"{m.full}.{f.name}" for file in self.asked for m in file.messages for f in m.it.field}
-        for name in sorted((self.left | self.optional) - known):
+        for name in sorted((self.left | self.optional | self.encoded) - known):
             raise Refused(f"nothing is called {name} in these files")
 
     def add_entries(self, full, it):
@@ -158,7 +160,10 @@ class Kind:
             name = message.it.oneof_decl[self.it.oneof_index].name
             field.refuse(f"it is in the oneof {name}, of whose fields one alone may be there, which no list of members says")
         self.see_presence()
-        if entry:
+        self.is_encoded = field.full in world.encoded
+        if self.is_encoded:
+            self.as_encodings(entry)
+        elif entry:
             self.as_map(entry)
         elif self.it.type in MESSAGES:
             self.as_message()
@@ -224,6 +229,13 @@ class Kind:
             self.be(f"Repeated{kind}", name, f"Vec<{name}>", f"[{means}; 0]", 24, "Vec::new(alloc)")
         else:
             self.be(kind, name, f"Option<{name}>", f"Option<{means}>", None, "None")
+
+    def as_encodings(self, entry):
+        """A list of messages, each as its bytes. Of a message that is no list two records are one message, which bytes aren't."""
+        if entry or not self.is_list or self.it.type != Field.TYPE_MESSAGE:
+            self.field.refuse("it is no list of messages, and encoded= is for these alone")
+        self.needs.add("BytesVec")
+        self.be("Repeated", "BytesVec", "Vec<Vec<u8>>", "[[u8; 0]; 0]", 24, "Vec::new(alloc)")
 
     def as_map(self, entry):
         key, value = entry.field
@@ -300,7 +312,7 @@ def see_no_cycle(messages):
     def walk(full, above):
         if full in above:
             path = " in ".join(reversed(above[above.index(full) :] + [full]))
-            messages[full].name.refuse(f"it holds itself ({path}), and is written by hand, as Tree is, or a field is left out")
+            messages[full].name.refuse(f"it holds itself ({path}), and is written by hand, as Tree is, or a field is left out or encoded")
         for kind in messages[full].kinds:
             for inner in kind.inside:
                 if inner in messages and inner not in done:

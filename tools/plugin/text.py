@@ -3,6 +3,7 @@ from names import BELOW, FACADE, ordered, snake
 
 WIDTH = 100
 CALL_WIDTH = 60
+LONGEST = 120
 
 
 def uses(world, names, own):
@@ -78,6 +79,9 @@ def message_docs(message):
     made += [f"    {r};" for r in ranges(message)] + ["}"]
     if message.left:
         made += ["", "Left among the fields that aren't declared: " + ", ".join(f"{f.it.name} = {f.it.number}" for f in message.left) + "."]
+    encoded = [f"{k.it.name} = {k.number}" for k in message.kinds if k.is_encoded]
+    if encoded:
+        made += ["", "Held as the encodings of its messages, which merge_from_slice reads: " + ", ".join(encoded) + "."]
     return docs(made)
 
 
@@ -194,6 +198,28 @@ def write_message(world, message, messages):
     return "\n".join(made + (extension_set(message) if message.it.extension_range else [])) + "\n"
 
 
+def cases(head, parts):
+    """A function by cases, on one line, or where they are too many on one each."""
+    line = f"    {head} {{ elim [ {' | '.join(parts)} ] }};"
+    if len(line) <= LONGEST:
+        return [line]
+    return [f"    {head} {{ elim ["] + [f"      | {it}" for it in parts] + ["    ] };"]
+
+
+def tests(head, parts, last):
+    """Tests one after the other, on one line, or where they are too many on several."""
+    line = f"    {head} {' else '.join(parts + [last])} }};"
+    if len(line) <= LONGEST:
+        return [line]
+    made = [f"    {head}"]
+    for part in parts:
+        if made[-1].endswith("else") and len(made[-1]) + len(part) + 6 <= WIDTH:
+            made[-1] += f" {part} else"
+        else:
+            made.append(f"        {part} else")
+    return made + [f"        {last} }};"]
+
+
 def integer(number):
     """A number as contracts write it."""
     return f"pos {number}" if number >= 0 else f"negsuc {-number - 1}"
@@ -212,15 +238,16 @@ def write_enum(world, enum):
     made += ["#[derive(Clone, Copy, Debug, PartialEq, Eq)]", f"pub enum {name} {{"]
     for variant, _, value in values:
         made += docs(value.said, "    ") + [f"    {variant},"]
-    means = " | ".join(f"{v} ↦ {integer(n)}" for v, n, _ in values)
+    means = [f"{v} ↦ {integer(n)}" for v, n, _ in values]
     made += ["}", "", f"impl Blank for {name} {{", f"    ghost use {variants};", "", "    type Meaning = i32;", ""]
-    made += [f"    ghost meaning = {{ elim [ {means} ] }};", "", f"    ghost blank_is = {{ {integer(values[0][1])} }};", ""]
+    made += cases("ghost meaning =", means) + ["", f"    ghost blank_is = {{ {integer(values[0][1])} }};", ""]
     made += [f"    fn blank(_alloc: Global) -> {name} {{", f"        {name}::{values[0][0]}", "    }", "}", ""]
-    tests = " else ".join(f"if int_eq n ({integer(n)}) then Some {v}" for v, n, _ in values)
-    made += [f"impl Enumeration for {name} {{", f"    ghost use {variants};", "", f"    ghost of_number = {{ λ n. {tests} else None }};", ""]
+    asked = [f"if int_eq n ({integer(n)}) then Some {v}" for v, n, _ in values]
+    made += [f"impl Enumeration for {name} {{", f"    ghost use {variants};", ""]
+    made += tests("ghost of_number = { λ n.", asked, "None") + [""]
     made += [f"    fn from_i32(number: i32) -> Option<{name}> {{", "        match number {"]
     made += [f"            {n} => Some({name}::{v})," for v, n, _ in values] + ["            _ => None,", "        }", "    }", ""]
     made += ["    fn to_i32(&self) -> i32 {", "        match self {"] + [f"            {name}::{v} => {n}," for v, n, _ in values]
-    stays = " | ".join(f"{v} ↦ refl" for v, _, _ in values)
-    made += ["        }", "    }", "", f"    ghost stays = {{ elim [ {stays} ] }};", "", "    ghost blank_declared = { refl };", "}"]
+    stays = [f"{v} ↦ refl" for v, _, _ in values]
+    made += ["        }", "    }", ""] + cases("ghost stays =", stays) + ["", "    ghost blank_declared = { refl };", "}"]
     return "\n".join(made) + "\n"
