@@ -144,8 +144,8 @@ class World:
         field.refuse(f"its type {full} is of {file}, which this run doesn't write: name that file, too")
 
 
-class Kind:
-    """How a field stands in its message: the name of the member, its kind and Rust type, what it means and its default."""
+class Member:
+    """How a field stands in its message: the name of the member, its member type and Rust type, what it means and its default."""
 
     def __init__(self, world, field, message):
         self.field, self.it = field, field.it
@@ -201,9 +201,9 @@ class Kind:
         self.needs |= {"OpenEnum", "EnumValue"}
         return f"OpenEnum<{name}>", f"EnumValue<{name}>", "(bool, i32)", 8, f"EnumValue::<{name}>::blank(alloc)", False
 
-    def be(self, kind, of, rust, means, cost, blank):
-        self.kind, self.rust, self.means, self.cost, self.blank = f"{kind}<{of}>", rust, means, cost, blank
-        self.needs.add(kind)
+    def be(self, member_type, of, rust, means, cost, blank):
+        self.member_type, self.rust, self.means, self.cost, self.blank = f"{member_type}<{of}>", rust, means, cost, blank
+        self.needs.add(member_type)
         if self.keeps:
             self.needs.add("Keeping")
 
@@ -223,12 +223,12 @@ class Kind:
     def as_message(self):
         name = self.world.type_of(self.field, self.it.type_name)
         self.inside.append(self.it.type_name.lstrip("."))
-        kind = "Group" if self.it.type == Field.TYPE_GROUP else "Nested"
+        member_type = "Group" if self.it.type == Field.TYPE_GROUP else "Nested"
         means = f"<{name} as Blank>::Meaning"
         if self.is_list:
-            self.be(f"Repeated{kind}", name, f"Vec<{name}>", f"[{means}; 0]", 24, "Vec::new(alloc)")
+            self.be(f"Repeated{member_type}", name, f"Vec<{name}>", f"[{means}; 0]", 24, "Vec::new(alloc)")
         else:
-            self.be(kind, name, f"Option<{name}>", f"Option<{means}>", None, "None")
+            self.be(member_type, name, f"Option<{name}>", f"Option<{means}>", None, "None")
 
     def as_encodings(self, entry):
         """A list of messages, each as its bytes. Of a message that is no list two records are one message, which bytes aren't."""
@@ -241,16 +241,16 @@ class Kind:
         key, value = entry.field
         codec, rust, means = self.codec(key)[:3]
         into, cost = ("BTreeMap", 24) if self.world.maps else ("Map", 112)
-        kind = "OrderedMapOf" if self.world.maps else "MapOf"
+        member_type = "OrderedMapOf" if self.world.maps else "MapOf"
         self.needs |= {into, "And"}
         if value.type in MESSAGES:
             name = self.world.type_of(self.field, value.type_name)
             self.inside.append(value.type_name.lstrip("."))
             held, held_means, of = name, f"<{name} as Blank>::Meaning", name
-            kind += "Nested"
+            member_type += "Nested"
         else:
             of, held, held_means, _, _, self.keeps = self.codec(value)
-        self.be(kind, f"{codec}, {of}", f"{into}<{rust}, {held}>", f"[And<{means}, {held_means}>; 0]", cost, f"{into}::new(alloc)")
+        self.be(member_type, f"{codec}, {of}", f"{into}<{rust}, {held}>", f"[And<{means}, {held_means}>; 0]", cost, f"{into}::new(alloc)")
 
     def declared(self):
         """The field as the .proto has it."""
@@ -283,19 +283,19 @@ class Message:
             name.refuse("it is a MessageSet, which is written by hand, as SetMsg is")
         fields = [Name(name.file, name.path + (2, at), f"{name.full}.{f.name}", f) for at, f in enumerate(self.it.field)]
         self.left = sorted((f for f in fields if f.full in world.left), key=lambda f: f.it.number)
-        self.kinds = sorted(self.read([f for f in fields if f.full not in world.left]), key=lambda k: k.number)
+        self.members = sorted(self.read([f for f in fields if f.full not in world.left]), key=lambda k: k.number)
         names = {}
-        for kind in self.kinds:
-            other = names.setdefault(kind.name, kind)
-            if other is not kind:
-                kind.field.refuse(f"the name of its member is that of {other.field.full}, too")
+        for member in self.members:
+            other = names.setdefault(member.name, member)
+            if other is not member:
+                member.field.refuse(f"the name of its member is that of {other.field.full}, too")
 
     def read(self, fields):
         """The members, or all that is refused of them."""
         made, refused = [], []
         for field in fields:
             try:
-                made.append(Kind(self.world, field, self.name))
+                made.append(Member(self.world, field, self.name))
             except Refused as it:
                 refused.append(str(it))
         if refused:
@@ -304,7 +304,7 @@ class Message:
 
     def cost(self, messages):
         """The bytes of the struct, by the rule at the head of this file."""
-        return 24 + sum(k.cost or messages[k.inside[-1]].cost(messages) + 8 for k in self.kinds)
+        return 24 + sum(k.cost or messages[k.inside[-1]].cost(messages) + 8 for k in self.members)
 
 
 def see_no_cycle(messages):
@@ -313,8 +313,8 @@ def see_no_cycle(messages):
         if full in above:
             path = " in ".join(reversed(above[above.index(full) :] + [full]))
             messages[full].name.refuse(f"it holds itself ({path}), and is written by hand, as Tree is, or a field is left out or encoded")
-        for kind in messages[full].kinds:
-            for inner in kind.inside:
+        for member in messages[full].members:
+            for inner in member.inside:
                 if inner in messages and inner not in done:
                     walk(inner, above + [full])
         done.add(full)

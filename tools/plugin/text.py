@@ -75,11 +75,11 @@ def docs(lines, indent=""):
 
 def message_docs(message):
     made = list(message.name.said) + ([""] if message.name.said else [])
-    made += [f"message {message.it.name} {{"] + [f"    {k.declared()}" for k in message.kinds]
+    made += [f"message {message.it.name} {{"] + [f"    {k.declared()}" for k in message.members]
     made += [f"    {r};" for r in ranges(message)] + ["}"]
     if message.left:
         made += ["", "Left among the fields that aren't declared: " + ", ".join(f"{f.it.name} = {f.it.number}" for f in message.left) + "."]
-    encoded = [f"{k.it.name} = {k.number}" for k in message.kinds if k.is_encoded]
+    encoded = [f"{k.it.name} = {k.number}" for k in message.members if k.is_encoded]
     if encoded:
         made += ["", "Held as the encodings of its messages, which merge_from_slice reads: " + ", ".join(encoded) + "."]
     return docs(made)
@@ -90,36 +90,36 @@ def ranges(message):
     return [f"extensions {a}" if a == b else f"extensions {a} to {b}" for a, b in ends]
 
 
-def layout(kinds):
+def layout(members):
     made = []
-    for kind in kinds:
-        shape = f"⟦<{kind.kind} as Member>⟧.shape"
-        word = "field_kept" if kind.keeps else "field"
-        made.append(f"{word} {kind.number} (λ m. m.{kind.in_contract}) {shape}")
-        if kind.keeps:
-            made.append(f"⟦<{kind.kind} as Keeping>⟧.aside")
+    for member in members:
+        shape = f"⟦<{member.member_type} as Member>⟧.shape"
+        word = "field_kept" if member.keeps else "field"
+        made.append(f"{word} {member.number} (λ m. m.{member.in_contract}) {shape}")
+        if member.keeps:
+            made.append(f"⟦<{member.member_type} as Keeping>⟧.aside")
         made[-1] += " ("
-    made.append("keep (λ m. m.rest.records)" + ")" * len(kinds) + " };")
+    made.append("keep (λ m. m.rest.records)" + ")" * len(members) + " };")
     return ["    ghost layout = { " + made[0]] + ["        " + it for it in made[1:]]
 
 
 def visit_and_take(message):
     made = ["    fn visit<V: Visitor>(&self, visitor: &mut V) {"]
-    for kind in message.kinds:
-        word = "visit_keeping" if kind.keeps else "visit"
-        made += called("        ", f"visitor.{word}::<{kind.kind}>", [str(kind.number), f"&self.{kind.name}"], ";")
+    for member in message.members:
+        word = "visit_keeping" if member.keeps else "visit"
+        made += called("        ", f"visitor.{word}::<{member.member_type}>", [str(member.number), f"&self.{member.name}"], ";")
     made += ["        visitor.visit_kept(&self.rest);", "    }", "", "    fn take("]
     made += [f"        {it}," for it in ("&mut self", "alloc: Global", "tag: Tag", "buf: &mut &[u8]", "ctx: DecodeContext<'_>")]
     made += ["    ) -> Result<(), DecodeError> {"]
     keep = "kept::keep(alloc, &mut self.rest, tag, buf, ctx)"
-    if not message.kinds:
+    if not message.members:
         return made + [f"        {keep}", "    }"]
     made += ["        match tag.field_number() {"]
-    for kind in message.kinds:
-        beside = ["&mut self.rest"] if kind.keeps else []
-        call = f"{kind.kind.replace('<', '::<', 1)}::{'merge_kept' if kind.keeps else 'merge'}"
-        args = [f"&mut self.{kind.name}"] + beside + ["alloc", "tag", "buf", "ctx"]
-        made += called("            ", f"{kind.number} => {call}", args, ",")
+    for member in message.members:
+        beside = ["&mut self.rest"] if member.keeps else []
+        call = f"{member.member_type.replace('<', '::<', 1)}::{'merge_kept' if member.keeps else 'merge'}"
+        args = [f"&mut self.{member.name}"] + beside + ["alloc", "tag", "buf", "ctx"]
+        made += called("            ", f"{member.number} => {call}", args, ",")
     return made + [f"            _ => {keep},", "        }", "    }"]
 
 
@@ -158,20 +158,20 @@ impl ExtensionSet for {message.rust} {{
 
 
 def head_of_message(world, message):
-    kinds = message.kinds
+    members = message.members
     names = set("Fields Formed KeptFields Listed Listing Visitor kept Blank DecodeContext DecodeError Tag UnknownFields Global".split())
-    names = names.union(*[k.needs for k in kinds])
-    names |= {"Member"} if kinds else set()
-    if kinds:
-        names.add("And" if len(kinds) == 1 else f"And{min(len(kinds) + 1, 16)}")
-        over = len(kinds) + 1 - 15
-        while len(kinds) >= 16 and over > 1:
+    names = names.union(*[k.needs for k in members])
+    names |= {"Member"} if members else set()
+    if members:
+        names.add("And" if len(members) == 1 else f"And{min(len(members) + 1, 16)}")
+        over = len(members) + 1 - 15
+        while len(members) >= 16 and over > 1:
             names.add("And" if over == 2 else f"And{min(over, 16)}")
             over -= 15
     has_set = bool(message.it.extension_range)
     names |= {"ExtensionSet"} if has_set else set()
-    words = ["field"] * any(not k.keeps for k in kinds) + ["field_kept"] * any(k.keeps for k in kinds) + ["keep"]
-    own = {world.types[i] for k in kinds for i in k.inside}
+    words = ["field"] * any(not k.keeps for k in members) + ["field_kept"] * any(k.keeps for k in members) + ["keep"]
+    own = {world.types[i] for k in members for i in k.inside}
     made = [f"//! {message.name.full}, made of {message.name.file.name} by protoc-gen-buffa.", ""]
     made += ["ghost use Rattle.std.proofs.Common.{lit<, refl};"]
     made += ["ghost use Rattle.std.specs.Prelude.{codes};"] * has_set
@@ -180,18 +180,18 @@ def head_of_message(world, message):
 
 
 def write_message(world, message, messages):
-    name, cost, kinds = message.rust, message.cost(messages), message.kinds
+    name, cost, members = message.rust, message.cost(messages), message.members
     made = head_of_message(world, message) + [""] + message_docs(message) + ["#[derive(Drop)]", f"pub struct {name} {{"]
-    for kind in kinds:
-        made += docs(kind.field.said, "    ") + [f"    pub {kind.name}: {kind.rust},"]
+    for member in members:
+        made += docs(member.field.said, "    ") + [f"    pub {member.name}: {member.rust},"]
     made += ["    /// The fields that aren't declared, in order.", "    pub rest: UnknownFields,", "}", ""]
-    made += [f"impl Fields for {name} {{"] + meaning([k.means for k in kinds] + ["KeptFields"]) + [""]
+    made += [f"impl Fields for {name} {{"] + meaning([k.means for k in members] + ["KeptFields"]) + [""]
     made += [f"    const COST: usize = {cost};", "", f"    ghost COST = {{ {cost} }};", "", "    ghost positive = { lit< tt };", ""]
-    made += layout(kinds) + ["", "    ghost sound = { refl };", ""] + visit_and_take(message) + ["}", ""]
+    made += layout(members) + ["", "    ghost sound = { refl };", ""] + visit_and_take(message) + ["}", ""]
     made += [f"impl Blank for {name} {{", f"    type Meaning = <{name} as Fields>::Meaning;", ""]
     made += [f"    ghost {a} = {{ ⟦<{name} as Fields>⟧.layout.{b} }};\n" for a, b in (("meaning", "meaning"), ("blank_is", "blank"))]
     made += [f"    fn blank(alloc: Global) -> {name} {{", f"        {name} {{"]
-    made += [f"            {k.name}: {k.blank}," for k in kinds] + ["            rest: UnknownFields::new(alloc),"]
+    made += [f"            {k.name}: {k.blank}," for k in members] + ["            rest: UnknownFields::new(alloc),"]
     made += ["        }", "    }", "}", "", f"impl Listing for {name} {{"]
     made += ["    ghost means = { λ m. refl };", "", "    ghost starts = { refl };", "}", ""]
     made += [f"impl Formed for {name} {{", "    type Form = Listed;", "}"]

@@ -1,7 +1,7 @@
 //! Messages by their fields: a struct of one's own is a [`Message`](crate::Message), and its author writes no proof.
 //!
 //! A struct is one by [`Fields`], [`Blank`](crate::Blank), [`Listing`] and [`Formed`]; what these cite is handed on in
-//! `specs/` under the name `Members`. [`crate::laws::members`] says which member each kind is.
+//! `specs/` under the name `Members`. [`crate::laws::fields`] says what each member type is.
 //!
 //! ```ignore
 //! impl Fields for Stock { .. }
@@ -11,7 +11,6 @@ pub use buffa_fields::fields::Fields;
 pub use buffa_fields::group::Group;
 pub use buffa_fields::keeping::Keeping;
 pub use buffa_fields::kept::{self, KeptFields};
-pub use buffa_fields::kind::Kind;
 pub use buffa_fields::map_member::MapOf;
 pub use buffa_fields::map_nested::MapOfNested;
 pub use buffa_fields::meaning::{
@@ -26,6 +25,7 @@ pub use buffa_fields::ordered_map::OrderedMapOf;
 pub use buffa_fields::ordered_nested::OrderedMapOfNested;
 pub use buffa_fields::packed::{Packable, Packed};
 pub use buffa_fields::plain::Plain;
+pub use buffa_fields::proto_type::ProtoType;
 pub use buffa_fields::repeated::Repeated;
 pub use buffa_fields::repeated_group::RepeatedGroup;
 pub use buffa_fields::repeated_nested::RepeatedNested;

@@ -30,13 +30,13 @@ pub use crate::name_laws as names;
 /// Laws of the words of clauses that this crate hands on.
 pub use crate::word_laws as words;
 /// Laws of bytes: varints, tags, fields, scalars and texts.
-pub use buffa_wire::laws::fields;
+pub use buffa_wire::laws::wire;
 /// Laws of codecs of extensions: scalars, texts, enums and lists.
 pub use buffa_codec::laws as extension_codecs;
 /// Laws of sets and clears of extensions, and of messages in them.
 pub use buffa_ext::laws as extensions;
-/// Laws of messages that are lists of their members, and of the kinds of these.
-pub use buffa_fields::laws as members;
+/// Laws of messages that are lists of their members, and of member types.
+pub use buffa_fields::laws as fields;
 /// Laws of map fields: codecs, entries, runs, sizes, encodings and rewrites.
 pub use buffa_map::laws as map_fields;
 /// Laws of Items of a MessageSet.

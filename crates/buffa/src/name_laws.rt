@@ -1,4 +1,4 @@
-//! What the names of this crate stand for: no two limits, codecs, kinds of fields or samples can be exchanged while these laws hold.
+//! What the names of this crate stand for: no two limits, codecs, member types or samples can be exchanged while these laws hold.
 
 ghost use Rattle.std.specs.Prelude.{◌≡◌, ◌∷◌, ◌-◌, ◌^◌, [], ℕ, List, false, map, option_map, pos, true};
 ghost use Rattle.buffa_bytes.specs.Scalars.{bool_of, fixed32_of, fixed64_of, int64_of, sfixed32_of, sfixed64_of};
@@ -24,7 +24,7 @@ ghost use Rattle.buffa_map.specs.Pairs.{put};
 ghost use Rattle.buffa_map.specs.Scalars.{bytes_reading, number_reading, string_reading};
 
 use crate::extension::{ExtensionCodec, PackableCodec, SingularCodec, codecs};
-use crate::fields::{Kind, Listing, Member, OrderedKey, Packable};
+use crate::fields::{Listing, Member, OrderedKey, Packable, ProtoType};
 use crate::map_codec::{MapCodec, MapStorage, MapValueDecode};
 use crate::{
     Blank, DEFAULT_ELEMENT_MEMORY_LIMIT, DEFAULT_UNKNOWN_FIELD_LIMIT, Enumeration,
@@ -127,8 +127,16 @@ pub fn samples_are_these()
     ensures set { ⟦<samples::SetMsg as MessageSpec>⟧.COST ≡ 24 }
 {}
 
-/// Which kind each name of [`fields`] is: by the records of its values, and of maps by what they make of an entry.
-pub fn kinds_are_these<C: Kind, P: Packable, N: Message, KC: MapCodec, VC: MapCodec, M: Listing>()
+/// Which member type each name of [`fields`] is: by the records of its values, and of maps by what they make of an
+/// entry.
+pub fn member_types_are_these<
+    C: ProtoType,
+    P: Packable,
+    N: Message,
+    KC: MapCodec,
+    VC: MapCodec,
+    M: Listing,
+>()
 where
     KC::Value: MapKey + Hash + OrderedKey,
     ensures plain { (n : ℕ) (v : _) → ⟦<fields::Plain<C> as Member>⟧.shape.records n v

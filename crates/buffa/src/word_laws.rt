@@ -174,8 +174,8 @@ pub fn map_words_are_these<V, K, M, A, B, W>()
     ensures value_at { (map_fields.value_at {V = V}) ≡ (codec.value_at {V = V}) }
     ensures lent_records { map_fields.lent_records ≡ lent.lent_records }
     ensures records_left { map_fields.records_left ≡ lent.records_left }
-    ensures room_in { map_fields.room_in ≡ lent.room_in }
-    ensures room_left { map_fields.room_left ≡ lent.room_left }
+    ensures capacity_in { map_fields.capacity_in ≡ lent.capacity_in }
+    ensures capacity_left { map_fields.capacity_left ≡ lent.capacity_left }
     ensures dropping { (map_fields.dropping {K = K} {V = V}) ≡ (merge.dropping {K = K} {V = V}) }
     ensures keeping { (map_fields.keeping {K = K} {V = V}) ≡ (merge.keeping {K = K} {V = V}) }
     ensures lending { (map_fields.lending {K = K} {V = V} {X = A}) ≡ (merge.lending {K = K} {V = V} {X = A}) }
@@ -198,10 +198,10 @@ pub fn extension_relations_are_these<A, V, M, T, E, X>()
     ensures adds_some { AreAlike3 (extensions.AddsSome {A = A}) (decoded.AddsSome {A = A}) }
     ensures adds_some_values { AreAlike4 (extensions.AddsSomeValues {V = V} {M = M}) (decoded.AddsSomeValues {V = V} {M = M}) }
     ensures adds_values { AreAlike4 (extensions.AddsValues {V = V} {M = M}) (decoded.AddsValues {V = V} {M = M}) }
-    ensures keeps_places { AreAlike2 extensions.KeepsPlaces decoded.KeepsPlaces }
+    ensures keeps_capacity { AreAlike2 extensions.KeepsCapacity decoded.KeepsCapacity }
     ensures refuses { AreAlike2 (extensions.Refuses {T = T}) (decoded.Refuses {T = T}) }
     ensures spends_in { AreAlike4 extensions.SpendsIn decoded.SpendsIn }
-    ensures uses_places { AreAlike4 (extensions.UsesPlaces {T = T} {E = E} {A = A}) (decoded.UsesPlaces {T = T} {E = E} {A = A}) }
+    ensures uses_vec_room { AreAlike4 (extensions.UsesVecRoom {T = T} {E = E} {A = A}) (decoded.UsesVecRoom {T = T} {E = E} {A = A}) }
     ensures holds_record { AreAlike2 extensions.HoldsRecord steps.HoldsRecord }
     ensures is_cleared { AreAlike3 extensions.IsCleared steps.IsCleared }
     ensures is_set { AreAlike4 extensions.IsSet steps.IsSet }

@@ -10,5 +10,5 @@ pub mod ThroughLemmas
 pub mod TakesLemmas
 pub mod GrammarLemmas
 pub mod PinLemmas
-pub mod PlaceLemmas
+pub mod CapacityLemmas
 pub mod StrictLemmas

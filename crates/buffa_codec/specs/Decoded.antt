@@ -80,13 +80,13 @@ AddsValues meaning old more new = map meaning new ≡ map meaning old ++ more
 abbrev pub AddsSomeValues : {V M : Type 0} → (V → M) → List V → List M → List V → Type 0
 AddsSomeValues meaning old more new = (k : ℕ) × (k < length more) × (map meaning new ≡ map meaning old ++ take k more)
 
--- no place for a record is lost: each that was there is free, or holds one
-abbrev pub KeepsPlaces : Held → Held → Type 0
-KeepsPlaces old new = length old.records + old.spare ≤ length new.records + new.spare
+-- no capacity is lost: the room for each record is still there, or holds one
+abbrev pub KeepsCapacity : Held → Held → Type 0
+KeepsCapacity old new = length old.records + old.spare ≤ length new.records + new.spare
 
--- what fits in the places is never refused, and each takes one of them
-abbrev pub UsesPlaces : {T E A : Type 0} → Result T E → ℕ → List A → ℕ → Type 0
-UsesPlaces r places more left = MatchResult r (λ _. places ≤ left + length more) (λ _. places < length more)
+-- what fits in a vector's room is never refused, and takes no more of it than there are values
+abbrev pub UsesVecRoom : {T E A : Type 0} → Result T E → ℕ → List A → ℕ → Type 0
+UsesVecRoom r room more left = MatchResult r (λ _. room ≤ left + length more) (λ _. room < length more)
 
 -- the values of a record stand behind the others
 abbrev pub AddsRecord : {V M : Type 0} → (V → M) → (List ℕ → List M) → (Datum → Option M) → List V → Datum → List V → Type 0

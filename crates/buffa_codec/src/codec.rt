@@ -9,8 +9,8 @@ ghost use Rattle.buffa_wire.specs.BudgetLeft.{BudgetLeft, Covers, Pays, budget_l
 ghost use Rattle.buffa_wire.specs.Records.{Datum, bytes};
 ghost use Rattle.buffa_wire.specs.View.{datum_of};
 ghost use Rattle.buffa_codec.specs.Sub.{sub, tagged};
-ghost use Rattle.buffa_codec.specs.Decoded.{Adds, AddsSome, AddsSomeValues, AddsValues, KeepsPlaces, LeavesIn, Refuses};
-ghost use Rattle.buffa_codec.specs.Decoded.{SpendsIn, UsesPlaces, one_in};
+ghost use Rattle.buffa_codec.specs.Decoded.{Adds, AddsSome, AddsSomeValues, AddsValues, KeepsCapacity, LeavesIn, Refuses};
+ghost use Rattle.buffa_codec.specs.Decoded.{SpendsIn, UsesVecRoom, one_in};
 
 use buffa_wire::{
     Blank, DecodeContext, EncodeError, UnknownField, UnknownFieldData, UnknownFields,
@@ -113,7 +113,7 @@ pub trait ExtensionCodec {
         ensures err { OnErr result (AddsSome fields.old.records (tagged number (recs (meaning value)))
             fields.new.records) }
         ensures refused { Refuses result (refusal (meaning value)) }
-        ensures room { KeepsPlaces fields.old fields.new }
+        ensures room { KeepsCapacity fields.old fields.new }
         ensures reserved { in_room (meaning value) → length (recs (meaning value)) ≤ fields.old.spare → IsOk result }
         ensures fits { OnOk result (fits (meaning value)) };
 
@@ -135,7 +135,7 @@ pub trait ExtensionCodec {
         ensures err { OnErr result (AddsSome fields.old.records (tagged number (recs (meaning value)))
             fields.new.records) }
         ensures refused { Refuses result (refusal (meaning value)) }
-        ensures room { KeepsPlaces fields.old fields.new }
+        ensures room { KeepsCapacity fields.old fields.new }
         ensures reserved { in_room (meaning value) → length (recs (meaning value)) ≤ fields.old.spare → IsOk result }
         ensures fits { OnOk result (fits (meaning value)) }
     {
@@ -249,7 +249,7 @@ pub trait SingularCodec {
     fn decode_packed(bytes: &[u8], out: &mut Vec<Self::Value>) -> Result<(), AllocError>
         ensures ok { OnOk result (AddsValues Self.Value.meaning out.old.items (packed bytes.now) out.new.items) }
         ensures err { OnErr result (AddsSomeValues Self.Value.meaning out.old.items (packed bytes.now) out.new.items) }
-        ensures room { UsesPlaces result (vec_capacity out.old - vec_len out.old) (packed bytes.now)
+        ensures room { UsesVecRoom result (vec_capacity out.old - vec_len out.old) (packed bytes.now)
             (vec_capacity out.new - vec_len out.new) }
         ensures capacity { vec_capacity out.old ≤ vec_capacity out.new }
         ensures full { OnErr result (packed bytes.now ≢ []) };
@@ -348,7 +348,7 @@ pub(crate) fn push_record(
     ensures ok { OnOk result (Adds fields.old.records ((number, datum_of payload) ∷ []) fields.new.records) }
     ensures err { OnErr result (fields.new ≡ fields.old) }
     ensures refused { Refuses result None }
-    ensures room { KeepsPlaces fields.old fields.new }
+    ensures room { KeepsCapacity fields.old fields.new }
     ensures reserved { 0 < fields.old.spare → IsOk result }
 {
     Ok(fields.push(UnknownField { number, payload })?)

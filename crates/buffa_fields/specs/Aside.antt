@@ -25,7 +25,7 @@ kept_behind kept x = (x.0, kept ++ x.1)
 abbrev pub kept_among : {A B : Type 0} → (B → Kept → B) → B → A × Kept → A × B
 kept_among adds b x = (x.0, adds b x.1)
 
--- What a member of a kind puts aside, where its value means an X: what a payload makes of the value and of the records that are
+-- What a member puts aside, where its value means an X: what a payload makes of the value and of the records that are
 -- kept beside it, where that may ask for memory with so many unknown fields left, and what it costs, an unknown field for each
 -- record that is put aside too; what is said of a refused field, which puts nothing aside; which data may have been put aside
 -- under its number, and the levels at which they are again. All else is as the member's shape has it: the value's own records,

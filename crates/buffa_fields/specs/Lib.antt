@@ -4,7 +4,7 @@ pub mod PairFacts
 pub mod Values
 pub mod BackFacts
 pub mod ValueFacts
-pub mod KindFacts
+pub mod BlankFacts
 pub mod Keep
 pub mod KeepFacts
 pub mod Layout
@@ -40,7 +40,7 @@ pub mod GroupFacts
 pub mod RepeatedGroups
 pub mod RepeatedGroupFacts
 pub mod GroupCalls
-pub mod KindCalls
+pub mod MemberCalls
 pub mod KeptMaps
 pub mod KeptMapFacts
 pub mod EntryDepthFacts

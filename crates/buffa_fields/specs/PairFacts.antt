@@ -12,7 +12,7 @@ use Rattle.buffa_wire.specs.Parse.{Fits}
 use Rattle.buffa_wire.specs.Records.{Datum, records_of}
 use Rattle.buffa_wire.specs.Encoding.{records_encoding}
 use Rattle.buffa_wire.specs.Takes.{IsTaken, Leads, Need, Piece, ReadsBack, Stays, Taker, joined_fields}
-use Rattle.buffa_fields.specs.KindFacts.{same_false_only}
+use Rattle.buffa_fields.specs.BlankFacts.{same_false_only}
 use Rattle.buffa_fields.specs.Keep.{AllNumbers}
 use Rattle.buffa_fields.specs.Layout.{IsPutBehind, both_need, both_take, is_number}
 use Rattle.buffa_wire.proofs.EncodingLemmas.{records_encoding-append}

@@ -21,7 +21,7 @@ use denote.Ref.{Bor}
 abbrev pub Refusal : Type 0 → Type 1
 Refusal X = ℕ → X → ℕ → WireType → List ℕ → DecodeError → X → Type 0
 
--- a kind of members says this of refused fields
+-- a member type says this of refused fields
 abbrev pub RefusesAs : {P X : Type 0} → Shape P X → Refusal X → Type 0
 RefusesAs {X = X} s refuses =
     (d : ℕ) (old : X) (n : ℕ) (w : WireType) (bs : List ℕ) (e : DecodeError) (new : X) → s.refuses d old n w bs e new ↔ refuses d old n w bs e new

@@ -1,4 +1,4 @@
-//! Kinds of members that put aside what they don't understand.
+//! Member types that put aside what they don't understand.
 
 ghost use Rattle.buffa_wire.specs.BudgetLeft.{budget_left};
 ghost use Rattle.buffa_fields.specs.Aside.{Aside, ReadsBackBeside, TookBeside};
@@ -7,7 +7,7 @@ use crate::member::Member;
 use buffa_wire::{DecodeContext, DecodeError, Tag, UnknownFields};
 use std::alloc::Global;
 
-/// A kind of members that put what they don't understand into the fields that their message keeps, behind the others: an
+/// A member type that puts what it doesn't understand into the fields that the message keeps, behind the others: an
 /// undeclared value of a closed enum, or the whole entry that has it.
 ///
 /// ```ignore

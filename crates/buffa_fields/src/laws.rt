@@ -1,4 +1,4 @@
-//! Which member each kind is, and which message a list of members: one answer each, in the words of `specs/`.
+//! What each member type is, and which message a list of members: one answer each, in the words of `specs/`.
 //!
 //! The words of `MapCodec`, `MessageSpec` and `Scalar` that these cite are pinned by the laws of the crates below.
 
@@ -47,11 +47,6 @@ ghost use Rattle.buffa_fields.specs.Values.{IfThere, RefusesAlone, ValueTakesMem
 use crate::fields::Fields;
 use crate::group::Group;
 use crate::keeping::Keeping;
-use crate::kind::Kind;
-pub use crate::kind_laws::{
-    members_that_lose_nothing_are_these, numbers_are_these, orders_are_these,
-    texts_and_enums_are_these,
-};
 use crate::map_member::MapOf;
 use crate::map_nested::MapOfNested;
 use crate::member::Member;
@@ -63,6 +58,11 @@ use crate::ordered_map::OrderedMapOf;
 use crate::ordered_nested::OrderedMapOfNested;
 use crate::packed::{Packable, Packed};
 use crate::plain::Plain;
+use crate::proto_type::ProtoType;
+pub use crate::proto_type_laws::{
+    members_that_lose_nothing_are_these, numbers_are_these, orders_are_these,
+    texts_and_enums_are_these,
+};
 use crate::repeated::Repeated;
 use crate::repeated_group::RepeatedGroup;
 use crate::repeated_nested::RepeatedNested;
@@ -71,7 +71,7 @@ use buffa_wire::{Enumeration, MapKey, Message, MessageForm, WireType};
 use std::hash::Hash;
 
 /// A member with implicit presence: a payload of its wire type is its value; the default has no record.
-pub fn plain_members_are_these<C: Kind>()
+pub fn plain_members_are_these<C: ProtoType>()
     ensures meaning { (p : _) → ⟦<Plain<C> as Member>⟧.shape.meaning p ≡ C.Value.meaning p }
     ensures blank { ⟦<Plain<C> as Member>⟧.shape.blank ≡ C.Value.blank_is }
     ensures takes { ⟦<Plain<C> as Member>⟧.shape.takes ≡ value_taken C.reading }
@@ -89,7 +89,7 @@ pub fn plain_members_are_these<C: Kind>()
 {}
 
 /// A member that may be absent: a record where it is there, the default too.
-pub fn optional_members_are_these<C: Kind>()
+pub fn optional_members_are_these<C: ProtoType>()
     ensures meaning { (p : _) → ⟦<Optional<C> as Member>⟧.shape.meaning p ≡ option_map C.Value.meaning p }
     ensures blank { ⟦<Optional<C> as Member>⟧.shape.blank ≡ None }
     ensures takes { ⟦<Optional<C> as Member>⟧.shape.takes ≡ some_taken C.reading }
@@ -107,7 +107,7 @@ pub fn optional_members_are_these<C: Kind>()
 {}
 
 /// A list: each record of its wire type has an element, one with a length packed ones; a record is written for each.
-pub fn lists_are_these<C: Kind>()
+pub fn lists_are_these<C: ProtoType>()
     ensures meaning { (p : _) → ⟦<Repeated<C> as Member>⟧.shape.meaning p ≡ map C.Value.meaning p.items }
     ensures blank { ⟦<Repeated<C> as Member>⟧.shape.blank ≡ [] }
     ensures takes { ⟦<Repeated<C> as Member>⟧.shape.takes ≡ elements_taken C.reading }

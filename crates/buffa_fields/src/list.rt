@@ -8,11 +8,11 @@ ghost use Rattle.buffa_bytes.specs.Number.{IsNumber};
 ghost use Rattle.buffa_wire.specs.Passes.{cap};
 ghost use Rattle.buffa_wire.specs.Encoding.{records_encoding};
 ghost use Rattle.buffa_bytes.specs.Written.{Writes};
-ghost use Rattle.buffa_fields.specs.KindCalls.{ChecksListWire, TakesElements};
+ghost use Rattle.buffa_fields.specs.MemberCalls.{ChecksListWire, TakesElements};
 ghost use Rattle.buffa_fields.specs.Lists.{ElementsTakeMemory, PackedTakeMemory, TakesPacked, element_at, element_records, elements_in};
 ghost use Rattle.buffa_fields.specs.Refusals.{RefusesElements, RefusesTaggedField, RefusesPacked, StopsAtElement};
 
-use crate::kind::Kind;
+use crate::proto_type::ProtoType;
 use crate::value::{value_len, write_value};
 use buffa_map::map_codec::{MapCodec, MapValueDecode};
 use buffa_wire::{
@@ -132,7 +132,7 @@ pub(crate) fn take_elements<C: MapCodec>(
 }
 
 // The length of the fields of elements, or 2^32 - 1 where it is more.
-pub(crate) fn elements_len<C: Kind>(number: u32, values: &[C::Value]) -> u32
+pub(crate) fn elements_len<C: ProtoType>(number: u32, values: &[C::Value]) -> u32
     requires { IsNumber number }
     ensures { result ≡ cap (length (records_encoding
         (element_records C.datum number (map C.Value.meaning values.now)))) }
@@ -145,7 +145,7 @@ pub(crate) fn elements_len<C: Kind>(number: u32, values: &[C::Value]) -> u32
 }
 
 // Writes a field for each element.
-pub(crate) fn write_elements<C: Kind, S: EncodeSink>(
+pub(crate) fn write_elements<C: ProtoType, S: EncodeSink>(
     number: u32,
     values: &[C::Value],
     sink: &mut S,

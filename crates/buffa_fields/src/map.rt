@@ -7,7 +7,7 @@ ghost use Rattle.buffa_wire.specs.Passes.{cap};
 ghost use Rattle.buffa_wire.specs.Encoding.{records_encoding};
 ghost use Rattle.buffa_map.specs.Pairs.{means, put};
 ghost use Rattle.buffa_fields.specs.Calls.{ChecksWire};
-ghost use Rattle.buffa_fields.specs.KindCalls.{TakesEntry};
+ghost use Rattle.buffa_fields.specs.MemberCalls.{TakesEntry};
 ghost use Rattle.buffa_fields.specs.MapFields.{PairTakesMemory, WritesMap, map_records};
 ghost use Rattle.buffa_fields.specs.Refusals.{RefusesPairIn};
 

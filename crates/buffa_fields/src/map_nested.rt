@@ -12,7 +12,7 @@ ghost use Rattle.buffa_map.proofs.BackLemmas.{plain_back};
 ghost use Rattle.buffa_map.specs.Message.{message_reading};
 ghost use Rattle.buffa_map.specs.Pairs.{means, put};
 ghost use Rattle.buffa_map.specs.Encoding.{AllHold};
-ghost use Rattle.buffa_fields.specs.KindCalls.{SizesPairs, WritesPairs};
+ghost use Rattle.buffa_fields.specs.MemberCalls.{SizesPairs, WritesPairs};
 ghost use Rattle.buffa_fields.specs.MapFields.{PairTakesMemory, pair_cost, pair_taken};
 ghost use Rattle.buffa_fields.specs.MapFacts.{distinct_put, map_stays};
 ghost use Rattle.buffa_fields.specs.Nested.{FitsInside};

@@ -1,4 +1,4 @@
-//! Kinds of members.
+//! Member types.
 
 ghost use Rattle.std.specs.Prelude.{◌≡◌, [], IsOk};
 ghost use Rattle.buffa_wire.specs.BudgetLeft.{budget_left};
@@ -10,7 +10,7 @@ ghost use Rattle.buffa_fields.specs.Layout.{ReadsBackTo, Shape, Took};
 use buffa_wire::{DecodeContext, DecodeError, EncodeError, EncodeSink, SizeCache, Tag};
 use std::alloc::Global;
 
-/// A kind of members of messages: how a member's value is read and written.
+/// A member type: how the value of a member of a message is read and written.
 ///
 /// ```ignore
 /// visitor.visit::<Plain<Int32>>(1, &self.total);

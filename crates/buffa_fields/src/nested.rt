@@ -11,7 +11,7 @@ ghost use Rattle.buffa_wire.specs.Records.{bytes};
 ghost use Rattle.buffa_wire.specs.Encoding.{records_encoding};
 ghost use Rattle.buffa_bytes.specs.Written.{Writes};
 ghost use Rattle.buffa_fields.specs.Calls.{ChecksWire, TakesIn};
-ghost use Rattle.buffa_fields.specs.KindCalls.{WritesMessage};
+ghost use Rattle.buffa_fields.specs.MemberCalls.{WritesMessage};
 ghost use Rattle.buffa_fields.specs.Nested.{FitsInside, MessageTakesMemory, message_cost, message_merged, message_levels, message_records, message_slots, message_taken};
 ghost use Rattle.buffa_fields.specs.NestedFacts.{TellsLength, head, nested_back, message_stays};
 ghost use Rattle.buffa_fields.specs.Refusals.{RefusesTaggedField, RefusesInside, RefusesMessage};

@@ -7,8 +7,8 @@ ghost use Rattle.buffa_fields.specs.Values.{IfThere, RefusesAlone, ValueTakesMem
 ghost use Rattle.buffa_fields.specs.ValueFacts.{some_back};
 ghost use Rattle.buffa_fields.specs.MemberRecords.{optional_records};
 
-use crate::kind::Kind;
 use crate::member::Member;
+use crate::proto_type::ProtoType;
 use crate::value::{take_value, value_len, write_value};
 use buffa_wire::{Blank, DecodeContext, DecodeError, EncodeError, EncodeSink, SizeCache, Tag};
 use std::alloc::Global;
@@ -23,7 +23,7 @@ pub struct Optional<C> {
     of: PhantomData<C>,
 }
 
-impl<C: Kind> Member for Optional<C> {
+impl<C: ProtoType> Member for Optional<C> {
     type Part = Option<C::Value>;
 
     type Meaning = Option<<C::Value as Blank>::Meaning>;
@@ -92,6 +92,6 @@ impl<C: Kind> Member for Optional<C> {
     ghost back = { record {
       back = λ k number d v fits normal low. unfold optional_records in (some_back C.reading C.writing C.datum k number d
           C.MapCodec.plain C.WIRE_TYPE C.MapValueDecode.wire C.MapCodec.written_wire C.fits C.normal C.MapCodec.reads_back
-          C.Kind.datum_encoding v normal);
+          C.ProtoType.datum_encoding v normal);
     } };
 }

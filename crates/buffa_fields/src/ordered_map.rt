@@ -10,7 +10,7 @@ ghost use Rattle.buffa_map.proofs.BackLemmas.{plain_back};
 ghost use Rattle.buffa_map.specs.Encoding.{AllHold};
 ghost use Rattle.buffa_map.specs.Pairs.{means};
 ghost use Rattle.buffa_fields.specs.Calls.{ChecksWire};
-ghost use Rattle.buffa_fields.specs.KindCalls.{TakesOrderedEntry};
+ghost use Rattle.buffa_fields.specs.MemberCalls.{TakesOrderedEntry};
 ghost use Rattle.buffa_fields.specs.MapFields.{PairTakesMemory, pair_cost, pair_taken, entry_records};
 ghost use Rattle.buffa_fields.specs.MapFacts.{map_back, map_stays};
 ghost use Rattle.buffa_fields.specs.OrderedFacts.{ascending_put};

@@ -14,10 +14,10 @@ ghost use Rattle.buffa_fields.specs.ListFacts.{packed_field_back};
 ghost use Rattle.buffa_fields.specs.Refusals.{RefusesElements};
 ghost use Rattle.buffa_fields.specs.Values.{free};
 
-use crate::kind::Kind;
 use crate::list::take_elements;
 use crate::member::Member;
 use crate::nested::{record_len, write_head};
+use crate::proto_type::ProtoType;
 use buffa_map::map_codec::{
     Bool, ClosedEnum, Fixed32, Fixed64, Int32, Int64, MapCodec, MapValueDecode, OpenEnum, Sfixed32,
     Sfixed64, Sint32, Sint64, Uint32, Uint64,
@@ -28,12 +28,12 @@ use buffa_wire::{
 use std::alloc::Global;
 use std::marker::PhantomData;
 
-/// Kinds that can be packed: a payload is no length and so many bytes.
+/// Proto types that can be packed: a payload is no length and so many bytes.
 ///
 /// ```ignore
 /// impl Packable for Int32 { .. }
 /// ```
-pub trait Packable: Kind {
+pub trait Packable: ProtoType {
     /// So a length and so many bytes are packed ones.
     ghost apart: { same_wire Self.reading.wire LengthDelimited ≡ false };
 }
@@ -91,7 +91,7 @@ impl<E: Enumeration> Packable for ClosedEnum<E> {
 }
 
 // The length of all payloads, or 2^64 - 1 where it is more.
-fn payloads_len<C: Kind>(values: &[C::Value]) -> u64
+fn payloads_len<C: ProtoType>(values: &[C::Value]) -> u64
     ensures { result ≡ saturated (length (encodings C.writing.encoding (map C.Value.meaning values.now))) }
 {
     let mut total: u64 = 0;
@@ -102,7 +102,7 @@ fn payloads_len<C: Kind>(values: &[C::Value]) -> u64
 }
 
 // Writes all payloads.
-fn write_payloads<C: Kind, S: EncodeSink>(
+fn write_payloads<C: ProtoType, S: EncodeSink>(
     values: &[C::Value],
     sink: &mut S,
 ) -> Result<(), EncodeError>
@@ -119,7 +119,7 @@ fn write_payloads<C: Kind, S: EncodeSink>(
 }
 
 // The length of the one record of a list, or 2^32 - 1 where it is more; 0 where the list is empty.
-fn packed_len<C: Kind>(number: u32, values: &[C::Value]) -> u32
+fn packed_len<C: ProtoType>(number: u32, values: &[C::Value]) -> u32
     requires { IsNumber number }
     ensures { result ≡ cap (length (records_encoding
         (packed_records C.writing.encoding number (map C.Value.meaning values.now)))) }
@@ -131,7 +131,7 @@ fn packed_len<C: Kind>(number: u32, values: &[C::Value]) -> u32
 }
 
 // Writes the one record of a list, or nothing where it is empty.
-fn write_packed<C: Kind, S: EncodeSink>(
+fn write_packed<C: ProtoType, S: EncodeSink>(
     number: u32,
     values: &[C::Value],
     _cache: &mut SizeCache,
@@ -208,6 +208,6 @@ impl<C: Packable> Member for Packed<C> {
     ghost back = { record {
       back = λ k number d v fits normal low. packed_field_back C.reading C.writing C.datum k number d C.MapCodec.plain
           C.WIRE_TYPE C.MapValueDecode.wire C.MapCodec.written_wire C.fits C.normal
-          C.MapCodec.reads_back C.Kind.datum_encoding C.Packable.apart v fits normal;
+          C.MapCodec.reads_back C.ProtoType.datum_encoding C.Packable.apart v fits normal;
     } };
 }

@@ -6,8 +6,8 @@ ghost use Rattle.buffa_fields.specs.Values.{RefusesAlone, ValueTakesMemory, free
 ghost use Rattle.buffa_fields.specs.ValueFacts.{plain_back};
 ghost use Rattle.buffa_fields.specs.MemberRecords.{plain_records};
 
-use crate::kind::Kind;
 use crate::member::Member;
+use crate::proto_type::ProtoType;
 use crate::value::{take_value, value_len, write_value};
 use buffa_wire::{Blank, DecodeContext, DecodeError, EncodeError, EncodeSink, SizeCache, Tag};
 use std::alloc::Global;
@@ -22,7 +22,7 @@ pub struct Plain<C> {
     of: PhantomData<C>,
 }
 
-impl<C: Kind> Member for Plain<C> {
+impl<C: ProtoType> Member for Plain<C> {
     type Part = C::Value;
 
     type Meaning = <C::Value as Blank>::Meaning;
@@ -83,6 +83,6 @@ impl<C: Kind> Member for Plain<C> {
     ghost back = { record {
       back = λ k number d v fits normal low. unfold plain_records in (plain_back C.reading C.writing C.datum k number d
           C.MapCodec.plain C.WIRE_TYPE C.MapValueDecode.wire C.MapCodec.written_wire C.fits C.normal C.MapCodec.reads_back
-          C.Kind.datum_encoding C.Value.blank_is C.is_blank C.Kind.blank_only v normal.0 normal.1);
+          C.ProtoType.datum_encoding C.Value.blank_is C.is_blank C.ProtoType.blank_only v normal.0 normal.1);
     } };
 }

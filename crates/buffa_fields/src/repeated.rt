@@ -7,9 +7,9 @@ ghost use Rattle.buffa_fields.specs.ListFacts.{elements_back};
 ghost use Rattle.buffa_fields.specs.Refusals.{RefusesElements};
 ghost use Rattle.buffa_fields.specs.Values.{free};
 
-use crate::kind::Kind;
 use crate::list::{elements_len, take_elements, write_elements};
 use crate::member::Member;
+use crate::proto_type::ProtoType;
 use buffa_map::map_codec::{MapCodec, MapValueDecode};
 use buffa_wire::{Blank, DecodeContext, DecodeError, EncodeError, EncodeSink, SizeCache, Tag};
 use std::alloc::Global;
@@ -24,7 +24,7 @@ pub struct Repeated<C> {
     of: PhantomData<C>,
 }
 
-impl<C: Kind> Member for Repeated<C> {
+impl<C: ProtoType> Member for Repeated<C> {
     type Part = Vec<C::Value>;
 
     type Meaning = [<C::Value as Blank>::Meaning; 0];
@@ -74,6 +74,6 @@ impl<C: Kind> Member for Repeated<C> {
     ghost back = { record {
       back = λ k number d v fits normal low. elements_back C.reading C.writing C.datum k number d C.MapCodec.plain
           C.WIRE_TYPE C.MapValueDecode.wire C.MapCodec.written_wire C.fits C.normal
-          C.MapCodec.reads_back C.Kind.datum_encoding v normal;
+          C.MapCodec.reads_back C.ProtoType.datum_encoding v normal;
     } };
 }

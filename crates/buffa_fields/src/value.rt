@@ -10,7 +10,7 @@ ghost use Rattle.buffa_bytes.specs.Written.{Writes};
 ghost use Rattle.buffa_fields.specs.Calls.{ChecksWire, TakesValue};
 ghost use Rattle.buffa_fields.specs.Values.{RefusesAlone, ValueTakesMemory};
 
-use crate::kind::Kind;
+use crate::proto_type::ProtoType;
 use buffa_map::map_codec::{MapCodec, MapValueDecode};
 use buffa_wire::{
     DecodeContext, DecodeError, EncodeError, EncodeSink, Tag, capped, check_wire_type,
@@ -58,7 +58,7 @@ pub fn take_value<C: MapCodec>(
 /// Ok(value_len::<C>(number, part))
 /// ```
 #[inline(always)]
-pub fn value_len<C: Kind>(number: u32, value: &C::Value) -> u32
+pub fn value_len<C: ProtoType>(number: u32, value: &C::Value) -> u32
     requires { IsNumber number }
     ensures { result ≡ cap (length (records_encoding ((number, C.datum (C.Value.meaning value.now)) ∷ []))) }
 {
@@ -70,7 +70,7 @@ pub fn value_len<C: Kind>(number: u32, value: &C::Value) -> u32
 // Writes a tag and a payload.
 #[inline(always)]
 #[tactic(auto, using(buffa_bytes::proofs::SinkLemmas::writes_then, buffa_bytes::proofs::SinkLemmas::front_first))]
-fn write_parts<C: Kind, S: EncodeSink>(
+fn write_parts<C: ProtoType, S: EncodeSink>(
     number: u32,
     value: &C::Value,
     sink: &mut S,
@@ -92,7 +92,7 @@ fn write_parts<C: Kind, S: EncodeSink>(
 /// write_value::<C, S>(number, part, sink)
 /// ```
 #[inline(always)]
-pub fn write_value<C: Kind, S: EncodeSink>(
+pub fn write_value<C: ProtoType, S: EncodeSink>(
     number: u32,
     value: &C::Value,
     sink: &mut S,

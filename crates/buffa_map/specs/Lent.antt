@@ -15,16 +15,16 @@ abbrev pub lent_records : Option (MutBor Held) → List (ℕ × Datum)
 lent_records None = []
 lent_records (Some list) = list.now.records
 
--- how many records a list has, and has room for
-abbrev pub room_of : Held → ℕ
-room_of list = length list.records + list.spare
+-- how many records a list can hold: those that it has, and its room
+abbrev pub capacity_of : Held → ℕ
+capacity_of list = length list.records + list.spare
 
 -- the same of a list that may be lent, at the call, and at the return
-abbrev pub room_in : Option (MutBor Held) → ℕ
-room_in None = 0
-room_in (Some list) = room_of list.now
+abbrev pub capacity_in : Option (MutBor Held) → ℕ
+capacity_in None = 0
+capacity_in (Some list) = capacity_of list.now
 
-abbrev pub room_left : Unit {0} ⊎ ((MutBor Held × Unit {0}) ⊎ ⊥) → ℕ
-room_left (inl u) = 0
-room_left (inr (inl s)) = room_of s.0.now
-room_left (inr (inr s)) = 0
+abbrev pub capacity_left : Unit {0} ⊎ ((MutBor Held × Unit {0}) ⊎ ⊥) → ℕ
+capacity_left (inl u) = 0
+capacity_left (inr (inl s)) = capacity_of s.0.now
+capacity_left (inr (inr s)) = 0

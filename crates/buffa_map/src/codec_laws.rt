@@ -55,7 +55,7 @@ pub fn coded_is_this<VC: MapCodec>()
 /// All values are read back, but for an open enum those alone that hold a declared number as the declared value.
 pub fn codecs_are_these<N: Scalar, T: ProtoString, P: ProtoBytes, E: Enumeration, M: Message>()
     ensures scalar { Codes ⟦<N as IsCodec>⟧.coded (number_reading N.Form.WIRE_TYPE N.Value.blank_is N.value_of)
-        (number_writing N.Form.WIRE_TYPE N.Form.encoding N.number_of) N.UNITS false N.LEN Every }
+        (number_writing N.Form.WIRE_TYPE N.Form.encoding N.number_of) N.Scalar.COST false N.Scalar.FIXED_LEN Every }
     ensures string { Codes ⟦<ProtoStringMap<T> as IsCodec>⟧.coded (string_reading T.blank_is T.of_text)
         (delimited_writing T.text) 24 false None Every }
     ensures bytes { Codes ⟦<ProtoBytesMap<P> as IsCodec>⟧.coded (bytes_reading P.blank_is P.of_bytes)

@@ -4,7 +4,7 @@ ghost use Rattle.std.specs.Prelude.{◌≡◌, ◌+◌, ◌<◌, ◌≤◌, [], 
 ghost use Rattle.buffa_bytes.specs.declared.error.DecodeError.TheVariants.{ElementMemoryLimitExceeded, OutOfMemory};
 ghost use Rattle.buffa_wire.specs.BudgetLeft.{budget_left};
 ghost use Rattle.buffa_map.specs.Entry.{meant_entry};
-ghost use Rattle.buffa_map.specs.Lent.{lent_records, records_left, room_in, room_left};
+ghost use Rattle.buffa_map.specs.Lent.{lent_records, records_left, capacity_in, capacity_left};
 ghost use Rattle.buffa_map.specs.Merge.{MergesEntry, MergesWhole, RefusesEntry, RefusesWhole, dropping, lending, rules, state};
 ghost use Rattle.buffa_map.specs.Pairs.{InOrder, SamePairs, put};
 ghost use Rattle.buffa_map.specs.Parts.{ReadsCut, ReadsParts, RefusesCut, RefusesParts};
@@ -253,7 +253,7 @@ pub fn merge_entry_with_unknowns<
         (KC.COST + VC.COST) unknown.entry)
         (state (C.pairs map.old) (lent_records unknown.entry) ctx.entry.budget.now) (B.unread buf.old)
         (state (C.pairs map.new) (records_left unknown.exit) (budget_left ctx.exit)) (B.unread buf.new)) }
-    ensures room { room_in unknown.entry ≤ room_left unknown.exit }
+    ensures room { capacity_in unknown.entry ≤ capacity_left unknown.exit }
     ensures kept { B.beyond buf.new ≡ B.beyond buf.old }
 {
     let how = ByCodec::<VC>::new();

@@ -5,12 +5,13 @@
 //! together.
 //!
 //! Read: records from the buffer (`run`), of each its entry (`entry`), of that its fields (`fields`), by the codecs of
-//! key and value (`codec`, `scalar`, `scalars`, `message`); and the pair is put into a storage (`storage`). Written:
+//! key and value (`codec`, `codecs`, `message`); and the pair is put into a storage (`storage`). Written:
 //! from a walk of a storage by way of a size (`size`) into an encoding (`write`).
 #![tactic(auto)]
 
 mod codec;
 mod codec_laws;
+mod codecs;
 mod entry;
 mod fields;
 mod hashed;
@@ -30,8 +31,6 @@ mod ordered;
 mod pin_laws;
 mod rewrite;
 mod run;
-mod scalar;
-mod scalars;
 mod size;
 mod sized;
 mod storage;

@@ -9,6 +9,10 @@
 //! ```
 
 pub use crate::codec::{MapCodec, MapValueDecode, MapValueDecodeStatus};
+pub use crate::codecs::{
+    Bool, BytesBuf, BytesVec, ClosedEnum, Fixed32, Fixed64, Int32, Int64, OpenEnum, ProtoBytesMap,
+    ProtoStringMap, Sfixed32, Sfixed64, Sint32, Sint64, Str, Uint32, Uint64,
+};
 pub use crate::entry::{merge_entry, merge_entry_with_unknowns};
 pub use crate::indexed::Map;
 pub use crate::map_write::MapWrite;
@@ -18,10 +22,6 @@ pub use crate::message_size::{message_field_len, message_field_len_by};
 pub use crate::message_write::{write_message_field, write_message_field_by};
 pub use crate::rewrite::{RewriteError, rewrite_map_field};
 pub use crate::run::read_map_field;
-pub use crate::scalars::{
-    Bool, BytesBuf, BytesVec, ClosedEnum, Fixed32, Fixed64, Int32, Int64, OpenEnum, ProtoBytesMap,
-    ProtoStringMap, Sfixed32, Sfixed64, Sint32, Sint64, Str, Uint32, Uint64,
-};
 pub use crate::size::field_len;
 pub use crate::sized::size_and_write_field;
 pub use crate::storage::{MapStorage, MapWalk, StableOrder, StableWalk};

@@ -2,7 +2,7 @@
 
 ghost use Rattle.std.specs.Prelude.{◌≡◌, ◌+◌, ◌≤◌, IfErr, OnOk};
 ghost use Rattle.buffa_wire.specs.BudgetLeft.{budget_left};
-ghost use Rattle.buffa_map.specs.Lent.{lent_records, records_left, room_in, room_left};
+ghost use Rattle.buffa_map.specs.Lent.{lent_records, records_left, capacity_in, capacity_left};
 ghost use Rattle.buffa_map.specs.Merge.{ReadsRun, StopsRun, lending, rules, state};
 
 use crate::codec::{MapCodec, MapValueDecode};
@@ -96,7 +96,7 @@ pub fn read_map_field<
         (KC.COST + VC.COST) unknown.entry)
         (state (C.pairs map.old) (lent_records unknown.entry) ctx.entry.budget.now) (B.unread buf.old)
         (state (C.pairs map.new) (records_left unknown.exit) (budget_left ctx.exit)) (B.unread buf.new)) }
-    ensures room { room_in unknown.entry ≤ room_left unknown.exit }
+    ensures room { capacity_in unknown.entry ≤ capacity_left unknown.exit }
     ensures kept { B.beyond buf.new ≡ B.beyond buf.old }
 {
     match unknown {

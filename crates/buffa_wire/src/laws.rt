@@ -1,6 +1,6 @@
 //! What the definitions of the wire say together, and what its contracts leave out: laws, each a function with nothing
 //! to do, whose contract is the law.
 
-pub mod fields;
 pub mod records;
 pub mod scalars;
+pub mod wire;

@@ -27,14 +27,14 @@ pub trait Scalar: Sealed {
     type Form: Form;
 
     /// The units of element memory that a value costs.
-    const UNITS: usize;
+    const COST: usize;
 
     /// The length of every encoding in bytes, where they have one length.
-    const LEN: Option<u64>;
+    const FIXED_LEN: Option<u64>;
 
-    ghost UNITS: { ℕ };
+    ghost COST: { ℕ };
 
-    ghost LEN: { Option ℕ };
+    ghost FIXED_LEN: { Option ℕ };
 
     /// The value that a number means.
     ghost value_of: { ℕ → Self.Value.Meaning };
@@ -71,5 +71,5 @@ pub trait Scalar: Sealed {
     ghost means: { (v : Self.Value.Meaning) → fits v → value_of (number_of v) ≡ v };
 
     /// The fixed length is that of every encoding, whatever the value.
-    ghost fixed: { (n : ℕ) → LEN ≡ Some n → (v : Self.Value.Meaning) → length (Self.Form.encoding (number_of v)) ≡ n };
+    ghost fixed: { (n : ℕ) → FIXED_LEN ≡ Some n → (v : Self.Value.Meaning) → length (Self.Form.encoding (number_of v)) ≡ n };
 }

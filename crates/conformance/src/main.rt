@@ -8,7 +8,7 @@ mod items;
 mod scalars;
 
 use conformance_rows::any_buf::AnyBuf;
-use conformance_rows::calls::{Group, Kind, group_of};
+use conformance_rows::calls::{Group, StorageName, group_of};
 use conformance_rows::case::Case;
 use conformance_rows::fault::Fault;
 use conformance_rows::mark::Mark;
@@ -35,7 +35,7 @@ impl Calls for Values {
     fn read(
         alloc: Global,
         case: &Case<'_>,
-        _kind: Kind,
+        _storage: StorageName,
         mark: &mut Mark,
         buf: &mut AnyBuf<'_>,
     ) -> Result<Option<Outcome>, Fault> {
@@ -50,7 +50,7 @@ impl Calls for Values {
     fn called(
         alloc: Global,
         case: &Case<'_>,
-        _kind: Kind,
+        _storage: StorageName,
         mark: &mut Mark,
         bytes: &[u8],
     ) -> Result<Option<Outcome>, Fault> {

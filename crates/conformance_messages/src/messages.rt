@@ -4,7 +4,7 @@ use crate::merges::{limits_of, merging, outcome_of, standing};
 use crate::passes::of_map;
 use crate::slots::{sized, sized_outcome, with_slots};
 use buffa_wire::{DecodeContext, EncodeError, Message};
-use conformance_rows::calls::Kind;
+use conformance_rows::calls::StorageName;
 use conformance_rows::case::Case;
 use conformance_rows::fault::Fault;
 use conformance_rows::mark::Mark;
@@ -109,7 +109,7 @@ fn clear<By, M: Message + Worded<By>>(
 pub fn message<By, M: Message + Worded<By>>(
     alloc: Global,
     case: &Case<'_>,
-    kind: Kind,
+    storage: StorageName,
     mark: &mut Mark,
     bytes: &[u8],
 ) -> Result<Outcome, Fault> {
@@ -118,7 +118,7 @@ pub fn message<By, M: Message + Worded<By>>(
         "encode" => encode::<M>(alloc, case, mark),
         "message-size" => size::<M>(alloc, case, mark),
         "message-clear" => clear::<By, M>(alloc, case, mark),
-        "size-messages" | "write-messages" => of_map::<M>(alloc, case, kind, mark),
+        "size-messages" | "write-messages" => of_map::<M>(alloc, case, storage, mark),
         _ => Err(Fault::Form),
     }
 }

@@ -14,7 +14,7 @@ use buffa_wire::{
     Budget, DecodeContext, DecodeError, EncodeError, Message, RECURSION_LIMIT, SizeCache,
     varint_len,
 };
-use conformance_rows::calls::Kind;
+use conformance_rows::calls::StorageName;
 use conformance_rows::case::Case;
 use conformance_rows::fault::Fault;
 use conformance_rows::mark::Mark;
@@ -281,10 +281,10 @@ fn of_indexed<M: Message>(
 pub(crate) fn of_map<M: Message>(
     alloc: Global,
     case: &Case<'_>,
-    kind: Kind,
+    storage: StorageName,
     mark: &mut Mark,
 ) -> Result<Outcome, Fault> {
-    if kind == Kind::Ordered {
+    if storage == StorageName::Ordered {
         of_ordered::<M>(alloc, case, mark)
     } else {
         of_indexed::<M>(alloc, case, mark)

@@ -4,7 +4,7 @@ use crate::merges::{field, limits_of, merging, outcome_of, standing};
 use crate::messages::message;
 use crate::parts::{Parted, Parts, parts_of};
 use buffa_wire::{Budget, Buf, DecodeContext, DecodeError, Message, RECURSION_LIMIT, Tag};
-use conformance_rows::calls::Kind;
+use conformance_rows::calls::StorageName;
 use conformance_rows::case::Case;
 use conformance_rows::fault::Fault;
 use conformance_rows::mark::Mark;
@@ -172,7 +172,7 @@ pub fn merge<By, M: Message + Parted<By> + Worded<By>>(
 pub fn parted<By, M: Message + Parted<By> + Worded<By>>(
     alloc: Global,
     case: &Case<'_>,
-    kind: Kind,
+    storage: StorageName,
     mark: &mut Mark,
     bytes: &[u8],
 ) -> Result<Outcome, Fault> {
@@ -181,6 +181,6 @@ pub fn parted<By, M: Message + Parted<By> + Worded<By>>(
             let is_told = case.says("state", "told");
             merge::<By, M>(alloc, case, mark, bytes, is_told)
         }
-        _ => message::<By, M>(alloc, case, kind, mark, bytes),
+        _ => message::<By, M>(alloc, case, storage, mark, bytes),
     }
 }

@@ -5,7 +5,7 @@ use crate::storages::OnMessages;
 use crate::store::{Store, filled};
 use buffa_map::map_codec::{MapCodec, MapStorage, MapValueDecode, Msg, merge_message_entry_by};
 use buffa_wire::{Budget, Buf, DecodeContext, DecodeError, Message};
-use conformance_rows::calls::Kind;
+use conformance_rows::calls::StorageName;
 use conformance_rows::case::Case;
 use conformance_rows::fault::Fault;
 use conformance_rows::mark::Mark;
@@ -44,12 +44,18 @@ impl<By, B: Buf> OnMessages<By> for ByFunction<'_, B> {
         KC: MapCodec,
         M: Message + Worded<By>,
         C: Store<By> + MapStorage<Key = KC::Value, Value = <Msg<M> as MapValueDecode>::Value>,
-    >(self, alloc: Global, case: &Case<'_>, kind: Kind, mark: &mut Mark) -> Result<Outcome, Fault>
+    >(
+        self,
+        alloc: Global,
+        case: &Case<'_>,
+        storage: StorageName,
+        mark: &mut Mark,
+    ) -> Result<Outcome, Fault>
     where
         KC::Value: Worded<By>,
     {
         let mut limits = Limits::of(case)?;
-        let mut map = filled::<By, KC::Value, M, C>(alloc, kind, case.before())?;
+        let mut map = filled::<By, KC::Value, M, C>(alloc, storage, case.before())?;
         mark.begin(alloc);
         let answer = merged::<KC, M, C, B>(alloc, &mut map, self.buf, limits.context());
         let read = Read::of(answer, mark.end(), self.buf);

@@ -10,7 +10,7 @@ use buffa_map::map_codec::{
     merge_entry_with_unknowns, read_map_field, rewrite_map_field,
 };
 use buffa_wire::{Budget, Buf, DecodeContext, DecodeError, Message, UnknownFields};
-use conformance_rows::calls::Kind;
+use conformance_rows::calls::StorageName;
 use conformance_rows::case::{Case, given};
 use conformance_rows::fault::Fault;
 use conformance_rows::mark::Mark;
@@ -108,7 +108,7 @@ fn reading<
 >(
     alloc: Global,
     case: &Case<'_>,
-    kind: Kind,
+    storage: StorageName,
     mark: &mut Mark,
     buf: &mut B,
 ) -> Result<Outcome, Fault>
@@ -117,7 +117,7 @@ where
     VC::Value: Worded<By>,
 {
     let mut given = Given::of(alloc, case)?;
-    let mut map = filled::<By, KC::Value, VC::Value, C>(alloc, kind, case.before())?;
+    let mut map = filled::<By, KC::Value, VC::Value, C>(alloc, storage, case.before())?;
     mark.begin(alloc);
     let answer = given.read::<KC, VC, C, B>(alloc, case.call, &mut map, buf);
     let read = Read::of(answer, mark.end(), buf);
@@ -137,11 +137,17 @@ impl<By, B: Buf> OnMessages<By> for Runs<'_, B> {
         KC: MapCodec,
         M: Message + Worded<By>,
         C: Store<By> + MapStorage<Key = KC::Value, Value = <Msg<M> as MapValueDecode>::Value>,
-    >(self, alloc: Global, case: &Case<'_>, kind: Kind, mark: &mut Mark) -> Result<Outcome, Fault>
+    >(
+        self,
+        alloc: Global,
+        case: &Case<'_>,
+        storage: StorageName,
+        mark: &mut Mark,
+    ) -> Result<Outcome, Fault>
     where
         KC::Value: Worded<By>,
     {
-        reading::<By, KC, Msg<M>, C, B>(alloc, case, kind, mark, self.buf)
+        reading::<By, KC, Msg<M>, C, B>(alloc, case, storage, mark, self.buf)
     }
 }
 
@@ -197,7 +203,7 @@ fn rewriting<
 >(
     alloc: Global,
     case: &Case<'_>,
-    kind: Kind,
+    storage: StorageName,
     mark: &mut Mark,
     buf: &mut B,
 ) -> Result<Outcome, Fault>
@@ -207,7 +213,7 @@ where
 {
     let mut limits = Limits::of(case)?;
     let number = case.field_number()?;
-    let mut map = filled::<By, KC::Value, VC::Value, C>(alloc, kind, case.before())?;
+    let mut map = filled::<By, KC::Value, VC::Value, C>(alloc, storage, case.before())?;
     let mut text = Vec::new(alloc);
     mark.begin(alloc);
     let ctx = limits.context();
@@ -237,14 +243,20 @@ impl<By, B: Buf> OnMap<By> for Entries<'_, B> {
         KC: MapCodec,
         VC: MapCodec,
         C: Store<By> + MapStorage<Key = KC::Value, Value = VC::Value>,
-    >(self, alloc: Global, case: &Case<'_>, kind: Kind, mark: &mut Mark) -> Result<Outcome, Fault>
+    >(
+        self,
+        alloc: Global,
+        case: &Case<'_>,
+        storage: StorageName,
+        mark: &mut Mark,
+    ) -> Result<Outcome, Fault>
     where
         KC::Value: Worded<By>,
         VC::Value: Worded<By>,
     {
         if case.call == "rewrite" {
-            return rewriting::<By, KC, VC, C, B>(alloc, case, kind, mark, self.buf);
+            return rewriting::<By, KC, VC, C, B>(alloc, case, storage, mark, self.buf);
         }
-        reading::<By, KC, VC, C, B>(alloc, case, kind, mark, self.buf)
+        reading::<By, KC, VC, C, B>(alloc, case, storage, mark, self.buf)
     }
 }

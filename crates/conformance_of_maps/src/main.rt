@@ -2,19 +2,20 @@
 #![tactic(auto)]
 
 mod any_map;
+mod any_types;
 mod by_function;
 mod codecs;
 mod entries;
 mod fields;
-mod kinds;
 mod payloads;
 mod reads;
 mod sizes;
 mod storages;
 mod store;
 
+use any_types::fields_of_any_types;
 use conformance_rows::any_buf::AnyBuf;
-use conformance_rows::calls::{Group, Kind, group_of};
+use conformance_rows::calls::{Group, StorageName, group_of};
 use conformance_rows::case::Case;
 use conformance_rows::fault::Fault;
 use conformance_rows::mark::Mark;
@@ -22,7 +23,6 @@ use conformance_rows::outcome::Outcome;
 use conformance_rows::runs::{Calls, run_rows};
 use conformance_words::{Read, Samples, Spelled};
 use fields::{read_fields, write_fields};
-use kinds::kind_fields;
 use payloads::payload_rows;
 use std::alloc::Global;
 use std::process::ExitCode;
@@ -39,12 +39,12 @@ impl Calls for MapFields {
     fn read(
         alloc: Global,
         case: &Case<'_>,
-        kind: Kind,
+        storage: StorageName,
         mark: &mut Mark,
         buf: &mut AnyBuf<'_>,
     ) -> Result<Option<Outcome>, Fault> {
         match group_of(case.call) {
-            Group::Fields => read_fields(alloc, case, kind, mark, buf),
+            Group::Fields => read_fields(alloc, case, storage, mark, buf),
             Group::Values => some(payload_rows(alloc, case, mark, Read { buf })),
             _ => Ok(None),
         }
@@ -53,13 +53,13 @@ impl Calls for MapFields {
     fn called(
         alloc: Global,
         case: &Case<'_>,
-        kind: Kind,
+        storage: StorageName,
         mark: &mut Mark,
         bytes: &[u8],
     ) -> Result<Option<Outcome>, Fault> {
         match group_of(case.call) {
-            Group::Kinds => some(kind_fields::<Samples>(alloc, case, mark, bytes)),
-            Group::Writes => write_fields(alloc, case, kind, mark),
+            Group::AnyTypes => some(fields_of_any_types::<Samples>(alloc, case, mark, bytes)),
+            Group::Writes => write_fields(alloc, case, storage, mark),
             Group::Spelled => some(payload_rows(alloc, case, mark, Spelled)),
             _ => Ok(None),
         }

@@ -6,7 +6,7 @@ use crate::storages::OnMap;
 use crate::store::{Store, filled, pair_of, put};
 use buffa_map::map_codec::{MapCodec, MapStorage, MapWrite};
 use buffa_wire::{EncodeError, varint_len};
-use conformance_rows::calls::Kind;
+use conformance_rows::calls::StorageName;
 use conformance_rows::case::Case;
 use conformance_rows::fault::Fault;
 use conformance_rows::mark::Mark;
@@ -88,13 +88,13 @@ fn writing<
     KC: MapCodec,
     VC: MapCodec,
     C: Store<By> + MapStorage<Key = KC::Value, Value = VC::Value>,
->(alloc: Global, case: &Case<'_>, kind: Kind, mark: &mut Mark) -> Result<Outcome, Fault>
+>(alloc: Global, case: &Case<'_>, storage: StorageName, mark: &mut Mark) -> Result<Outcome, Fault>
 where
     KC::Value: Worded<By>,
     VC::Value: Worded<By>,
 {
     let number = case.field_number()?;
-    let map = filled::<By, KC::Value, VC::Value, C>(alloc, kind, case.before())?;
+    let map = filled::<By, KC::Value, VC::Value, C>(alloc, storage, case.before())?;
     let mut text = Vec::new(alloc);
     mark.begin(alloc);
     let len = write::<By, KC, VC, C>(&map, case.call == "size-and-write", number, &mut text);
@@ -124,13 +124,13 @@ fn sizing<
     KC: MapCodec,
     VC: MapCodec,
     C: Store<By> + MapStorage<Key = KC::Value, Value = VC::Value>,
->(alloc: Global, case: &Case<'_>, kind: Kind, mark: &mut Mark) -> Result<Outcome, Fault>
+>(alloc: Global, case: &Case<'_>, storage: StorageName, mark: &mut Mark) -> Result<Outcome, Fault>
 where
     KC::Value: Worded<By>,
     VC::Value: Worded<By>,
 {
     let tag_len = u64::from(case.number()?);
-    let mut map = filled::<By, KC::Value, VC::Value, C>(alloc, kind, case.before())?;
+    let mut map = filled::<By, KC::Value, VC::Value, C>(alloc, storage, case.before())?;
     mark.begin(alloc);
     let len = map.len_of::<KC, VC>(tag_len);
     let pairs = count::<C>(&map);
@@ -159,12 +159,12 @@ fn putting<
     KC: MapCodec,
     VC: MapCodec,
     C: Store<By> + MapStorage<Key = KC::Value, Value = VC::Value>,
->(alloc: Global, case: &Case<'_>, kind: Kind, mark: &mut Mark) -> Result<Outcome, Fault>
+>(alloc: Global, case: &Case<'_>, storage: StorageName, mark: &mut Mark) -> Result<Outcome, Fault>
 where
     KC::Value: Worded<By>,
     VC::Value: Worded<By>,
 {
-    let mut map = filled::<By, KC::Value, VC::Value, C>(alloc, kind, case.before())?;
+    let mut map = filled::<By, KC::Value, VC::Value, C>(alloc, storage, case.before())?;
     let (key, value) = pair_of::<By, KC::Value, VC::Value>(alloc, case.input())?;
     mark.begin(alloc);
     let is_put = put::<C>(&mut map, key, value).is_ok();
@@ -182,15 +182,21 @@ impl<By> OnMap<By> for Written {
         KC: MapCodec,
         VC: MapCodec,
         C: Store<By> + MapStorage<Key = KC::Value, Value = VC::Value>,
-    >(self, alloc: Global, case: &Case<'_>, kind: Kind, mark: &mut Mark) -> Result<Outcome, Fault>
+    >(
+        self,
+        alloc: Global,
+        case: &Case<'_>,
+        storage: StorageName,
+        mark: &mut Mark,
+    ) -> Result<Outcome, Fault>
     where
         KC::Value: Worded<By>,
         VC::Value: Worded<By>,
     {
         match case.call {
-            "put" => putting::<By, KC, VC, C>(alloc, case, kind, mark),
-            "size" => sizing::<By, KC, VC, C>(alloc, case, kind, mark),
-            _ => writing::<By, KC, VC, C>(alloc, case, kind, mark),
+            "put" => putting::<By, KC, VC, C>(alloc, case, storage, mark),
+            "size" => sizing::<By, KC, VC, C>(alloc, case, storage, mark),
+            _ => writing::<By, KC, VC, C>(alloc, case, storage, mark),
         }
     }
 }

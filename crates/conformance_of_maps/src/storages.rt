@@ -4,7 +4,7 @@ use crate::any_map::AnyMap;
 use crate::store::Store;
 use buffa_map::map_codec::{Map, MapCodec, MapStorage, MapValueDecode, Msg};
 use buffa_wire::{MapKey, Message};
-use conformance_rows::calls::Kind;
+use conformance_rows::calls::StorageName;
 use conformance_rows::case::Case;
 use conformance_rows::fault::Fault;
 use conformance_rows::mark::Mark;
@@ -21,7 +21,13 @@ pub trait OnMap<By>: Drop {
         KC: MapCodec,
         VC: MapCodec,
         C: Store<By> + MapStorage<Key = KC::Value, Value = VC::Value>,
-    >(self, alloc: Global, case: &Case<'_>, kind: Kind, mark: &mut Mark) -> Result<Outcome, Fault>
+    >(
+        self,
+        alloc: Global,
+        case: &Case<'_>,
+        storage: StorageName,
+        mark: &mut Mark,
+    ) -> Result<Outcome, Fault>
     where
         KC::Value: Worded<By>,
         VC::Value: Worded<By>;
@@ -34,7 +40,13 @@ pub trait OnMessages<By>: Drop {
         KC: MapCodec,
         M: Message + Worded<By>,
         C: Store<By> + MapStorage<Key = KC::Value, Value = <Msg<M> as MapValueDecode>::Value>,
-    >(self, alloc: Global, case: &Case<'_>, kind: Kind, mark: &mut Mark) -> Result<Outcome, Fault>
+    >(
+        self,
+        alloc: Global,
+        case: &Case<'_>,
+        storage: StorageName,
+        mark: &mut Mark,
+    ) -> Result<Outcome, Fault>
     where
         KC::Value: Worded<By>;
 }
@@ -48,7 +60,7 @@ fn some(found: Result<Outcome, Fault>) -> Result<Option<Outcome>, Fault> {
 pub fn stored<By, KC: MapCodec, VC: MapCodec, O: OnMap<By>>(
     alloc: Global,
     case: &Case<'_>,
-    kind: Kind,
+    storage: StorageName,
     mark: &mut Mark,
     call: O,
 ) -> Result<Option<Outcome>, Fault>
@@ -56,28 +68,28 @@ where
     KC::Value: MapKey + Ord + Hash + Worded<By>,
     VC::Value: Worded<By>,
 {
-    some(call.on_map::<KC, VC, AnyMap<KC::Value, VC::Value>>(alloc, case, kind, mark))
+    some(call.on_map::<KC, VC, AnyMap<KC::Value, VC::Value>>(alloc, case, storage, mark))
 }
 
 /// The same of messages.
 pub fn stored_messages<By, KC: MapCodec, M: Message + Worded<By>, O: OnMessages<By>>(
     alloc: Global,
     case: &Case<'_>,
-    kind: Kind,
+    storage: StorageName,
     mark: &mut Mark,
     call: O,
 ) -> Result<Option<Outcome>, Fault>
 where
     KC::Value: MapKey + Ord + Hash + Worded<By>,
 {
-    some(call.on_messages::<KC, M, AnyMap<KC::Value, M>>(alloc, case, kind, mark))
+    some(call.on_messages::<KC, M, AnyMap<KC::Value, M>>(alloc, case, storage, mark))
 }
 
 /// Where keys have a hash: in the two storages that hash them, and none in the other.
 pub fn hashed<By, KC: MapCodec, VC: MapCodec, O: OnMap<By>>(
     alloc: Global,
     case: &Case<'_>,
-    kind: Kind,
+    storage: StorageName,
     mark: &mut Mark,
     call: O,
 ) -> Result<Option<Outcome>, Fault>
@@ -85,13 +97,13 @@ where
     KC::Value: MapKey + Hash + Worded<By>,
     VC::Value: Worded<By>,
 {
-    match kind {
-        Kind::Ordered => Ok(None),
-        Kind::Hashed => {
-            some(call.on_map::<KC, VC, HashMap<KC::Value, VC::Value>>(alloc, case, kind, mark))
+    match storage {
+        StorageName::Ordered => Ok(None),
+        StorageName::Hashed => {
+            some(call.on_map::<KC, VC, HashMap<KC::Value, VC::Value>>(alloc, case, storage, mark))
         }
-        Kind::Indexed => {
-            some(call.on_map::<KC, VC, Map<KC::Value, VC::Value>>(alloc, case, kind, mark))
+        StorageName::Indexed => {
+            some(call.on_map::<KC, VC, Map<KC::Value, VC::Value>>(alloc, case, storage, mark))
         }
     }
 }
@@ -100,7 +112,7 @@ where
 pub fn ordered<By, KC: MapCodec, VC: MapCodec, O: OnMap<By>>(
     alloc: Global,
     case: &Case<'_>,
-    kind: Kind,
+    storage: StorageName,
     mark: &mut Mark,
     call: O,
 ) -> Result<Option<Outcome>, Fault>
@@ -108,10 +120,10 @@ where
     KC::Value: MapKey + Ord + Worded<By>,
     VC::Value: Worded<By>,
 {
-    match kind {
-        Kind::Ordered => {
-            some(call.on_map::<KC, VC, BTreeMap<KC::Value, VC::Value>>(alloc, case, kind, mark))
+    match storage {
+        StorageName::Ordered => {
+            some(call.on_map::<KC, VC, BTreeMap<KC::Value, VC::Value>>(alloc, case, storage, mark))
         }
-        Kind::Hashed | Kind::Indexed => Ok(None),
+        StorageName::Hashed | StorageName::Indexed => Ok(None),
     }
 }

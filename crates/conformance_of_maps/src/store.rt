@@ -7,7 +7,7 @@ use buffa_map::map_codec::{
     Map, MapCodec, MapStorage, MapWalk, MapWrite, field_len, size_and_write_field,
 };
 use buffa_wire::{EncodeError, MapKey};
-use conformance_rows::calls::Kind;
+use conformance_rows::calls::StorageName;
 use conformance_rows::fault::Fault;
 use conformance_rows::words::{Worded, copied, joined};
 use std::alloc::Global;
@@ -16,8 +16,8 @@ use std::hash::Hash;
 
 /// A map whose pairs are told as words.
 pub trait Store<By>: MapWrite + Drop {
-    /// A map with no pairs; of this kind, where its type is of each.
-    fn empty(alloc: Global, kind: Kind) -> Self;
+    /// A map with no pairs; in this storage, where its type is any.
+    fn empty(alloc: Global, storage: StorageName) -> Self;
 
     /// The pairs as they are walked, each as `key=value`, with a space between them.
     fn words(&self, alloc: Global) -> Result<String, Fault>;
@@ -68,14 +68,14 @@ fn put_word<By, K: Worded<By>, V: Worded<By>, C: MapStorage<Key = K, Value = V>>
     put::<C>(map, key, value)
 }
 
-/// The map of pairs that stand as words; of this kind, where its type is of each.
+/// The map of pairs that stand as words; in this storage, where its type is any.
 pub(crate) fn filled<
     By,
     K: Worded<By>,
     V: Worded<By>,
     C: Store<By> + MapStorage<Key = K, Value = V>,
->(alloc: Global, kind: Kind, pairs: &str) -> Result<C, Fault> {
-    let mut map = C::empty(alloc, kind);
+>(alloc: Global, storage: StorageName, pairs: &str) -> Result<C, Fault> {
+    let mut map = C::empty(alloc, storage);
     for pair in pairs.split_ascii_whitespace() {
         put_word::<By, K, V, C>(alloc, &mut map, pair)?;
     }
@@ -158,11 +158,11 @@ where
 }
 
 impl<By, K: MapKey + Ord + Hash + Worded<By>, V: Worded<By>> Store<By> for AnyMap<K, V> {
-    fn empty(alloc: Global, kind: Kind) -> Self {
-        match kind {
-            Kind::Ordered => AnyMap::Ordered(BTreeMap::new(alloc)),
-            Kind::Hashed => AnyMap::Hashed(HashMap::new(alloc)),
-            Kind::Indexed => AnyMap::Indexed(Map::new(alloc)),
+    fn empty(alloc: Global, storage: StorageName) -> Self {
+        match storage {
+            StorageName::Ordered => AnyMap::Ordered(BTreeMap::new(alloc)),
+            StorageName::Hashed => AnyMap::Hashed(HashMap::new(alloc)),
+            StorageName::Indexed => AnyMap::Indexed(Map::new(alloc)),
         }
     }
 
@@ -196,7 +196,7 @@ impl<By, K: MapKey + Ord + Hash + Worded<By>, V: Worded<By>> Store<By> for AnyMa
 }
 
 impl<By, K: MapKey + Ord + Worded<By>, V: Worded<By>> Store<By> for BTreeMap<K, V> {
-    fn empty(alloc: Global, _kind: Kind) -> Self {
+    fn empty(alloc: Global, _storage: StorageName) -> Self {
         BTreeMap::new(alloc)
     }
 
@@ -218,7 +218,7 @@ impl<By, K: MapKey + Ord + Worded<By>, V: Worded<By>> Store<By> for BTreeMap<K, 
 }
 
 impl<By, K: MapKey + Hash + Worded<By>, V: Worded<By>> Store<By> for HashMap<K, V> {
-    fn empty(alloc: Global, _kind: Kind) -> Self {
+    fn empty(alloc: Global, _storage: StorageName) -> Self {
         HashMap::new(alloc)
     }
 
@@ -240,7 +240,7 @@ impl<By, K: MapKey + Hash + Worded<By>, V: Worded<By>> Store<By> for HashMap<K, 
 }
 
 impl<By, K: MapKey + Hash + Worded<By>, V: Worded<By>> Store<By> for Map<K, V> {
-    fn empty(alloc: Global, _kind: Kind) -> Self {
+    fn empty(alloc: Global, _storage: StorageName) -> Self {
         Map::new(alloc)
     }
 

@@ -1,17 +1,17 @@
 // Runs the rows of tables on messages from their fields.
 #![tactic(auto)]
 
-mod kinds;
+mod all_scalars;
 mod members;
 
+use all_scalars::{is_of_all_scalars, on_all_scalars};
 use conformance_rows::any_buf::AnyBuf;
-use conformance_rows::calls::{Group, Kind, group_of};
+use conformance_rows::calls::{Group, StorageName, group_of};
 use conformance_rows::case::Case;
 use conformance_rows::fault::Fault;
 use conformance_rows::mark::Mark;
 use conformance_rows::outcome::Outcome;
 use conformance_rows::runs::{Calls, run_rows};
-use kinds::{is_kind, on_kinds};
 use members::on_members;
 use std::alloc::Global;
 use std::process::ExitCode;
@@ -23,7 +23,7 @@ impl Calls for FromFields {
     fn read(
         _alloc: Global,
         _case: &Case<'_>,
-        _kind: Kind,
+        _storage: StorageName,
         _mark: &mut Mark,
         _buf: &mut AnyBuf<'_>,
     ) -> Result<Option<Outcome>, Fault> {
@@ -33,15 +33,15 @@ impl Calls for FromFields {
     fn called(
         alloc: Global,
         case: &Case<'_>,
-        kind: Kind,
+        storage: StorageName,
         mark: &mut Mark,
         bytes: &[u8],
     ) -> Result<Option<Outcome>, Fault> {
         match group_of(case.call) {
-            Group::Messages if is_kind(case.types) => {
-                Ok(Some(on_kinds(alloc, case, kind, mark, bytes)?))
+            Group::Messages if is_of_all_scalars(case.types) => {
+                Ok(Some(on_all_scalars(alloc, case, storage, mark, bytes)?))
             }
-            Group::Messages => Ok(Some(on_members(alloc, case, kind, mark, bytes)?)),
+            Group::Messages => Ok(Some(on_members(alloc, case, storage, mark, bytes)?)),
             _ => Ok(None),
         }
     }

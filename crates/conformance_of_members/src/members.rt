@@ -3,7 +3,7 @@
 mod words;
 
 use conformance_messages::parted;
-use conformance_rows::calls::Kind;
+use conformance_rows::calls::StorageName;
 use conformance_rows::case::Case;
 use conformance_rows::fault::Fault;
 use conformance_rows::mark::Mark;
@@ -30,24 +30,24 @@ pub struct Members;
 pub fn on_members(
     alloc: Global,
     case: &Case<'_>,
-    kind: Kind,
+    storage: StorageName,
     mark: &mut Mark,
     bytes: &[u8],
 ) -> Result<Outcome, Fault> {
     match case.types {
-        "assorted" => parted::<Members, Assorted>(alloc, case, kind, mark, bytes),
-        "depot" => parted::<Members, Depot>(alloc, case, kind, mark, bytes),
-        "inventory" => parted::<Members, Inventory>(alloc, case, kind, mark, bytes),
-        "ledger" => parted::<Members, Ledger>(alloc, case, kind, mark, bytes),
-        "load" => parted::<Members, Load>(alloc, case, kind, mark, bytes),
-        "order" => parted::<Members, Order>(alloc, case, kind, mark, bytes),
-        "palette" => parted::<Members, Palette>(alloc, case, kind, mark, bytes),
-        "pallet" => parted::<Members, Pallet>(alloc, case, kind, mark, bytes),
-        "parcel" => parted::<Members, Parcel>(alloc, case, kind, mark, bytes),
-        "store" => parted::<Members, Store>(alloc, case, kind, mark, bytes),
-        "swatch" => parted::<Members, Swatch>(alloc, case, kind, mark, bytes),
-        "train" => parted::<Members, Train>(alloc, case, kind, mark, bytes),
-        "wagon" => parted::<Members, Wagon>(alloc, case, kind, mark, bytes),
+        "assorted" => parted::<Members, Assorted>(alloc, case, storage, mark, bytes),
+        "depot" => parted::<Members, Depot>(alloc, case, storage, mark, bytes),
+        "inventory" => parted::<Members, Inventory>(alloc, case, storage, mark, bytes),
+        "ledger" => parted::<Members, Ledger>(alloc, case, storage, mark, bytes),
+        "load" => parted::<Members, Load>(alloc, case, storage, mark, bytes),
+        "order" => parted::<Members, Order>(alloc, case, storage, mark, bytes),
+        "palette" => parted::<Members, Palette>(alloc, case, storage, mark, bytes),
+        "pallet" => parted::<Members, Pallet>(alloc, case, storage, mark, bytes),
+        "parcel" => parted::<Members, Parcel>(alloc, case, storage, mark, bytes),
+        "store" => parted::<Members, Store>(alloc, case, storage, mark, bytes),
+        "swatch" => parted::<Members, Swatch>(alloc, case, storage, mark, bytes),
+        "train" => parted::<Members, Train>(alloc, case, storage, mark, bytes),
+        "wagon" => parted::<Members, Wagon>(alloc, case, storage, mark, bytes),
         _ => Err(Fault::Form),
     }
 }

@@ -5,7 +5,7 @@ mod nodes;
 mod samples;
 
 use conformance_rows::any_buf::AnyBuf;
-use conformance_rows::calls::{Group, Kind, group_of};
+use conformance_rows::calls::{Group, StorageName, group_of};
 use conformance_rows::case::Case;
 use conformance_rows::fault::Fault;
 use conformance_rows::mark::Mark;
@@ -28,7 +28,7 @@ impl Calls for Messages {
     fn read(
         alloc: Global,
         case: &Case<'_>,
-        _kind: Kind,
+        _storage: StorageName,
         mark: &mut Mark,
         buf: &mut AnyBuf<'_>,
     ) -> Result<Option<Outcome>, Fault> {
@@ -42,13 +42,13 @@ impl Calls for Messages {
     fn called(
         alloc: Global,
         case: &Case<'_>,
-        kind: Kind,
+        storage: StorageName,
         mark: &mut Mark,
         bytes: &[u8],
     ) -> Result<Option<Outcome>, Fault> {
         match group_of(case.call) {
-            _ if has_node_or_set(case) => some(on_nodes(alloc, case, kind, mark, bytes)),
-            Group::Messages => some(message(alloc, case, kind, mark, bytes)),
+            _ if has_node_or_set(case) => some(on_nodes(alloc, case, storage, mark, bytes)),
+            Group::Messages => some(message(alloc, case, storage, mark, bytes)),
             _ => Ok(None),
         }
     }

@@ -9,7 +9,7 @@ use crate::nodes::sets::extension;
 use buffa_map::map_codec::Msg;
 use buffa_wire::{Buf, Message};
 use conformance_messages::{delimited, message};
-use conformance_rows::calls::Kind;
+use conformance_rows::calls::StorageName;
 use conformance_rows::case::Case;
 use conformance_rows::fault::Fault;
 use conformance_rows::mark::Mark;
@@ -32,13 +32,13 @@ pub fn has_node_or_set(case: &Case<'_>) -> bool {
 fn of_message<M: Message + Worded<Nodes>>(
     alloc: Global,
     case: &Case<'_>,
-    kind: Kind,
+    storage: StorageName,
     mark: &mut Mark,
     bytes: &[u8],
 ) -> Result<Outcome, Fault> {
     match case.call {
         "merge" | "merge-field" => merge::<M>(alloc, case, mark, bytes),
-        _ => message::<Nodes, M>(alloc, case, kind, mark, bytes),
+        _ => message::<Nodes, M>(alloc, case, storage, mark, bytes),
     }
 }
 
@@ -46,13 +46,13 @@ fn of_message<M: Message + Worded<Nodes>>(
 pub fn on_nodes(
     alloc: Global,
     case: &Case<'_>,
-    kind: Kind,
+    storage: StorageName,
     mark: &mut Mark,
     bytes: &[u8],
 ) -> Result<Outcome, Fault> {
     match case.types {
-        "node" => of_message::<Node>(alloc, case, kind, mark, bytes),
-        "set" => of_message::<SetMsg>(alloc, case, kind, mark, bytes),
+        "node" => of_message::<Node>(alloc, case, storage, mark, bytes),
+        "set" => of_message::<SetMsg>(alloc, case, storage, mark, bytes),
         _ => extension(alloc, case, mark),
     }
 }

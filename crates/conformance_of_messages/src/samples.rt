@@ -3,7 +3,7 @@
 use buffa_map::map_codec::Msg;
 use buffa_wire::{Buf, Message};
 use conformance_messages::delimited;
-use conformance_rows::calls::Kind;
+use conformance_rows::calls::StorageName;
 use conformance_rows::case::Case;
 use conformance_rows::fault::Fault;
 use conformance_rows::mark::Mark;
@@ -51,20 +51,24 @@ pub fn values<B: Buf>(
 pub fn message(
     alloc: Global,
     case: &Case<'_>,
-    kind: Kind,
+    storage: StorageName,
     mark: &mut Mark,
     bytes: &[u8],
 ) -> Result<Outcome, Fault> {
     match case.types {
-        "flat" => conformance_messages::message::<Samples, FlatMsg>(alloc, case, kind, mark, bytes),
-        "two" => conformance_messages::message::<Samples, TestMsg>(alloc, case, kind, mark, bytes),
+        "flat" => conformance_messages::message::<Samples, FlatMsg>(
+            alloc, case, storage, mark, bytes,
+        ),
+        "two" => conformance_messages::message::<Samples, TestMsg>(
+            alloc, case, storage, mark, bytes,
+        ),
         "count" => conformance_messages::message::<Samples, CountMsg>(
-            alloc, case, kind, mark, bytes,
+            alloc, case, storage, mark, bytes,
         ),
         "keep" => conformance_messages::message::<Samples, BudgetMsg>(
-            alloc, case, kind, mark, bytes,
+            alloc, case, storage, mark, bytes,
         ),
-        "tree" => conformance_messages::message::<Samples, Tree>(alloc, case, kind, mark, bytes),
+        "tree" => conformance_messages::message::<Samples, Tree>(alloc, case, storage, mark, bytes),
         _ => Err(Fault::Form),
     }
 }

@@ -4,7 +4,7 @@ use crate::any_buf::AnyBuf;
 use crate::cuts::pieces_of;
 use buffa_wire::UnknownFields;
 use bytes::Bytes;
-use conformance_tables::calls::Kind;
+use conformance_tables::calls::StorageName;
 use conformance_tables::case::Case;
 use conformance_tables::fault::Fault;
 use conformance_tables::mark::Mark;
@@ -21,7 +21,7 @@ pub trait Calls {
     fn read(
         alloc: Global,
         case: &Case<'_>,
-        kind: Kind,
+        storage: StorageName,
         mark: &mut Mark,
         buf: &mut AnyBuf<'_>,
     ) -> Result<Option<Outcome>, Fault>;
@@ -30,7 +30,7 @@ pub trait Calls {
     fn called(
         alloc: Global,
         case: &Case<'_>,
-        kind: Kind,
+        storage: StorageName,
         mark: &mut Mark,
         bytes: &[u8],
     ) -> Result<Option<Outcome>, Fault>;
@@ -43,29 +43,29 @@ impl<C: Calls> CallsOnBytes for InBuffers<C> {
     fn slice(
         alloc: Global,
         case: &Case<'_>,
-        kind: Kind,
+        storage: StorageName,
         mark: &mut Mark,
         bytes: &[u8],
     ) -> Result<Option<Outcome>, Fault> {
         let mut buf = AnyBuf::Slice(bytes);
-        C::read(alloc, case, kind, mark, &mut buf)
+        C::read(alloc, case, storage, mark, &mut buf)
     }
 
     fn shared(
         alloc: Global,
         case: &Case<'_>,
-        kind: Kind,
+        storage: StorageName,
         mark: &mut Mark,
         bytes: Bytes,
     ) -> Result<Option<Outcome>, Fault> {
         let mut buf = AnyBuf::Shared(bytes);
-        C::read(alloc, case, kind, mark, &mut buf)
+        C::read(alloc, case, storage, mark, &mut buf)
     }
 
     fn pieces(
         alloc: Global,
         case: &Case<'_>,
-        kind: Kind,
+        storage: StorageName,
         mark: &mut Mark,
         pieces: &[&[u8]],
     ) -> Result<Option<Outcome>, Fault> {
@@ -73,7 +73,7 @@ impl<C: Calls> CallsOnBytes for InBuffers<C> {
             None => Err(Fault::Form),
             Some(pieces) => {
                 let mut buf = AnyBuf::Cut(pieces);
-                C::read(alloc, case, kind, mark, &mut buf)
+                C::read(alloc, case, storage, mark, &mut buf)
             }
         }
     }
@@ -81,11 +81,11 @@ impl<C: Calls> CallsOnBytes for InBuffers<C> {
     fn called(
         alloc: Global,
         case: &Case<'_>,
-        kind: Kind,
+        storage: StorageName,
         mark: &mut Mark,
         bytes: &[u8],
     ) -> Result<Option<Outcome>, Fault> {
-        C::called(alloc, case, kind, mark, bytes)
+        C::called(alloc, case, storage, mark, bytes)
     }
 
     fn are_records(alloc: Global, bytes: &[u8]) -> bool {

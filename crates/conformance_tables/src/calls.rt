@@ -3,9 +3,9 @@
 use crate::case::Case;
 use crate::words::is_one;
 
-/// A storage.
+/// The name of a storage.
 #[derive(Clone, Copy, PartialEq, Eq)]
-pub enum Kind {
+pub enum StorageName {
     /// `BTreeMap`, in the order of keys.
     Ordered,
     /// `HashMap`, in any order.
@@ -23,8 +23,8 @@ pub enum Group {
     Items,
     /// It reads a payload from a buffer, into a value or a message.
     Values,
-    /// It reads records of a map of any kinds.
-    Kinds,
+    /// It reads records of a map of any proto types.
+    AnyTypes,
     /// It writes a map, or puts a pair into it; the map stands in any storage.
     Writes,
     /// It writes the payload of a value, or measures it.
@@ -64,7 +64,7 @@ pub fn group_of(call: &str) -> Group {
     } else if is_among(call, "payload merge-delimited") {
         Group::Values
     } else if is_among(call, "field") {
-        Group::Kinds
+        Group::AnyTypes
     } else if is_among(call, "write size size-and-write put") {
         Group::Writes
     } else if is_among(call, "spell-payload payload-len") {
@@ -108,7 +108,7 @@ pub fn reads_to_the_end(call: &str) -> bool {
 /// Whether each beginning of what a call accepts is whole, or cut off.
 pub fn reads_bytes(call: &str) -> bool {
     match group_of(call) {
-        Group::Fields | Group::Items | Group::Kinds | Group::Values => true,
+        Group::Fields | Group::Items | Group::AnyTypes | Group::Values => true,
         _ => reads_to_the_end(call) || is_among(call, "merge-field"),
     }
 }
@@ -116,7 +116,7 @@ pub fn reads_bytes(call: &str) -> bool {
 /// Whether a call reads into a map, whose pairs stand after a refusal, or into a value, which then stands.
 pub fn keeps_a_map(call: &str) -> bool {
     match group_of(call) {
-        Group::Fields | Group::Kinds => true,
+        Group::Fields | Group::AnyTypes => true,
         _ => is_among(call, "put payload"),
     }
 }
@@ -131,17 +131,17 @@ pub fn takes_words(call: &str) -> bool {
 }
 
 /// Whether a row is run in a storage: those of the setting `in`, or any for maps, and one for all else.
-pub fn is_run_in(case: &Case<'_>, kind: Kind) -> bool {
-    let name = match kind {
-        Kind::Ordered => "ordered",
-        Kind::Hashed => "hashed",
-        Kind::Indexed => "indexed",
+pub fn is_run_in(case: &Case<'_>, storage: StorageName) -> bool {
+    let name = match storage {
+        StorageName::Ordered => "ordered",
+        StorageName::Hashed => "hashed",
+        StorageName::Indexed => "indexed",
     };
     if let Some(names) = case.setting("in") {
         return names.contains(name);
     }
     match group_of(case.call) {
         Group::Fields | Group::Writes => true,
-        _ => kind == Kind::Indexed,
+        _ => storage == StorageName::Indexed,
     }
 }

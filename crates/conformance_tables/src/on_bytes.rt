@@ -1,6 +1,6 @@
 // What does the calls of rows, however their bytes lie.
 
-use crate::calls::Kind;
+use crate::calls::StorageName;
 use crate::case::Case;
 use crate::fault::Fault;
 use crate::mark::Mark;
@@ -14,7 +14,7 @@ pub trait CallsOnBytes {
     fn slice(
         alloc: Global,
         case: &Case<'_>,
-        kind: Kind,
+        storage: StorageName,
         mark: &mut Mark,
         bytes: &[u8],
     ) -> Result<Option<Outcome>, Fault>;
@@ -23,7 +23,7 @@ pub trait CallsOnBytes {
     fn shared(
         alloc: Global,
         case: &Case<'_>,
-        kind: Kind,
+        storage: StorageName,
         mark: &mut Mark,
         bytes: Bytes,
     ) -> Result<Option<Outcome>, Fault>;
@@ -32,7 +32,7 @@ pub trait CallsOnBytes {
     fn pieces(
         alloc: Global,
         case: &Case<'_>,
-        kind: Kind,
+        storage: StorageName,
         mark: &mut Mark,
         pieces: &[&[u8]],
     ) -> Result<Option<Outcome>, Fault>;
@@ -41,7 +41,7 @@ pub trait CallsOnBytes {
     fn called(
         alloc: Global,
         case: &Case<'_>,
-        kind: Kind,
+        storage: StorageName,
         mark: &mut Mark,
         bytes: &[u8],
     ) -> Result<Option<Outcome>, Fault>;

@@ -1,6 +1,6 @@
 // The rows of standard input, run one after the other.
 
-use crate::calls::{Kind, is_run_in, takes_words};
+use crate::calls::{StorageName, is_run_in, takes_words};
 use crate::case::{Case, case_of};
 use crate::fault::Fault;
 use crate::on_bytes::CallsOnBytes;
@@ -41,12 +41,16 @@ fn run_by<C: CallsOnBytes>(
 fn run_in<C: CallsOnBytes>(
     alloc: Global,
     case: &Case<'_>,
-    kind: Kind,
+    storage: StorageName,
     errors: Stderr,
     refusing: bool,
     tally: &mut Tally,
 ) {
-    let run = Run { case, kind, errors };
+    let run = Run {
+        case,
+        storage,
+        errors,
+    };
     match bytes_of(alloc, case) {
         Ok(bytes) => run_by::<C>(alloc, &run, bytes.as_slice(), refusing, tally),
         Err(fault) => tally.note(Err(fault)),
@@ -61,9 +65,13 @@ fn run_row<C: CallsOnBytes>(
     refusing: bool,
 ) -> Tally {
     let mut tally = Tally::new();
-    for kind in [Kind::Ordered, Kind::Hashed, Kind::Indexed] {
-        if is_run_in(case, kind) {
-            run_in::<C>(alloc, case, kind, errors, refusing, &mut tally);
+    for storage in [
+        StorageName::Ordered,
+        StorageName::Hashed,
+        StorageName::Indexed,
+    ] {
+        if is_run_in(case, storage) {
+            run_in::<C>(alloc, case, storage, errors, refusing, &mut tally);
         }
     }
     tally.of_row()

@@ -1,6 +1,6 @@
 // The ways to run a row that reads bytes: whole, cut, each beginning, and with memory refused.
 
-use crate::calls::{Kind, keeps_a_map, reads_a_buffer, reads_bytes, reads_to_the_end};
+use crate::calls::{StorageName, keeps_a_map, reads_a_buffer, reads_bytes, reads_to_the_end};
 use crate::case::{Case, given};
 use crate::fault::Fault;
 use crate::mark::{Mark, NO_REQUEST};
@@ -18,7 +18,7 @@ pub struct Run<'a> {
     /// The row.
     pub case: &'a Case<'a>,
     /// The storage.
-    pub kind: Kind,
+    pub storage: StorageName,
     /// Standard error.
     pub errors: Stderr,
 }
@@ -84,9 +84,9 @@ fn single_bytes<'a>(alloc: Global, bytes: &'a [u8]) -> Result<Vec<&'a [u8]>, Fau
 impl Run<'_> {
     // The pairs as they are compared: in order, where the storage keeps none.
     fn pairs(&self, alloc: Global, pairs: &str) -> Result<String, Fault> {
-        match self.kind {
-            Kind::Indexed => copied(alloc, pairs),
-            Kind::Ordered | Kind::Hashed => in_order(alloc, pairs),
+        match self.storage {
+            StorageName::Indexed => copied(alloc, pairs),
+            StorageName::Ordered | StorageName::Hashed => in_order(alloc, pairs),
         }
     }
 
@@ -126,12 +126,12 @@ impl Run<'_> {
     // What comes of a slice.
     fn slice<C: CallsOnBytes>(&self, alloc: Global, bytes: &[u8], nth: Option<u64>) -> Found {
         let case = self.case;
-        let kind = self.kind;
+        let storage = self.storage;
         let mut mark = Mark::new(self.errors, nth);
         if reads_a_buffer(case.call) {
-            C::slice(alloc, case, kind, &mut mark, bytes)
+            C::slice(alloc, case, storage, &mut mark, bytes)
         } else {
-            C::called(alloc, case, kind, &mut mark, bytes)
+            C::called(alloc, case, storage, &mut mark, bytes)
         }
     }
 
@@ -139,13 +139,13 @@ impl Run<'_> {
     fn shared<C: CallsOnBytes>(&self, alloc: Global, bytes: &[u8], nth: Option<u64>) -> Found {
         let mut mark = Mark::new(self.errors, nth);
         let bytes = Bytes::copy_from_slice(alloc, bytes)?;
-        C::shared(alloc, self.case, self.kind, &mut mark, bytes)
+        C::shared(alloc, self.case, self.storage, &mut mark, bytes)
     }
 
     // What comes of pieces.
     fn pieces<C: CallsOnBytes>(&self, alloc: Global, pieces: &[&[u8]], nth: Option<u64>) -> Found {
         let mut mark = Mark::new(self.errors, nth);
-        C::pieces(alloc, self.case, self.kind, &mut mark, pieces)
+        C::pieces(alloc, self.case, self.storage, &mut mark, pieces)
     }
 
     // What comes of single bytes.

@@ -1,4 +1,4 @@
-//! An inventory, the example of docs/GUIDE.md: values, an optional one, a map, and kept fields.
+//! An inventory: values, an optional one, a map, and kept fields.
 
 ghost use Rattle.std.proofs.Common.{lit<, refl};
 ghost use Rattle.buffa_fields.specs.Members.{field, keep};

@@ -1,4 +1,4 @@
-//! A wagon, which has a member of each kind.
+//! A wagon, which has a member of each type.
 
 ghost use Rattle.std.proofs.Common.{lit<, refl};
 ghost use Rattle.buffa_fields.specs.Members.{field, keep};

@@ -13,4 +13,4 @@ pub mod RoundTrip
 pub mod TreeFacts
 pub mod TreeBackFacts
 pub mod Pinned
-pub mod Inventory
+pub mod Census

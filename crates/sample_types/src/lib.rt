@@ -6,9 +6,9 @@
 //! not know all its values.
 #![tactic(auto)]
 
+pub mod census;
 pub mod count;
 pub mod flat;
-pub mod guide;
 pub mod hues;
 mod int32_field;
 pub mod keep;

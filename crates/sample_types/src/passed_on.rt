@@ -3,7 +3,7 @@
 ghost use Rattle.std.specs.Prelude.{◌≡◌, ◌≤◌, IfErr, OnOk};
 ghost use Rattle.buffa_wire.specs.Enums.{Refines, numbers};
 ghost use Rattle.buffa_bytes.specs.Number.{IsNumber};
-ghost use Rattle.buffa_map.specs.Lent.{room_of};
+ghost use Rattle.buffa_map.specs.Lent.{capacity_of};
 ghost use Rattle.sample_types.specs.Passed.{IfRefused, IfUnread, IsRun, KeepsRun, MeansRun, NotRewritten, Proxy, ReadsRewrite, Stopped, proxy};
 
 use buffa_map::laws::{
@@ -116,7 +116,7 @@ pub fn passed_on<
     ensures unchanged { IfErr result (IfRefused (λ _. (map.new ≡ map.old) × (unknown.new ≡ unknown.old))) }
     ensures stops { IfErr result (IfUnread (Stopped ⟦<Pass<KC, E, F, C, D> as Way>⟧.way KC.fits depth
         number bytes.now (C.pairs scratch.new) (D.pairs map.old) unknown.old (D.pairs map.new) unknown.new)) }
-    ensures room { room_of unknown.old ≤ room_of unknown.new }
+    ensures room { capacity_of unknown.old ≤ capacity_of unknown.new }
 {
     let mut encoding = Vec::new(alloc);
     let mut budget = Budget::new(DEFAULT_UNKNOWN_FIELD_LIMIT);

@@ -6,7 +6,7 @@ use std::hash::RandomState;
 
 #[test]
 fn laws_of_the_crates_below_are_named(_rt: HostRuntime) {
-    laws::fields::constants();
+    laws::wire::constants();
     laws::records::constants();
     laws::extension_codecs::scalars_are_read();
     laws::extensions::last_set_counts();

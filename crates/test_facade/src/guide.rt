@@ -5,30 +5,30 @@ use buffa::map_codec::{
     write_message_field,
 };
 use buffa::{Budget, DecodeContext, EncodeError, RECURSION_LIMIT, SizeCache};
-use sample_types::guide::Inventory;
+use sample_types::census::Census;
 use sample_types::two::TestMsg;
 use std::alloc::Global;
 use std::test::Fail;
 
-// The inventory that the bytes are.
-fn inventory_of(alloc: Global, bytes: &[u8]) -> Result<Inventory, Fail> {
-    let mut inventory = Inventory::new(alloc);
+// The census that the bytes are.
+fn census_of(alloc: Global, bytes: &[u8]) -> Result<Census, Fail> {
+    let mut census = Census::new(alloc);
     let mut budget = Budget::new(0);
     let mut rest = bytes;
     let ctx = DecodeContext::new(RECURSION_LIMIT, &mut budget);
-    inventory.merge(alloc, &mut rest, ctx)?;
-    Ok(inventory)
+    census.merge(alloc, &mut rest, ctx)?;
+    Ok(census)
 }
 
-// Whether an inventory has this count under a name.
-fn has(inventory: &Inventory, name: &str, count: i32) -> bool {
-    inventory.counts.get(name) == Some(&count)
+// Whether a census has this count under a name.
+fn has(census: &Census, name: &str, count: i32) -> bool {
+    census.counts.get(name) == Some(&count)
 }
 
-// The bytes that an inventory is written as.
-fn encoding_of(alloc: Global, inventory: &Inventory) -> Result<Vec<u8>, EncodeError> {
+// The bytes that a census is written as.
+fn encoding_of(alloc: Global, census: &Census) -> Result<Vec<u8>, EncodeError> {
     let mut encoding = Vec::new(alloc);
-    inventory.write(&mut encoding)?;
+    census.write(&mut encoding)?;
     Ok(encoding)
 }
 
@@ -38,11 +38,11 @@ fn a_message_with_a_map_field(rt: HostRuntime) -> Result<(), Fail> {
         0x2A, 0x05, 0x0A, 0x01, 0x61, 0x10, 0x01, 0x38, 0x07, 0x2A, 0x05, 0x0A, 0x01, 0x62, 0x10,
         0x02,
     ];
-    let inventory = inventory_of(rt.alloc(), bytes)?;
-    assert!(rt; inventory.counts.storage_len() == 2);
-    assert!(rt; has(&inventory, "b", 2));
-    assert_eq!(rt; inventory.encoded_len(), 14);
-    let encoding = encoding_of(rt.alloc(), &inventory)?;
+    let census = census_of(rt.alloc(), bytes)?;
+    assert!(rt; census.counts.storage_len() == 2);
+    assert!(rt; has(&census, "b", 2));
+    assert_eq!(rt; census.encoded_len(), 14);
+    let encoding = encoding_of(rt.alloc(), &census)?;
     let written: &[u8] = &[
         0x2A, 0x05, 0x0A, 0x01, 0x61, 0x10, 0x01, 0x2A, 0x05, 0x0A, 0x01, 0x62, 0x10, 0x02,
     ];

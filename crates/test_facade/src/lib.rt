@@ -8,11 +8,11 @@
 #![tactic(auto)]
 
 #[cfg(test)]
-mod carrier;
-#[cfg(test)]
 mod facade;
 #[cfg(test)]
 mod guide;
+#[cfg(test)]
+mod labelled;
 #[cfg(test)]
 mod large;
 #[cfg(test)]

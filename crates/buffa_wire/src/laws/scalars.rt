@@ -66,32 +66,32 @@ pub fn scalars_have_wire_types()
 
 /// What a value of each scalar costs where it is an element. Nothing is left out.
 pub fn scalars_cost_so_much()
-    ensures int32 { ⟦<Int32 as Scalar>⟧.UNITS ≡ 4 }
-    ensures int64 { ⟦<Int64 as Scalar>⟧.UNITS ≡ 8 }
-    ensures uint32 { ⟦<Uint32 as Scalar>⟧.UNITS ≡ 4 }
-    ensures uint64 { ⟦<Uint64 as Scalar>⟧.UNITS ≡ 8 }
-    ensures sint32 { ⟦<Sint32 as Scalar>⟧.UNITS ≡ 4 }
-    ensures sint64 { ⟦<Sint64 as Scalar>⟧.UNITS ≡ 8 }
-    ensures bool { ⟦<Bool as Scalar>⟧.UNITS ≡ 1 }
-    ensures fixed32 { ⟦<Fixed32 as Scalar>⟧.UNITS ≡ 4 }
-    ensures fixed64 { ⟦<Fixed64 as Scalar>⟧.UNITS ≡ 8 }
-    ensures sfixed32 { ⟦<Sfixed32 as Scalar>⟧.UNITS ≡ 4 }
-    ensures sfixed64 { ⟦<Sfixed64 as Scalar>⟧.UNITS ≡ 8 }
+    ensures int32 { ⟦<Int32 as Scalar>⟧.COST ≡ 4 }
+    ensures int64 { ⟦<Int64 as Scalar>⟧.COST ≡ 8 }
+    ensures uint32 { ⟦<Uint32 as Scalar>⟧.COST ≡ 4 }
+    ensures uint64 { ⟦<Uint64 as Scalar>⟧.COST ≡ 8 }
+    ensures sint32 { ⟦<Sint32 as Scalar>⟧.COST ≡ 4 }
+    ensures sint64 { ⟦<Sint64 as Scalar>⟧.COST ≡ 8 }
+    ensures bool { ⟦<Bool as Scalar>⟧.COST ≡ 1 }
+    ensures fixed32 { ⟦<Fixed32 as Scalar>⟧.COST ≡ 4 }
+    ensures fixed64 { ⟦<Fixed64 as Scalar>⟧.COST ≡ 8 }
+    ensures sfixed32 { ⟦<Sfixed32 as Scalar>⟧.COST ≡ 4 }
+    ensures sfixed64 { ⟦<Sfixed64 as Scalar>⟧.COST ≡ 8 }
 {}
 
 /// The length of each scalar's encodings, where they have one. Nothing is left out.
 pub fn scalars_have_lengths()
-    ensures int32 { ⟦<Int32 as Scalar>⟧.LEN ≡ None }
-    ensures int64 { ⟦<Int64 as Scalar>⟧.LEN ≡ None }
-    ensures uint32 { ⟦<Uint32 as Scalar>⟧.LEN ≡ None }
-    ensures uint64 { ⟦<Uint64 as Scalar>⟧.LEN ≡ None }
-    ensures sint32 { ⟦<Sint32 as Scalar>⟧.LEN ≡ None }
-    ensures sint64 { ⟦<Sint64 as Scalar>⟧.LEN ≡ None }
-    ensures bool { ⟦<Bool as Scalar>⟧.LEN ≡ Some 1 }
-    ensures fixed32 { ⟦<Fixed32 as Scalar>⟧.LEN ≡ Some 4 }
-    ensures fixed64 { ⟦<Fixed64 as Scalar>⟧.LEN ≡ Some 8 }
-    ensures sfixed32 { ⟦<Sfixed32 as Scalar>⟧.LEN ≡ Some 4 }
-    ensures sfixed64 { ⟦<Sfixed64 as Scalar>⟧.LEN ≡ Some 8 }
+    ensures int32 { ⟦<Int32 as Scalar>⟧.FIXED_LEN ≡ None }
+    ensures int64 { ⟦<Int64 as Scalar>⟧.FIXED_LEN ≡ None }
+    ensures uint32 { ⟦<Uint32 as Scalar>⟧.FIXED_LEN ≡ None }
+    ensures uint64 { ⟦<Uint64 as Scalar>⟧.FIXED_LEN ≡ None }
+    ensures sint32 { ⟦<Sint32 as Scalar>⟧.FIXED_LEN ≡ None }
+    ensures sint64 { ⟦<Sint64 as Scalar>⟧.FIXED_LEN ≡ None }
+    ensures bool { ⟦<Bool as Scalar>⟧.FIXED_LEN ≡ Some 1 }
+    ensures fixed32 { ⟦<Fixed32 as Scalar>⟧.FIXED_LEN ≡ Some 4 }
+    ensures fixed64 { ⟦<Fixed64 as Scalar>⟧.FIXED_LEN ≡ Some 8 }
+    ensures sfixed32 { ⟦<Sfixed32 as Scalar>⟧.FIXED_LEN ≡ Some 4 }
+    ensures sfixed64 { ⟦<Sfixed64 as Scalar>⟧.FIXED_LEN ≡ Some 8 }
 {}
 
 /// How each form spells a number, which numbers it spells, and the record of one. Nothing is left out.

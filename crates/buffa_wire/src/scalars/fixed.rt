@@ -24,13 +24,13 @@ impl Scalar for Fixed32 {
 
     type Form = FourBytes;
 
-    const UNITS: usize = 4;
+    const COST: usize = 4;
 
-    const LEN: Option<u64> = Some(4);
+    const FIXED_LEN: Option<u64> = Some(4);
 
-    ghost UNITS = { 4 };
+    ghost COST = { 4 };
 
-    ghost LEN = { Some 4 };
+    ghost FIXED_LEN = { Some 4 };
 
     ghost value_of = { λ n. n };
 
@@ -67,13 +67,13 @@ impl Scalar for Fixed64 {
 
     type Form = EightBytes;
 
-    const UNITS: usize = 8;
+    const COST: usize = 8;
 
-    const LEN: Option<u64> = Some(8);
+    const FIXED_LEN: Option<u64> = Some(8);
 
-    ghost UNITS = { 8 };
+    ghost COST = { 8 };
 
-    ghost LEN = { Some 8 };
+    ghost FIXED_LEN = { Some 8 };
 
     ghost value_of = { λ n. n };
 
@@ -110,13 +110,13 @@ impl Scalar for Sfixed32 {
 
     type Form = FourBytes;
 
-    const UNITS: usize = 4;
+    const COST: usize = 4;
 
-    const LEN: Option<u64> = Some(4);
+    const FIXED_LEN: Option<u64> = Some(4);
 
-    ghost UNITS = { 4 };
+    ghost COST = { 4 };
 
-    ghost LEN = { Some 4 };
+    ghost FIXED_LEN = { Some 4 };
 
     ghost value_of = { sfixed32_of };
 
@@ -153,13 +153,13 @@ impl Scalar for Sfixed64 {
 
     type Form = EightBytes;
 
-    const UNITS: usize = 8;
+    const COST: usize = 8;
 
-    const LEN: Option<u64> = Some(8);
+    const FIXED_LEN: Option<u64> = Some(8);
 
-    ghost UNITS = { 8 };
+    ghost COST = { 8 };
 
-    ghost LEN = { Some 8 };
+    ghost FIXED_LEN = { Some 8 };
 
     ghost value_of = { sfixed64_of };
 

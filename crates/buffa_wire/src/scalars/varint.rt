@@ -29,13 +29,13 @@ impl Scalar for Int32 {
 
     type Form = Varint;
 
-    const UNITS: usize = 4;
+    const COST: usize = 4;
 
-    const LEN: Option<u64> = None;
+    const FIXED_LEN: Option<u64> = None;
 
-    ghost UNITS = { 4 };
+    ghost COST = { 4 };
 
-    ghost LEN = { None };
+    ghost FIXED_LEN = { None };
 
     ghost value_of = { int32_of };
 
@@ -72,13 +72,13 @@ impl Scalar for Int64 {
 
     type Form = Varint;
 
-    const UNITS: usize = 8;
+    const COST: usize = 8;
 
-    const LEN: Option<u64> = None;
+    const FIXED_LEN: Option<u64> = None;
 
-    ghost UNITS = { 8 };
+    ghost COST = { 8 };
 
-    ghost LEN = { None };
+    ghost FIXED_LEN = { None };
 
     ghost value_of = { int64_of };
 
@@ -115,13 +115,13 @@ impl Scalar for Uint32 {
 
     type Form = Varint;
 
-    const UNITS: usize = 4;
+    const COST: usize = 4;
 
-    const LEN: Option<u64> = None;
+    const FIXED_LEN: Option<u64> = None;
 
-    ghost UNITS = { 4 };
+    ghost COST = { 4 };
 
-    ghost LEN = { None };
+    ghost FIXED_LEN = { None };
 
     ghost value_of = { uint32_of };
 
@@ -158,13 +158,13 @@ impl Scalar for Uint64 {
 
     type Form = Varint;
 
-    const UNITS: usize = 8;
+    const COST: usize = 8;
 
-    const LEN: Option<u64> = None;
+    const FIXED_LEN: Option<u64> = None;
 
-    ghost UNITS = { 8 };
+    ghost COST = { 8 };
 
-    ghost LEN = { None };
+    ghost FIXED_LEN = { None };
 
     ghost value_of = { λ n. n };
 
@@ -201,13 +201,13 @@ impl Scalar for Sint32 {
 
     type Form = Varint;
 
-    const UNITS: usize = 4;
+    const COST: usize = 4;
 
-    const LEN: Option<u64> = None;
+    const FIXED_LEN: Option<u64> = None;
 
-    ghost UNITS = { 4 };
+    ghost COST = { 4 };
 
-    ghost LEN = { None };
+    ghost FIXED_LEN = { None };
 
     ghost value_of = { sint32_of };
 
@@ -244,13 +244,13 @@ impl Scalar for Sint64 {
 
     type Form = Varint;
 
-    const UNITS: usize = 8;
+    const COST: usize = 8;
 
-    const LEN: Option<u64> = None;
+    const FIXED_LEN: Option<u64> = None;
 
-    ghost UNITS = { 8 };
+    ghost COST = { 8 };
 
-    ghost LEN = { None };
+    ghost FIXED_LEN = { None };
 
     ghost value_of = { sint64_of };
 
@@ -287,13 +287,13 @@ impl Scalar for Bool {
 
     type Form = Varint;
 
-    const UNITS: usize = 1;
+    const COST: usize = 1;
 
-    const LEN: Option<u64> = Some(1);
+    const FIXED_LEN: Option<u64> = Some(1);
 
-    ghost UNITS = { 1 };
+    ghost COST = { 1 };
 
-    ghost LEN = { Some 1 };
+    ghost FIXED_LEN = { Some 1 };
 
     ghost value_of = { bool_of };
 

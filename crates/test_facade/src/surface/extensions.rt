@@ -1,6 +1,6 @@
 //! Extensions: descriptors, codecs, calls on a message, and steps.
 
-use crate::carrier::{Carrier, carrier_of};
+use crate::labelled::{Labelled, labelled_of};
 use buffa::extension::codecs::{Int32, PackedRepeated, Repeated, StringCodec};
 use buffa::extension::{
     Declared, Extension, ExtensionCodec, ExtensionSet, Make, NoDefault, PackableCodec, ReplayFault,
@@ -47,18 +47,18 @@ fn defaults_are_declared(rt: HostRuntime) -> Result<(), Fail> {
 
 #[test]
 fn sets_of_extensions(rt: HostRuntime) -> Result<(), Fail> {
-    let mut carrier = carrier_of(rt.alloc(), &[0x38, 5])?;
+    let mut labelled = labelled_of(rt.alloc(), &[0x38, 5])?;
     let ext = Extension::<Int32>::new(7, "test.Carrier");
-    assert!(rt; carrier.extension(rt.alloc(), &ext)? == Some(5));
-    carrier.set_extension(rt.alloc(), &ext, 6)?;
-    carrier.try_set_extension(rt.alloc(), &ext, 7)?;
-    assert!(rt; carrier.has_extension(&ext));
-    assert!(rt; carrier.extension_or_default(rt.alloc(), &ext)? == 7);
-    carrier.clear_extension(&ext);
-    assert!(rt; !carrier.has_extension(&ext));
-    assert!(rt; carrier.unknown_fields().len() == 0);
-    assert!(rt; carrier.unknown_fields_mut().len() == 0);
-    assert!(rt; <Carrier as ExtensionSet>::PROTO_FQN == "test.Carrier");
+    assert!(rt; labelled.extension(rt.alloc(), &ext)? == Some(5));
+    labelled.set_extension(rt.alloc(), &ext, 6)?;
+    labelled.try_set_extension(rt.alloc(), &ext, 7)?;
+    assert!(rt; labelled.has_extension(&ext));
+    assert!(rt; labelled.extension_or_default(rt.alloc(), &ext)? == 7);
+    labelled.clear_extension(&ext);
+    assert!(rt; !labelled.has_extension(&ext));
+    assert!(rt; labelled.unknown_fields().len() == 0);
+    assert!(rt; labelled.unknown_fields_mut().len() == 0);
+    assert!(rt; <Labelled as ExtensionSet>::PROTO_FQN == "test.Carrier");
     Ok(())
 }
 

@@ -1,6 +1,6 @@
 //! The impls of the types of the surface, asked for by bounds.
 
-use crate::carrier::Carrier;
+use crate::labelled::Labelled;
 use buffa::extension::codecs::{self, PackedRepeated, Repeated};
 use buffa::extension::{
     Declared, ExtensionCodec, Make, NoDefault, PackableCodec, ReplayFault, SingularCodec, Step,
@@ -196,6 +196,6 @@ fn descriptors(_rt: HostRuntime) {
     is_copied::<Extension<codecs::StringCodec>>();
     is_copied::<Extension<Repeated<codecs::Int32>, NoDefault>>();
     is_declared::<String, NoDefault>();
-    is_extended::<Carrier>();
+    is_extended::<Labelled>();
     with_function(|_alloc: Global| -> Result<i32, AllocError> { Ok(7) });
 }

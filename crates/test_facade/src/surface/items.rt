@@ -57,7 +57,7 @@ fn by_top_names<M: ExtensionSet, C: MapStorage<Key = i32, Value = i32>>(map: &C)
 fn names_at_the_top(rt: HostRuntime) {
     let map: Map<i32, i32> = Map::new(rt.alloc());
     let codec_map: map_codec::Map<i32, i32> = map_codec::Map::new(rt.alloc());
-    assert!(rt; by_top_names::<crate::carrier::Carrier, _>(&map) == (7, 0));
+    assert!(rt; by_top_names::<crate::labelled::Labelled, _>(&map) == (7, 0));
     assert!(rt; codec_map.storage_len() == 0);
     laws::law_6();
 }

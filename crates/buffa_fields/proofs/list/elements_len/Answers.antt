@@ -4,7 +4,7 @@ use Rattle.buffa_fields.specs.ListFacts.{count_none, elements_by_value}
 use Rattle.buffa_fields.proofs.list.elements_len.Goals as goal
 
 pub loop-value-init : goal.loop-value-init
-loop-value-init g c = count_none g.C.Kind.datum c.args.number
+loop-value-init g c = count_none g.C.ProtoType.datum c.args.number
 
 pub loop-value-preserved : goal.loop-value-preserved
 loop-value-preserved g c =
@@ -13,5 +13,5 @@ loop-value-preserved g c =
       c.loop-value.invariant,
       c.value_len.ensures,
       c.saturating_add-total.ensures,
-      length_more (elements_by_value g.C.Kind.datum c.args.number) g.C.Value.Blank.meaning c.args.values.now c.loop-value.value-index c.value-item.result c.loop-value-test.true c.value-item.is,
+      length_more (elements_by_value g.C.ProtoType.datum c.args.number) g.C.Value.Blank.meaning c.args.values.now c.loop-value.value-index c.value-item.result c.loop-value-test.true c.value-item.is,
     )

@@ -9,5 +9,5 @@ returns g c =
     let v = g.C.Value.Blank.meaning c.args.value.now in
     let n = c.args.number in
     let encoding = g.C.MapCodec.writing.encoding v in
-    let is = ap (λ w. tag_encoding n w ++ encoding) (sym g.met.C.MapCodec.written_wire) ∙ g.met.C.Kind.datum_encoding n v ∙ sym (append-nil (tagged_encoding n (g.C.Kind.datum v))) in
+    let is = ap (λ w. tag_encoding n w ++ encoding) (sym g.met.C.MapCodec.written_wire) ∙ g.met.C.ProtoType.datum_encoding n v ∙ sym (append-nil (tagged_encoding n (g.C.ProtoType.datum v))) in
     subst (λ (l : List ℕ). Writes c.write_parts.result (g.S.EncodeSink.written c.args.sink.now) l (g.S.EncodeSink.written c.write_parts.new.sink)) is c.write_parts.ensures

@@ -9,7 +9,7 @@ use Rattle.buffa_wire.specs.Records.{Datum, Held, bytes}
 use Rattle.buffa_codec.specs.Decoded.{Adds, AddsSome, packed_record}
 use Rattle.buffa_codec.specs.Sub.{tagged}
 use Rattle.buffa_codec.proofs.ListLemmas.{packed_some}
-use Rattle.buffa_codec.proofs.PlaceLemmas.{places_stay}
+use Rattle.buffa_codec.proofs.CapacityLemmas.{capacity_stays}
 use Rattle.buffa_codec.proofs.TurnLemmas.{writes_none}
 use Rattle.buffa_codec.proofs.packed.PackedRepeatedExtensionCodec.try_encode.Goals as goal
 use Rattle.buffa_wire.specs.Encoding.{encodings}
@@ -52,7 +52,7 @@ returns-then-is_empty-clause-fits g c =
     (is_none c.is_empty.result _ _ c.is_empty.ensures c.args.value.ok.0 c.if-is_empty.true)
 
 pub returns-then-is_empty-clause-room : goal.returns-then-is_empty-clause-room
-returns-then-is_empty-clause-room g c = places_stay c.args.fields.now
+returns-then-is_empty-clause-room g c = capacity_stays c.args.fields.now
 
 pub returns-in_err-bytes-clause-ok : goal.returns-in_err-bytes-clause-ok
 returns-in_err-bytes-clause-ok g c =
@@ -71,7 +71,7 @@ returns-in_err-bytes-clause-refused g c =
     rw (p.1, p.2) c.in_err-bytes.ensures.refused
 
 pub returns-in_err-bytes-clause-room : goal.returns-in_err-bytes-clause-room
-returns-in_err-bytes-clause-room g c = places_stay c.args.fields.now
+returns-in_err-bytes-clause-room g c = capacity_stays c.args.fields.now
 
 pub returns-in_err-bytes-clause-fits : goal.returns-in_err-bytes-clause-fits
 returns-in_err-bytes-clause-fits g c =

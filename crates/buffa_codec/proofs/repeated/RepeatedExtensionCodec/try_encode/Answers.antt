@@ -3,8 +3,8 @@ use Rattle.std.specs.List.{AllByRecursion}
 use Rattle.std.proofs.lemmas.Result.{err_from_is_err_and}
 use Rattle.std.proofs.lemmas.Bool.{false≢true}
 use Rattle.buffa_wire.specs.View.{datum_of}
-use Rattle.buffa_codec.specs.Decoded.{KeepsPlaces, first_refusal}
-use Rattle.buffa_codec.proofs.PlaceLemmas.{places_more}
+use Rattle.buffa_codec.specs.Decoded.{KeepsCapacity, first_refusal}
+use Rattle.buffa_codec.proofs.CapacityLemmas.{capacity_more}
 use Rattle.buffa_codec.proofs.TurnLemmas.{values_length, writes_one_more, writes_front, writes_part}
 use Rattle.buffa_codec.proofs.ListLemmas.{AllByRecursion-at, AllByRecursion-more, first_refusal-append, first_refusal-pass, refused_whole}
 use Rattle.buffa_codec.proofs.repeated.RepeatedExtensionCodec.try_encode.Goals as goal
@@ -34,7 +34,7 @@ returns-in_err-payload-clause-reserved g c =
     (subst (λ l. AllByRecursion g.C.SingularCodec.made_free (map g.C.Value.Blank.meaning l)) (sym c.as_slice-v-items.ensures.value) free))))
 
 pub returns-in_err-push-clause-room : goal.returns-in_err-push-clause-room
-returns-in_err-push-clause-room g c = subst (KeepsPlaces c.args.fields.now) (sym c.in_err-push.ensures.err) c.loop-v.invariant.places
+returns-in_err-push-clause-room g c = subst (KeepsCapacity c.args.fields.now) (sym c.in_err-push.ensures.err) c.loop-v.invariant.places
 
 pub returns-in_err-push-clause-reserved : goal.returns-in_err-push-clause-reserved
 returns-in_err-push-clause-reserved g c free enough =
@@ -51,6 +51,6 @@ loop-v-preserved g c =
           c.loop-v-test.true c.v-item.is c.in_ok-payload.ensures.record refl c.loop-v.invariant.written c.in_ok-push.ensures.ok;
       allowed = ap (first_refusal g.C.SingularCodec.refusal) more ∙ first_refusal-append g.C.SingularCodec.refusal (map m (take c.loop-v.v-index xs)) (m c.v-item.result ∷ []) c.loop-v.invariant.allowed ∙ first_refusal-pass g.C.SingularCodec.refusal (m c.v-item.result) [] c.in_ok-payload.ensures.refused;
       room = omega (arith, c.loop-v.invariant.room, c.in_ok-push.ensures.room);
-      places = places_more c.args.fields.now c.loop-v.fields c.push.new.self (c.args.number, datum_of c.in_ok-payload.payload) c.loop-v.invariant.places c.in_ok-push.ensures.ok c.in_ok-push.ensures.room;
+      places = capacity_more c.args.fields.now c.loop-v.fields c.push.new.self (c.args.number, datum_of c.in_ok-payload.payload) c.loop-v.invariant.places c.in_ok-push.ensures.ok c.in_ok-push.ensures.room;
       fit = AllByRecursion-more g.C.SingularCodec.fits m xs c.loop-v.v-index c.v-item.result c.loop-v-test.true c.v-item.is c.loop-v.invariant.fit c.in_ok-payload.ensures.fits;
     }

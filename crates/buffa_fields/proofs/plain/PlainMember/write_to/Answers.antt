@@ -8,5 +8,5 @@ pub returns-then-is_blank : goal.returns-then-is_blank
 unfolding plain_records
 returns-then-is_blank g c =
     let v = g.C.Value.Blank.meaning c.args.part.now in
-    unwritten (plain_records g.C.Kind.is_blank g.C.Kind.datum c.args.number v) c.args._cache.now (g.S.EncodeSink.written c.args.sink.now)
-    (ap (λ t. records_unless t ((c.args.number, g.C.Kind.datum v) ∷ [])) (sym c.is_blank.ensures ∙ c.if-is_blank.true))
+    unwritten (plain_records g.C.ProtoType.is_blank g.C.ProtoType.datum c.args.number v) c.args._cache.now (g.S.EncodeSink.written c.args.sink.now)
+    (ap (λ t. records_unless t ((c.args.number, g.C.ProtoType.datum v) ∷ [])) (sym c.is_blank.ensures ∙ c.if-is_blank.true))

@@ -1,0 +1,103 @@
+//! What member types are made of: the orders of keys, the records of numbers, texts and enums, and which members lose
+//! nothing.
+//!
+//! The words of `MapCodec` and `Scalar` that these cite are pinned by the laws of the crates below.
+
+ghost use Rattle.std.specs.Prelude.{◌≡◌, ℕ, ℤ, List, false, true, not};
+ghost use Rattle.std.specs.Cmp.Lexicographic.{slice_cmp};
+ghost use Rattle.std.specs.Int.{cast_unsigned, w64};
+ghost use Rattle.std.specs.Ordering.{bool_cmp, int_cmp, nat_cmp};
+ghost use Rattle.buffa_wire.specs.Records.Datum.{varint, fixed32, fixed64, bytes};
+ghost use Rattle.buffa_fields.specs.BlankFacts.{is_none, is_nought, is_zero};
+
+use crate::group::Group;
+use crate::map_member::MapOf;
+use crate::map_nested::MapOfNested;
+use crate::member::Member;
+use crate::nested::Nested;
+use crate::optional::Optional;
+use crate::ordered_key::OrderedKey;
+use crate::ordered_map::OrderedMapOf;
+use crate::ordered_nested::OrderedMapOfNested;
+use crate::packed::{Packable, Packed};
+use crate::plain::Plain;
+use crate::proto_type::ProtoType;
+use crate::repeated::Repeated;
+use crate::repeated_group::RepeatedGroup;
+use crate::repeated_nested::RepeatedNested;
+use buffa_map::map_codec::{
+    Bool, BytesBuf, ClosedEnum, Fixed32, Fixed64, Int32, Int64, MapCodec, OpenEnum, ProtoBytesMap,
+    ProtoStringMap, Sfixed32, Sfixed64, Sint32, Sint64, Uint32, Uint64,
+};
+use buffa_wire::{Enumeration, MapKey, Message, ProtoBytes, ProtoString, Scalar};
+use std::hash::Hash;
+
+/// The orders of keys: numbers as numbers, false before true, strings byte by byte.
+pub fn orders_are_these()
+    ensures int32 { ⟦<i32 as OrderedKey>⟧.order ≡ int_cmp }
+    ensures int64 { ⟦<i64 as OrderedKey>⟧.order ≡ int_cmp }
+    ensures uint32 { ⟦<u32 as OrderedKey>⟧.order ≡ nat_cmp }
+    ensures uint64 { ⟦<u64 as OrderedKey>⟧.order ≡ nat_cmp }
+    ensures bool { ⟦<bool as OrderedKey>⟧.order ≡ bool_cmp }
+    ensures string { ⟦<String as OrderedKey>⟧.order ≡ slice_cmp nat_cmp }
+{}
+
+/// The record of a number, and which number is the default: 0, or false.
+pub fn numbers_are_these()
+    ensures int32 { (v : ℤ) → (⟦<Int32 as ProtoType>⟧.datum v ≡ varint (⟦<Int32 as Scalar>⟧.number_of v))
+        × (⟦<Int32 as ProtoType>⟧.is_blank v ≡ is_zero v) }
+    ensures int64 { (v : ℤ) → (⟦<Int64 as ProtoType>⟧.datum v ≡ varint (⟦<Int64 as Scalar>⟧.number_of v))
+        × (⟦<Int64 as ProtoType>⟧.is_blank v ≡ is_zero v) }
+    ensures uint32 { (v : ℕ) → (⟦<Uint32 as ProtoType>⟧.datum v ≡ varint (⟦<Uint32 as Scalar>⟧.number_of v))
+        × (⟦<Uint32 as ProtoType>⟧.is_blank v ≡ is_nought v) }
+    ensures uint64 { (v : ℕ) → (⟦<Uint64 as ProtoType>⟧.datum v ≡ varint (⟦<Uint64 as Scalar>⟧.number_of v))
+        × (⟦<Uint64 as ProtoType>⟧.is_blank v ≡ is_nought v) }
+    ensures sint32 { (v : ℤ) → (⟦<Sint32 as ProtoType>⟧.datum v ≡ varint (⟦<Sint32 as Scalar>⟧.number_of v))
+        × (⟦<Sint32 as ProtoType>⟧.is_blank v ≡ is_zero v) }
+    ensures sint64 { (v : ℤ) → (⟦<Sint64 as ProtoType>⟧.datum v ≡ varint (⟦<Sint64 as Scalar>⟧.number_of v))
+        × (⟦<Sint64 as ProtoType>⟧.is_blank v ≡ is_zero v) }
+    ensures fixed32 { (v : ℕ) → (⟦<Fixed32 as ProtoType>⟧.datum v ≡ fixed32 (⟦<Fixed32 as Scalar>⟧.number_of v))
+        × (⟦<Fixed32 as ProtoType>⟧.is_blank v ≡ is_nought v) }
+    ensures fixed64 { (v : ℕ) → (⟦<Fixed64 as ProtoType>⟧.datum v ≡ fixed64 (⟦<Fixed64 as Scalar>⟧.number_of v))
+        × (⟦<Fixed64 as ProtoType>⟧.is_blank v ≡ is_nought v) }
+    ensures sfixed32 { (v : ℤ) → (⟦<Sfixed32 as ProtoType>⟧.datum v ≡ fixed32 (⟦<Sfixed32 as Scalar>⟧.number_of v))
+        × (⟦<Sfixed32 as ProtoType>⟧.is_blank v ≡ is_zero v) }
+    ensures sfixed64 { (v : ℤ) → (⟦<Sfixed64 as ProtoType>⟧.datum v ≡ fixed64 (⟦<Sfixed64 as Scalar>⟧.number_of v))
+        × (⟦<Sfixed64 as ProtoType>⟧.is_blank v ≡ is_zero v) }
+    ensures bool { (v : _) → (⟦<Bool as ProtoType>⟧.datum v ≡ varint (⟦<Bool as Scalar>⟧.number_of v))
+        × (⟦<Bool as ProtoType>⟧.is_blank v ≡ not v) }
+{}
+
+/// The record of a string, of bytes and of an enum, and which is the default: the empty one, and the number 0. A closed
+/// enum's value is always written.
+pub fn texts_and_enums_are_these<T: ProtoString, B: ProtoBytes, E: Enumeration>()
+    ensures string { (v : _) → (⟦<ProtoStringMap<T> as ProtoType>⟧.datum v ≡ bytes (T.text v))
+        × (⟦<ProtoStringMap<T> as ProtoType>⟧.is_blank v ≡ is_none (T.text v)) }
+    ensures bytes { (v : _) → (⟦<ProtoBytesMap<B> as ProtoType>⟧.datum v ≡ bytes (B.bytes v))
+        × (⟦<ProtoBytesMap<B> as ProtoType>⟧.is_blank v ≡ is_none (B.bytes v)) }
+    ensures shared { (v : List ℕ) → (⟦<BytesBuf as ProtoType>⟧.datum v ≡ bytes v)
+        × (⟦<BytesBuf as ProtoType>⟧.is_blank v ≡ is_none v) }
+    ensures open { (v : _) → (⟦<OpenEnum<E> as ProtoType>⟧.datum v ≡ varint (cast_unsigned w64 v.1))
+        × (⟦<OpenEnum<E> as ProtoType>⟧.is_blank v ≡ is_zero v.1) }
+    ensures closed { (v : ℤ) → (⟦<ClosedEnum<E> as ProtoType>⟧.datum v ≡ varint (cast_unsigned w64 v))
+        × (⟦<ClosedEnum<E> as ProtoType>⟧.is_blank v ≡ false) }
+{}
+
+/// Which members lose nothing of what they read: those whose codec returns only values that are declared, and those of
+/// messages. A layout with another one isn't sound. Nothing is left out.
+pub fn members_that_lose_nothing_are_these<C: Packable, KC: MapCodec, VC: MapCodec, N: Message>()
+where
+    KC::Value: MapKey + Hash + OrderedKey,
+    ensures plain { ⟦<Plain<C> as Member>⟧.shape.whole ≡ not C.MAY_RETURN_UNKNOWN }
+    ensures optional { ⟦<Optional<C> as Member>⟧.shape.whole ≡ not C.MAY_RETURN_UNKNOWN }
+    ensures repeated { ⟦<Repeated<C> as Member>⟧.shape.whole ≡ not C.MAY_RETURN_UNKNOWN }
+    ensures packed { ⟦<Packed<C> as Member>⟧.shape.whole ≡ not C.MAY_RETURN_UNKNOWN }
+    ensures map { ⟦<MapOf<KC, VC> as Member>⟧.shape.whole ≡ not VC.MAY_RETURN_UNKNOWN }
+    ensures ordered_map { ⟦<OrderedMapOf<KC, VC> as Member>⟧.shape.whole ≡ not VC.MAY_RETURN_UNKNOWN }
+    ensures map_of_messages { ⟦<MapOfNested<KC, N> as Member>⟧.shape.whole ≡ true }
+    ensures ordered_map_of_messages { ⟦<OrderedMapOfNested<KC, N> as Member>⟧.shape.whole ≡ true }
+    ensures nested { ⟦<Nested<N> as Member>⟧.shape.whole ≡ true }
+    ensures repeated_nested { ⟦<RepeatedNested<N> as Member>⟧.shape.whole ≡ true }
+    ensures group { ⟦<Group<N> as Member>⟧.shape.whole ≡ true }
+    ensures repeated_group { ⟦<RepeatedGroup<N> as Member>⟧.shape.whole ≡ true }
+{}

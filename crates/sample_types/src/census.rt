@@ -1,0 +1,92 @@
+//! A census, the worked example of docs/GUIDE.md: a count for each name, in a map field.
+
+ghost use Rattle.std.specs.Prelude.{◌≡◌, []};
+ghost use Rattle.buffa_map.specs.Encoding.{UsesRoomOf, WritesField, field_size, field_encoding, saturated};
+ghost use Rattle.sample_types.specs.Census.{counts_by_name};
+ghost use Rattle.buffa_map.specs.Scalars.{int32_writing, text_writing};
+
+use buffa_map::map_codec::{Int32, Map, Str, field_len, merge_entry, write_field};
+use buffa_wire::{
+    Buf, DecodeContext, DecodeError, EncodeError, EncodeSink, Tag, WireType, check_wire_type,
+    skip_field_depth,
+};
+use std::alloc::Global;
+
+/// `message Census { map<string, int32> counts = 5; }`
+///
+/// ```ignore
+/// let mut census = Census::new(alloc);
+/// ```
+#[derive(Drop)]
+pub struct Census {
+    /// The field of number 5.
+    pub counts: Map<String, i32>,
+}
+
+impl Census {
+    /// No counts.
+    ///
+    /// ```ignore
+    /// let mut census = Census::new(alloc);
+    /// ```
+    pub fn new(alloc: Global) -> Census
+        ensures { result.counts.entries ≡ [] }
+    {
+        Census {
+            counts: Map::new(alloc),
+        }
+    }
+
+    /// The length of the encoding: the tag of number 5 has one byte.
+    ///
+    /// ```ignore
+    /// assert_eq!(rt; census.encoded_len(), 14);
+    /// ```
+    pub fn encoded_len(&self) -> u64
+        ensures { result ≡ saturated (field_size text_writing int32_writing 1 (counts_by_name self.now.counts.entries)) }
+    {
+        field_len::<Str, Int32, _>(&self.counts, 1)
+    }
+
+    /// Writes a record for each count.
+    ///
+    /// ```ignore
+    /// census.write(&mut sink)?;
+    /// ```
+    pub fn write<S: EncodeSink>(&self, sink: &mut S) -> Result<(), EncodeError>
+        ensures writes { WritesField text_writing int32_writing 5 (S.written sink.old) (S.written sink.new) result
+            (counts_by_name self.now.counts.entries) }
+        ensures room { UsesRoomOf result (S.room sink.old)
+            (field_encoding text_writing int32_writing 5 (counts_by_name self.now.counts.entries)) (S.room sink.new) }
+    {
+        write_field::<Str, Int32, _, _>(&self.counts, 5, sink)
+    }
+
+    /// Reads the fields to the end of the buffer; those of other numbers are skipped.
+    ///
+    /// ```ignore
+    /// census.merge(alloc, &mut rest, ctx)?;
+    /// ```
+    pub fn merge<B: Buf>(
+        &mut self,
+        alloc: Global,
+        buf: &mut B,
+        ctx: DecodeContext<'_>,
+    ) -> Result<(), DecodeError> {
+        let DecodeContext { depth, budget } = ctx;
+        'fields: while buf.remaining() > 0 {
+            let tag = Tag::decode(buf)?;
+            if tag.field_number() == 5 {
+                check_wire_type(tag, WireType::LengthDelimited)?;
+                let lent = DecodeContext {
+                    depth,
+                    budget: &mut *budget,
+                };
+                merge_entry::<Str, Int32, _, _>(alloc, &mut self.counts, buf, lent)?;
+            } else {
+                skip_field_depth(tag, buf, depth)?;
+            }
+        }
+        Ok(())
+    }
+}
