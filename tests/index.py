@@ -32,7 +32,7 @@ START = {
     for it in (
         "buffa_bytes/src/varint buffa_wire/src/message buffa_map/src/map_codec buffa_map/src/run buffa_codec/src/codec buffa_ext/src/set "
         "buffa_message_set/src/message_set buffa_fields/src/fields buffa/src/lib buffamap/src/engine sample_stock/src/stock "
-        "test_facade/src/guide conformance_tables/src/lib"
+        "test_facade/src/guide conformance_rows/src/tables"
     ).split()
 }
 PARTS = (

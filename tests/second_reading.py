@@ -310,7 +310,7 @@ class Row:
         return "ok"
 
     def outcome(self, in_order):
-        """What comes of the row, by the calls' names in `crates/conformance_tables`."""
+        """What comes of the row, by the calls' names in `crates/conformance_rows`."""
         for calls, done in (
             ("entry unlisted run rewrite field", self.of_map),
             ("write size size-and-write", self.of_written_map),

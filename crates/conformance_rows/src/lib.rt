@@ -9,11 +9,12 @@ pub mod any_buf;
 mod cuts;
 pub mod outcome;
 pub mod runs;
+pub mod tables;
 pub mod words;
 
+use crate::tables::case::{MAX_NUMBER, UNITS, UNKNOWN};
+pub use crate::tables::{calls, case, fault, mark, tally};
 use buffa_wire::{DEFAULT_ELEMENT_MEMORY_LIMIT, DEFAULT_UNKNOWN_FIELD_LIMIT, MAX_FIELD_NUMBER};
-use conformance_tables::case::{MAX_NUMBER, UNITS, UNKNOWN};
-pub use conformance_tables::{calls, case, fault, mark, tally};
 
 // What a row may say, and what it means where it says nothing, is what the library has.
 const _: () = prove!(MAX_NUMBER == MAX_FIELD_NUMBER);

@@ -1,13 +1,13 @@
 // What comes of a call, in words.
 
-use crate::words::records_word;
-use buffa_wire::{Budget, Buf, DecodeError, EncodeError, UnknownFields};
-use conformance_tables::case::Case;
-use conformance_tables::fault::Fault;
-use conformance_tables::outcome::left_told;
-pub use conformance_tables::outcome::{
+use crate::tables::case::Case;
+use crate::tables::fault::Fault;
+use crate::tables::outcome::left_told;
+pub use crate::tables::outcome::{
     Outcome, and, digits_told, got, in_words, text_told, two_in_words,
 };
+use crate::words::records_word;
+use buffa_wire::{Budget, Buf, DecodeError, EncodeError, UnknownFields};
 use std::alloc::Global;
 
 /// The word of an answer.

@@ -2,15 +2,15 @@
 
 use crate::any_buf::AnyBuf;
 use crate::cuts::pieces_of;
+use crate::tables::calls::StorageName;
+use crate::tables::case::Case;
+use crate::tables::fault::Fault;
+use crate::tables::mark::Mark;
+use crate::tables::on_bytes::CallsOnBytes;
+use crate::tables::outcome::Outcome;
+use crate::tables::runs;
 use buffa_wire::UnknownFields;
 use bytes::Bytes;
-use conformance_tables::calls::StorageName;
-use conformance_tables::case::Case;
-use conformance_tables::fault::Fault;
-use conformance_tables::mark::Mark;
-use conformance_tables::on_bytes::CallsOnBytes;
-use conformance_tables::outcome::Outcome;
-use conformance_tables::runs;
 use std::alloc::Global;
 use std::marker::PhantomData;
 use std::process::ExitCode;

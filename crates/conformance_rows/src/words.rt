@@ -1,15 +1,15 @@
 // Values as the words of a table.
 
+use crate::tables::fault::Fault;
+use crate::tables::outcome::in_words;
+pub use crate::tables::words::{
+    bytes_word, copied, joined, push_word, text_word, word_bytes, word_text,
+};
 use buffa_wire::{
     Blank, Budget, DEFAULT_UNKNOWN_FIELD_LIMIT, DecodeContext, DecodeError, RECURSION_LIMIT, Tag,
     UnknownField, UnknownFields, decode_unknown_field,
 };
 use bytes::Bytes;
-use conformance_tables::fault::Fault;
-use conformance_tables::outcome::in_words;
-pub use conformance_tables::words::{
-    bytes_word, copied, joined, push_word, text_word, word_bytes, word_text,
-};
 use std::alloc::Global;
 
 /// A value that stands in a table as one word. `By` is a type of the crate that says how, so that a crate can say it

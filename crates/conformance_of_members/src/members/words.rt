@@ -2,7 +2,7 @@
 
 use crate::members::Members;
 use buffa_wire::{EnumValue, Enumeration};
-use conformance_messages::{Parted, Parts, parted_word};
+use conformance_calls::messages::{Parted, Parts, parted_word};
 use conformance_rows::fault::Fault;
 use conformance_rows::outcome::in_words;
 use conformance_rows::words::{Worded, unknown_word};
