@@ -7,7 +7,7 @@ use Rattle.buffa_wire.specs.Records.{Datum}
 use Rattle.buffa_wire.specs.View.{records_in, datum_of}
 use Rattle.buffa_wire.specs.declared.unknown_fields.UnknownField.{UnknownField}
 use Rattle.buffa_codec.specs.Decoded.{Has}
-use Rattle.buffa_codec.specs.Strict.{AreElements, Faultless, FirstElementFault, FirstFault, TellsFault}
+use Rattle.buffa_codec.specs.Strict.{AreElements, Faultless, FirstElementFault, FirstFault, IsFaultOrFull}
 use Rattle.buffa_codec.specs.Sub.{sub}
 use Rattle.buffa_codec.proofs.TurnLemmas.{sub-cut, sub-take_other, sub-take_same}
 
@@ -43,7 +43,7 @@ module _ (n : ℕ) (xs : List UnknownField) (i : ℕ) (x : UnknownField) (lt : i
 
     -- a record has a fault, or takes memory
     pub element_fault_here : (Fault : BudgetLeft → Datum → DecodeError → Type 0) (asks : Datum → Type 0) (err : DecodeError) (all : List (ℕ × Datum)) → x.number ≡ n → records_in xs ≡ all
-        → TellsFault (Fault mid (datum_of x.payload)) (asks (datum_of x.payload)) err → TellsFault (FirstElementFault IsElement Fault leaves b (sub n all)) (Has asks (sub n all)) err
+        → IsFaultOrFull (Fault mid (datum_of x.payload)) (asks (datum_of x.payload)) err → IsFaultOrFull (FirstElementFault IsElement Fault leaves b (sub n all)) (Has asks (sub n all)) err
     element_fault_here Fault asks err all same whole (inl k) =
         inl (sub n (records_in (take i xs)), datum_of x.payload, sub n (records_in (drop (i + 1) xs)), mid, ap (sub n) (sym whole) ∙ sub-cut n xs i x lt e same, h, k)
     element_fault_here Fault asks err all same whole (inr k) =

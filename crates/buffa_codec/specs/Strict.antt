@@ -15,8 +15,8 @@ use Rattle.buffa_wire.specs.Encoding.{wire_of}
 use Rattle.buffa_wire.specs.Records.{Datum, bytes}
 
 -- an error is a fault, or memory ran out where a request may be refused
-abbrev pub TellsFault : (DecodeError → Type 0) → Type 0 → DecodeError → Type 0
-TellsFault Fault asks e = Fault e ⊎ ((e ≡ OutOfMemory) × asks)
+abbrev pub IsFaultOrFull : (DecodeError → Type 0) → Type 0 → DecodeError → Type 0
+IsFaultOrFull Fault asks e = Fault e ⊎ ((e ≡ OutOfMemory) × asks)
 
 -- ---- one value
 

@@ -66,12 +66,12 @@ text_no_fault n b h = rw h refl
 pub text_fault : (n : ℕ) (b : List ℕ) → is_utf8 b ≡ false → Some InvalidUtf8 ≡ string_fault n (bytes b)
 text_fault n b h = rw h refl
 
-pub bytes_read : (n : ℕ) (d : Datum) → bytes_fault n d ≡ None → (v : List ℕ) × (bytes_held d ≡ Some v)
-bytes_read n (bytes b) h = (b, refl)
-bytes_read n (varint x) h = absurd (both_some _ (sym h))
-bytes_read n (fixed32 x) h = absurd (both_some _ (sym h))
-bytes_read n (fixed64 x) h = absurd (both_some _ (sym h))
-bytes_read n (group rs) h = absurd (both_some _ (sym h))
+pub bytes_are_read : (n : ℕ) (d : Datum) → bytes_fault n d ≡ None → (v : List ℕ) × (bytes_held d ≡ Some v)
+bytes_are_read n (bytes b) h = (b, refl)
+bytes_are_read n (varint x) h = absurd (both_some _ (sym h))
+bytes_are_read n (fixed32 x) h = absurd (both_some _ (sym h))
+bytes_are_read n (fixed64 x) h = absurd (both_some _ (sym h))
+bytes_are_read n (group rs) h = absurd (both_some _ (sym h))
 
 pub read_bytes : (n : ℕ) (d : Datum) (v : List ℕ) → bytes_held d ≡ Some v → bytes_fault n d ≡ None
 read_bytes n (bytes b) v h = refl

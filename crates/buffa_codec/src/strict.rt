@@ -7,9 +7,9 @@ ghost use Rattle.buffa_wire.specs.BudgetLeft.{BudgetLeft, defaults};
 ghost use Rattle.buffa_wire.specs.Records.{Datum};
 ghost use Rattle.buffa_wire.specs.View.{datum_of};
 ghost use Rattle.buffa_codec.specs.Decoded.{Has};
-ghost use Rattle.buffa_codec.specs.Strict.{AreElements, Faultless, FirstElementFault, FirstFault, TellsFault};
+ghost use Rattle.buffa_codec.specs.Strict.{AreElements, Faultless, FirstElementFault, FirstFault, IsFaultOrFull};
 ghost use Rattle.buffa_codec.specs.Strict.{bytes_fault, number_list_fault, packed_fault, string_fault, unless_found};
-ghost use Rattle.buffa_codec.specs.StrictFacts.{bytes_read, either_fault, either_listed, found_read, no_two};
+ghost use Rattle.buffa_codec.specs.StrictFacts.{bytes_are_read, either_fault, either_listed, found_read, no_two};
 ghost use Rattle.buffa_codec.specs.StrictFacts.{read_bytes, read_found, read_listed, read_string, string_read};
 ghost use Rattle.buffa_codec.specs.Sub.{sub};
 
@@ -52,7 +52,7 @@ pub trait StrictCodec: ExtensionCodec {
     ) -> Result<Self::Output, DecodeError>
         ensures value { IfOk result (λ o. Self.reads (sub number fields.now.records) (Self.answer o)) }
         ensures whole { OnOk result (IsFaultless number (sub number fields.now.records)) }
-        ensures fault { IfErr result (TellsFault (HasFault number (sub number fields.now.records))
+        ensures fault { IfErr result (IsFaultOrFull (HasFault number (sub number fields.now.records))
             (Self.asks (sub number fields.now.records))) };
 
     /// Records that are all read have no fault.
@@ -113,7 +113,7 @@ pub trait StrictElementCodec: SingularCodec {
     ) -> Result<(), DecodeError>
         ensures element { OnOk result (IsElement number budget.old (datum_of payload.now)) }
         ensures leaves { OnOk result (Self.leaves 100 budget.old (datum_of payload.now) budget.new) }
-        ensures fault { IfErr result (TellsFault (ElementFault number budget.old (datum_of payload.now))
+        ensures fault { IfErr result (IsFaultOrFull (ElementFault number budget.old (datum_of payload.now))
             (Self.asks (datum_of payload.now))) };
 
     /// An element has no fault.
@@ -255,7 +255,7 @@ impl StrictSingularCodec for BytesCodec {
         }
     }
 
-    ghost faultless_read = { λ n b d h. bytes_read n d h };
+    ghost faultless_read = { λ n b d h. bytes_are_read n d h };
 
     ghost read_faultless = { λ n b d v h. read_bytes n d v h };
 }
@@ -332,7 +332,7 @@ fn check_elements<C: StrictElementCodec>(
 ) -> Result<(), DecodeError>
     ensures whole { OnOk result ((left : BudgetLeft)
         × AreElements (C.IsElement number) (C.leaves 100) defaults (sub number fields.now.records) left) }
-    ensures fault { IfErr result (TellsFault (FirstElementFault (C.IsElement number) (C.ElementFault number)
+    ensures fault { IfErr result (IsFaultOrFull (FirstElementFault (C.IsElement number) (C.ElementFault number)
         (C.leaves 100) defaults (sub number fields.now.records)) (Has C.asks (sub number fields.now.records))) }
 {
     let mut budget = Budget::new(DEFAULT_UNKNOWN_FIELD_LIMIT);

@@ -230,7 +230,14 @@ pub fn merge_entry<
 /// Source: the protobuf encoding guide, "Maps", and the language guide on unknown values of an enum.
 ///
 /// ```ignore
-/// merge_entry_with_unknowns::<Int32, ClosedEnum<Shade>, _, _>(alloc, shades, buf, lent, 3, Some(rest))?;
+/// merge_entry_with_unknowns::<Int32, ClosedEnum<Old>, _, _>(
+///     rt.alloc(),
+///     &mut closed,
+///     &mut rest,
+///     ctx,
+///     5,
+///     Some(&mut kept),
+/// )?;
 /// ```
 pub fn merge_entry_with_unknowns<
     KC: MapCodec,
