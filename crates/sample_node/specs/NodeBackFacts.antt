@@ -184,8 +184,8 @@ module _ (d : ℕ) (m : ChildMeaning Branch) where
       let kept = kept_back a cs h r (n.0.2, omega (arith, low)) fits_three.1 in
       let from_three = joined_back taker any d (branch a cs [] []) (branch a cs h []) t threes r three.pieces kept.0 three.spelled kept.1 (part_leads shades_take taker (with_kept a cs h) 3 d (λ v w p. refl) ([], []) (h, []) three.pieces three.leads) kept.2 in
       let lead_two : Leads taker any d (branch a no_child [] []) two.pieces (branch a cs [] []) =
-          subst (λ z. Leads taker any d (branch a no_child [] []) two.pieces (branch a z [] [])) (children_in-listed cs)
-          (part_leads (children_take m) taker (λ es. branch a (children_in es) [] []) 2 d (λ v w p. ap (λ es. option_map (λ es. branch a (children_in es) [] []) (children_take m d es 2 w p)) (listed-children_in v)) [] (listed cs) two.pieces two.leads) in
+      subst (λ z. Leads taker any d (branch a no_child [] []) two.pieces (branch a z [] [])) (children_in-listed cs)
+      (part_leads (children_take m) taker (λ es. branch a (children_in es) [] []) 2 d (λ v w p. ap (λ es. option_map (λ es. branch a (children_in es) [] []) (children_take m d es 2 w p)) (listed-children_in v)) [] (listed cs) two.pieces two.leads) in
       let from_two = joined_back taker any d (branch a no_child [] []) (branch a cs [] []) t twos (threes ++ r) two.pieces from_three.pieces two.spelled from_three.spelled lead_two from_three.leads in
       ap (merged_of taker d blank_node) (node_encoding_records t)
       ∙ leads_back taker d any blank_node (records_encoding (node_records t)) t
