@@ -21,21 +21,12 @@ use Rattle.buffa_map.specs.Scalars.{int32_reading, int32_writing, text_writing}
 use Rattle.buffa_fields.specs.Aside.{aside_levels}
 use Rattle.buffa_fields.specs.KeptMaps.{aside_entry_levels, first_entry_depth, put_or_keep}
 use Rattle.buffa_fields.specs.MapFields.{map_records, stepped}
-use Rattle.sample_node.proofs.NodeNormalLemmas.{entry_there, mapped}
+use Rattle.sample_node.proofs.NodeNormalLemmas.{all_before, all_behind, entry_there, mapped}
 use Rattle.sample_node.specs.Branch.{Branch, NodeKept, NodeOwn, Shades, blank_node, branch}
 use Rattle.sample_node.specs.NodeBackFacts.{NodeFits, short_below, short_encoding}
 use Rattle.sample_node.specs.NodeEncoding.{IsKept, IsNormalNode, IsNormalOwn, node_encoding, node_levels, node_levels_over, node_records}
 use Rattle.sample_node.specs.NodeFacts.{node_encoding_records, node_merged_is}
 use Rattle.sample_node.specs.NodeMeaning.{children_take, node_merged, node_takes, shade_reading, shades_take}
-
--- ---- what is taken behind others is taken
-taken_after : (P : ℕ × Datum → Type 0) (xs ys : List (ℕ × Datum)) → AllByRecursion P (xs ++ ys) → AllByRecursion P ys
-taken_after P [] ys h = h
-taken_after P (x ∷ xs) ys h = taken_after P xs ys h.1
-
-taken_before : (P : ℕ × Datum → Type 0) (xs ys : List (ℕ × Datum)) → AllByRecursion P (xs ++ ys) → AllByRecursion P xs
-taken_before P [] ys h = tt
-taken_before P (x ∷ xs) ys h = (h.0, taken_before P xs ys h.1)
 
 height_after : (xs ys : List (ℕ × Datum)) → height ys ≤ height (xs ++ ys)
 height_after [] ys = omega arith
@@ -88,10 +79,10 @@ node_low d (a, (h, r)) cs x fits n is =
     let one = map_records text_writing int32_writing 1 a in
     let two = children_records node_encoding 2 cs in
     let three = map_records int32_writing closed_writing 3 h in
-    let behind = taken_after (IsTakenBySome node_takes d) one (two ++ (three ++ r)) taken.1 in
-    let end = taken_after (IsTakenBySome node_takes d) three r (taken_after (IsTakenBySome node_takes d) two (three ++ r) behind) in
+    let behind = all_behind (IsTakenBySome node_takes d) one (two ++ (three ++ r)) taken.1 in
+    let end = all_behind (IsTakenBySome node_takes d) three r (all_behind (IsTakenBySome node_takes d) two (three ++ r) behind) in
     let high : height r ≤ d = omega (arith, taken.0, height_after one (two ++ (three ++ r)), height_after two (three ++ r), height_after three r) in
-    ((λ k low. omega (arith, low, high, kept_low d r n.0.2 end)), entries_read d cs (taken_before (IsTakenBySome node_takes d) two (three ++ r) behind))
+    ((λ k low. omega (arith, low, high, kept_low d r n.0.2 end)), entries_read d cs (all_before (IsTakenBySome node_takes d) two (three ++ r) behind))
 
 pub deep_node_is_refused : (d : ℕ) (t : Branch) → NodeFits t → IsNormalNode t → d < node_levels t → node_merged d blank_node (node_encoding t) ≡ None
 deep_node_is_refused d t fits n h = deep_is_refused blank_node node_encoding node_levels_over IsNormalOwn NodeFits node_merged short_encoding short_below node_low d t fits n h

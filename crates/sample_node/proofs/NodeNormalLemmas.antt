@@ -14,6 +14,7 @@ use Rattle.std.specs.Ordering.{int_cmp, match_ordering}
 use Rattle.std.specs.Str.{is_utf8}
 use Rattle.std.specs.declared.cmp.Ordering.{Ordering}
 use Rattle.std.specs.declared.cmp.Ordering.TheVariants.{Less, Equal, Greater}
+use Rattle.buffa_bytes.proofs.ListLemmas.{AllByRecursion-last}
 use Rattle.buffa_bytes.proofs.DelimitedLemmas.{delimited_taken}
 use Rattle.buffa_bytes.proofs.ScalarLemmas.{int32_fits}
 use Rattle.buffa_bytes.proofs.StepLemmas.{agree_ok}
@@ -58,17 +59,17 @@ use Rattle.sample_node.specs.Branch.{Branch, NodeKept, NodeOwn, Scores, Shades, 
 use Rattle.sample_node.specs.NodeEncoding.{IsKept, IsNormalNode, IsNormalOwn}
 use Rattle.sample_node.specs.NodeMeaning.{children_take, node_field_takes, node_merged, scores_take, shade_reading, shades_take, text_cmp}
 
--- ---- parts of bytes are bytes
+-- ---- what holds of a list holds of its parts
+pub all_before : {A : Type 0} (P : A → Type 0) (xs ys : List A) → AllByRecursion P (xs ++ ys) → AllByRecursion P xs
+all_before P [] ys h = tt
+all_before P (x ∷ xs) ys h = (h.0, all_before P xs ys h.1)
+
+pub all_behind : {A : Type 0} (P : A → Type 0) (xs ys : List A) → AllByRecursion P (xs ++ ys) → AllByRecursion P ys
+all_behind P [] ys h = h
+all_behind P (x ∷ xs) ys h = all_behind P xs ys h.1
+
 abbrev AreBytes : List ℕ → Type 0
 AreBytes = AllByRecursion IsByte
-
-bytes_before : (a b : List ℕ) → AreBytes (a ++ b) → AreBytes a
-bytes_before [] b h = tt
-bytes_before (x ∷ a) b h = (h.0, bytes_before a b h.1)
-
-bytes_behind : (a b : List ℕ) → AreBytes (a ++ b) → AreBytes b
-bytes_behind [] b h = h
-bytes_behind (x ∷ a) b h = bytes_behind a b h.1
 
 as_bytes : (a b : List ℕ) → a ≡ b → AreBytes a → AreBytes b
 as_bytes a b is h = subst (λ z. AreBytes z) is h
@@ -87,15 +88,15 @@ mutual
   parsed_fit no_records d b k h = tt
   parsed_fit (one n x rs) d b k (f, r, (t, p, tag, payload, is), next, all) =
       let whole = as_bytes b (f ++ r) all k in
-      let field = as_bytes f (t ++ p) is (bytes_before f r whole) in
-      (tag.0, payload_fits x d n p (bytes_behind t p field) payload, parsed_fit rs d r (bytes_behind f r whole) next)
+      let field = as_bytes f (t ++ p) is (all_before IsByte f r whole) in
+      (tag.0, payload_fits x d n p (all_behind IsByte t p field) payload, parsed_fit rs d r (all_behind IsByte f r whole) next)
 
   payload_fits : (x : Datum) (d n : ℕ) (p : List ℕ) → AreBytes p → IsPayload d n x p → FitsDatum x
   payload_fits (varint v) d n p k h = h.fits
   payload_fits (fixed32 v) d n p k h = subst (λ z. z < 2 ^ 32) (sym h.1) (four_fit p h.0 k)
   payload_fits (fixed64 v) d n p k h = subst (λ z. z < 2 ^ 64) (sym h.1) (eight_fit p h.0 k)
   payload_fits (bytes v) d n p k h = h.1.fits
-  payload_fits (group rs) d n p k (o, b, t, h, tag, is) = parsed_fit rs (d - 1) b (bytes_before b t (as_bytes p (b ++ t) is k)) h
+  payload_fits (group rs) d n p k (o, b, t, h, tag, is) = parsed_fit rs (d - 1) b (all_before IsByte b t (as_bytes p (b ++ t) is k)) h
 
 -- ---- what each payload keeps all bytes keep
 module _ {X : Type 0} (takes : Taker X) (d : ℕ) (P : X → Type 0)
@@ -107,10 +108,10 @@ module _ {X : Type 0} (takes : Taker X) (d : ℕ) (P : X → Type 0)
   along no_records b v w k parse h m = subst (λ z. P z) (same_value v w (sym (merged_of_none takes d v) ∙ ap (merged_of takes d v) (sym parse) ∙ m)) h
   along (one n x rs) b v w k (f, r, (t, p, tag, payload, is), next, all) h m =
       let whole = as_bytes b (f ++ r) all k in
-      let field = as_bytes f (t ++ p) is (bytes_before f r whole) in
+      let field = as_bytes f (t ++ p) is (all_before IsByte f r whole) in
       let split : b ≡ t ++ (p ++ r) = all ∙ ap (λ z. z ++ r) is ∙ append_assoc t p r in
       let first = first_taken takes d v w n (wire_of x) t p r tag (payload_of_record x d n p payload) (takes d v n (wire_of x) p) refl (ap (merged_of takes d v) (sym split) ∙ m) in
-      along rs r first.0 w (bytes_behind f r whole) next (keeps v first.0 n x p h tag.0 (bytes_behind t p field) payload first.1) first.2
+      along rs r first.0 w (all_behind IsByte f r whole) next (keeps v first.0 n x p h tag.0 (all_behind IsByte t p field) payload first.1) first.2
 
   all_keep : (b : List ℕ) (v w : X) → AreBytes b → P v → merged_of takes d v b ≡ Some w → P w
   all_keep b v w k h m = let rs = join_records d b (merged_of_fields takes d v w b m) in along rs.0 b v w k rs.1 h m
@@ -120,16 +121,16 @@ module _ {K V : Type 0} (key : Reading K) (val : Reading V) (d : ℕ) (Q : MapEn
     (on_key : (s : MapEntry K V) (k : K) (known : Bool) (p : List ℕ) (c : Content) → AreBytes p → HasContent key.wire p c → key.reads d s.key c ≡ Ok (k, known) → Q s → Q (record s { key = k }))
     (on_value : (s : MapEntry K V) (v : V) (known : Bool) (p : List ℕ) (c : Content) → AreBytes p → HasContent val.wire p c → val.reads d s.value c ≡ Ok (v, known) → Q s → Q (record s { value = v; known = known })) where
   part_is : (s t : MapEntry K V) (f : List ℕ) → AreBytes f → IsEntryField key val d s f t → Q s → Q t
-  part_is s t f b (inl (k, known, (tag, p, c, is_tag, l, has, reads, split), is)) h = subst (λ z. Q z) (sym is) (on_key s k known p c (bytes_behind tag p (as_bytes f (tag ++ p) split b)) has reads h)
-  part_is s t f b (inr (inl (v, known, (tag, p, c, is_tag, l, has, reads, split), is))) h = subst (λ z. Q z) (sym is) (on_value s v known p c (bytes_behind tag p (as_bytes f (tag ++ p) split b)) has reads h)
+  part_is s t f b (inl (k, known, (tag, p, c, is_tag, l, has, reads, split), is)) h = subst (λ z. Q z) (sym is) (on_key s k known p c (all_behind IsByte tag p (as_bytes f (tag ++ p) split b)) has reads h)
+  part_is s t f b (inr (inl (v, known, (tag, p, c, is_tag, l, has, reads, split), is))) h = subst (λ z. Q z) (sym is) (on_value s v known p c (all_behind IsByte tag p (as_bytes f (tag ++ p) split b)) has reads h)
   part_is s t f b (inr (inr (n, w, not_one, not_two, field, is))) h = subst (λ z. Q z) (sym is) h
 
   parts_are : (ps : List (List ℕ)) (s t : MapEntry K V) → AreBytes (join ps) → ParsesEach (IsEntryField key val d) s ps t → Q s → Q t
   parts_are [] s t b e h = subst (λ z. Q z) e h
-  parts_are (p ∷ ps) s t b (u, step, more) h = parts_are ps u t (bytes_behind p (join ps) b) more (part_is s u p (bytes_before p (join ps) b) step h)
+  parts_are (p ∷ ps) s t b (u, step, more) h = parts_are ps u t (all_behind IsByte p (join ps) b) more (part_is s u p (all_before IsByte p (join ps) b) step h)
 
   entry_is : (e : List ℕ) (s : MapEntry K V) → AreBytes e → Q (blanks key val d) → IsEntry key val d e s → Q s
-  entry_is e s b q (ps, is, m) = parts_are ps (blanks key val d) s (bytes_before (join ps) [] (as_bytes e (join ps ++ []) is b)) m q
+  entry_is e s b q (ps, is, m) = parts_are ps (blanks key val d) s (all_before IsByte (join ps) [] (as_bytes e (join ps ++ []) is b)) m q
 
 -- ---- the entry that was taken
 module _ {K V X : Type 0} (key : Reading K) (val : Reading V) (does : X → List ℕ → MapEntry K V → X) (d : ℕ) (v u : X) (n : ℕ) where
@@ -158,7 +159,7 @@ module _ {K V X : Type 0} (key : Reading K) (val : Reading V) (does : X → List
   taken_entry (group y) p b h taken = cc
   taken_entry (bytes e) p b h taken =
       let s = entry_there e p h taken in
-      (e, s.0, bytes_behind h.0 e (as_bytes p (h.0 ++ e) h.2 b), agree_ok (entry_of key val d e) s.0 (entry_sound key val d e) s.1, s.2)
+      (e, s.0, all_behind IsByte h.0 e (as_bytes p (h.0 ++ e) h.2 b), agree_ok (entry_of key val d e) s.0 (entry_sound key val d e) s.1, s.2)
 
 pub mapped : {A B : Type 0} (f : A → B) (o : Option A) (u : B) → option_map f o ≡ Some u → (x : A) × (o ≡ Some x) × (u ≡ f x)
 mapped f None u h = cc
@@ -182,10 +183,6 @@ put_normal (e ∷ es) k t a f n = by (int_cmp k e.0) (put_normal es k t a.2 f n)
     by Less i = (f, n, a)
     by Equal i = (a.0, n, a.2)
     by Greater i = (a.0, a.1, i)
-
-kept_more : (r : NodeKept) (y : ℕ × Datum) → AllByRecursion IsKept r → IsKept y → AllByRecursion IsKept (r ++ y ∷ [])
-kept_more [] y h k = (k, tt)
-kept_more (z ∷ r) y h k = (h.0, kept_more r y h.1 k)
 
 -- ---- scores
 abbrev IsScore : MapEntry (List ℕ) ℤ → Type 0
@@ -241,7 +238,7 @@ module _ (m : ChildMeaning Branch) (stays : KeepsNormal m) (d : ℕ) where
 
   content_bytes : (p : List ℕ) (c : Content) → AreBytes p → HasContent LengthDelimited p c → AreBytes (bytes_in c)
   content_bytes p (number n) b has = tt
-  content_bytes p (content v) b (t, var, is) = bytes_behind t v (as_bytes p (t ++ v) is b)
+  content_bytes p (content v) b (t, var, is) = all_behind IsByte t v (as_bytes p (t ++ v) is b)
 
   child_is : (e : List ℕ) (s : MapEntry ℤ Branch) → AreBytes e → IsEntry int32_reading (child_reading blank_node m (λ _. nothing)) d e s → IsChildEntry s
   child_is e s b h = entry_is int32_reading (child_reading blank_node m (λ _. nothing)) d IsChildEntry
@@ -276,7 +273,7 @@ module _ (m : ChildMeaning Branch) (stays : KeepsNormal m) (d : ℕ) where
     )
     with_shade n three e s entry key false is fits =
         let aside = undeclared_aside int32_reading shade_reading (refl, λ k d old c. refl) (refl, λ k d old c. refl) d e (s, entry, is) in
-        ((normal.0.0, normal.0.1, kept_more r (n, bytes e) normal.0.2 (inr (three, aside))), normal.1, normal.2)
+        ((normal.0.0, normal.0.1, AllByRecursion-last IsKept r (n, bytes e) normal.0.2 (inr (three, aside))), normal.1, normal.2)
 
     module _ (u : Branch) (n : ℕ) (x : Datum) (p : List ℕ) (some : IsNumber n) (b : AreBytes p) (payload : IsPayload d n x p) where
       score_put : option_map (λ z. branch z cs h r) (scores_take d a n (wire_of x) p) ≡ Some u → IsNormalNode u
@@ -303,7 +300,7 @@ module _ (m : ChildMeaning Branch) (stays : KeepsNormal m) (d : ℕ) where
           let o = mapped (λ z. branch a cs h z) (keep_takes d r n (wire_of x) p) u taken in
           let same : (let q : Option NodeKept = Some o.0 in q ≡ Some (r ++ (n, x) ∷ [])) = sym o.1 ∙ kept_record d n x p r payload in
           let more : o.0 ≡ r ++ (n, x) ∷ [] = cc in
-          subst (λ z. IsNormalNode z) (sym (o.2 ∙ ap (λ z. branch a cs h z) more)) ((normal.0.0, normal.0.1, kept_more r (n, x) normal.0.2 (inl (high, (some, payload_fits x d n p b payload, tt)))), normal.1, normal.2)
+          subst (λ z. IsNormalNode z) (sym (o.2 ∙ ap (λ z. branch a cs h z) more)) ((normal.0.0, normal.0.1, AllByRecursion-last IsKept r (n, x) normal.0.2 (inl (high, (some, payload_fits x d n p b payload, tt)))), normal.1, normal.2)
 
       by_number : (i j k : Bool) → (n == 1) ≡ i → (n == 2) ≡ j → (n == 3) ≡ k →
           (if i then option_map (λ z. branch z cs h r) (scores_take d a n (wire_of x) p)

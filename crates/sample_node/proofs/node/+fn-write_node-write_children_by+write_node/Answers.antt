@@ -24,8 +24,8 @@ returns-in_err-write_to g t c =
     let written = g.S.EncodeSink.written in
     let n = c.node.inside in
     let p = err_from_is_err_and c.from_residual.result c.from_residual.ensures.1 in
-    scores_stop c.args.node.now (means string_bytes (λ v. v) n.scores.entries) n.children.entries (means (λ k. k) shade_number n.shades.entries) n.rest.records c.node.view_is c.args.cache.now c.write_to.new._cache _ _
-    (written c.args.sink.now) (written c.write_to.new.sink) _ _ c.from_residual.result c.in_err-write_to.field-0.0 _ p.1 p.2 c.in_err-write_to.ensures
+    scores_stop c.args.node.now (means string_bytes (λ v. v) n.scores.entries) n.children.entries (means (λ k. k) shade_number n.shades.entries) n.rest.records c.node.view_is c.args.cache.now c.write_to.new._cache c.write_to.new._cache c.write_to.new._cache
+    (written c.args.sink.now) (written c.write_to.new.sink) (written c.write_to.new.sink) (written c.write_to.new.sink) c.from_residual.result c.in_err-write_to.field-0.0 _ p.1 p.2 c.in_err-write_to.ensures
 
 pub returns-in_err-write_children_by : goal.returns-in_err-write_children_by
 returns-in_err-write_children_by g t c =
@@ -33,8 +33,8 @@ returns-in_err-write_children_by g t c =
     let n = c.node.inside in
     let w = rw c.in_ok-write_to.was at c.write_to.ensures in
     let p = err_from_is_err_and c.from_residual-in_err-write_children_by.result c.from_residual-in_err-write_children_by.ensures.1 in
-    children_stop c.args.node.now (means string_bytes (λ v. v) n.scores.entries) n.children.entries (means (λ k. k) shade_number n.shades.entries) n.rest.records c.node.view_is c.args.cache.now c.write_to.new._cache c.write_children_by.new.cache _
-    (written c.args.sink.now) (written c.write_to.new.sink) (written c.write_children_by.new.sink) _
+    children_stop c.args.node.now (means string_bytes (λ v. v) n.scores.entries) n.children.entries (means (λ k. k) shade_number n.shades.entries) n.rest.records c.node.view_is c.args.cache.now c.write_to.new._cache c.write_children_by.new.cache c.write_children_by.new.cache
+    (written c.args.sink.now) (written c.write_to.new.sink) (written c.write_children_by.new.sink) (written c.write_children_by.new.sink)
     c.from_residual-in_err-write_children_by.result c.in_err-write_children_by.field-0.0 _ p.1 p.2 w c.in_err-write_children_by.ensures
 
 pub returns-in_err-write_to-2 : goal.returns-in_err-write_to-2
