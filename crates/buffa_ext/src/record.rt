@@ -3,6 +3,7 @@
 ghost use Rattle.std.specs.Prelude.{◌≡◌, ◌≢◌, ℕ, List, [], ◌∷◌, Option, Some, None, IfErr, IfOk, IsOk, OnErr, refl};
 ghost use Rattle.buffa_bytes.specs.declared.error.EncodeError.{EncodeError};
 ghost use Rattle.buffa_bytes.specs.declared.error.EncodeError.TheVariants.{OutOfMemory};
+ghost use Rattle.buffa_bytes.specs.declared.wire_type.WireType.{WireType};
 ghost use Rattle.buffa_bytes.specs.Gives.{FullOnlyIf};
 ghost use Rattle.buffa_wire.specs.BudgetLeft.{budget_left};
 ghost use Rattle.buffa_wire.specs.Parse.{Fits};
@@ -14,7 +15,7 @@ ghost use Rattle.buffa_ext.specs.Messages.{BeginsFieldIn, MergesOne, group_held,
 ghost use Rattle.buffa_ext.specs.MessageFacts.{group_back};
 
 use buffa_wire::{
-    DecodeContext, DecodeError, EncodeError, Message, UnknownFieldData, UnknownFields,
+    DecodeContext, DecodeError, EncodeError, Message, UnknownFieldData, UnknownFields, WireType,
 };
 use std::alloc::Global;
 
@@ -24,6 +25,15 @@ use std::alloc::Global;
 /// let found = merge_number::<K, M>(alloc, number, &fields, &mut budget, &mut message)?;
 /// ```
 pub trait MessageRecord {
+    /// The wire type of a record of this kind.
+    ///
+    /// ```ignore
+    /// const WIRE_TYPE: WireType = WireType::LengthDelimited;
+    /// ```
+    const WIRE_TYPE: WireType;
+
+    ghost WIRE_TYPE: { WireType };
+
     /// The encoding in a record of this kind.
     ghost held: { Datum → Option (List ℕ) };
 
@@ -86,6 +96,10 @@ pub trait MessageRecord {
 pub struct Delimited;
 
 impl MessageRecord for Delimited {
+    const WIRE_TYPE: WireType = WireType::LengthDelimited;
+
+    ghost WIRE_TYPE = { WireType.LengthDelimited };
+
     ghost held = { bytes_held };
 
     ghost holder = { bytes };
@@ -132,6 +146,10 @@ impl MessageRecord for Delimited {
 pub struct Grouped;
 
 impl MessageRecord for Grouped {
+    const WIRE_TYPE: WireType = WireType::StartGroup;
+
+    ghost WIRE_TYPE = { WireType.StartGroup };
+
     ghost held = { group_held };
 
     ghost holder = { group_of };

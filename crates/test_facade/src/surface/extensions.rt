@@ -50,6 +50,7 @@ fn sets_of_extensions(rt: HostRuntime) -> Result<(), Fail> {
     let mut carrier = carrier_of(rt.alloc(), &[0x38, 5])?;
     let ext = Extension::<Int32>::new(7, "test.Carrier");
     assert!(rt; carrier.extension(rt.alloc(), &ext)? == Some(5));
+    assert!(rt; carrier.read_extension(rt.alloc(), &ext)? == Some(5));
     carrier.set_extension(rt.alloc(), &ext, 6)?;
     carrier.try_set_extension(rt.alloc(), &ext, 7)?;
     assert!(rt; carrier.has_extension(&ext));
