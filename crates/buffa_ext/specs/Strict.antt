@@ -3,9 +3,9 @@
 use Rattle.std.specs.Prelude.{◌≡◌, ◌↔◌, ◌⊎◌, ℕ, List, [], ◌∷◌, ◌++◌, Option, Some, None}
 use Rattle.buffa_bytes.specs.declared.error.DecodeError.{DecodeError}
 use Rattle.buffa_bytes.specs.declared.wire_type.WireType.{WireType}
-use Rattle.buffa_codec.specs.Strict.{Faultless, TellsFault, unless_found}
+use Rattle.buffa_codec.specs.Strict.{Faultless, unless_found}
 use Rattle.buffa_ext.specs.Messages.{AreMerged, encodings_in}
-use Rattle.buffa_wire.specs.BudgetLeft.{BudgetLeft, defaults}
+use Rattle.buffa_wire.specs.BudgetLeft.{BudgetLeft}
 use Rattle.buffa_wire.specs.Message.{MergeFault}
 use Rattle.buffa_wire.specs.Records.{Datum}
 

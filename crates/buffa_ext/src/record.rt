@@ -11,7 +11,8 @@ ghost use Rattle.buffa_wire.specs.Records.{Datum, bytes, records_of};
 ghost use Rattle.buffa_wire.specs.Encoding.{records_encoding};
 ghost use Rattle.buffa_wire.specs.View.{datum_of};
 ghost use Rattle.buffa_codec.specs.Decoded.{HasByte, Refuses, bytes_held};
-ghost use Rattle.buffa_ext.specs.Messages.{BeginsFieldIn, MergesOne, group_held, group_of, group_refusal, encodings_in};
+ghost use Rattle.buffa_ext.specs.Messages.{BeginsFieldIn, MergesOne, StandsInRecord, group_held, group_of};
+ghost use Rattle.buffa_ext.specs.Messages.{group_refusal, encodings_in};
 ghost use Rattle.buffa_ext.specs.MessageFacts.{group_back};
 
 use buffa_wire::{
@@ -52,7 +53,8 @@ pub trait MessageRecord {
     /// Merges the encoding in a record of this kind, at the context's depth, and tells whether there is one.
     ///
     /// # Errors
-    /// Those of [`Message::merge`], where there is one; out of memory only where merging it may take some.
+    /// Those of [`Message::merge`], where there is one; out of memory only where merging it may take some. The message is
+    /// then as it says; where memory ran out it may be as it was.
     ///
     /// ```ignore
     /// let merged = K::merge_in(alloc, payload, &mut message, lent);
@@ -66,6 +68,8 @@ pub trait MessageRecord {
         ensures merged { MergesOne M.merged M.cost held ctx.entry (datum_of payload.now) (M.meaning message.old) result
             (M.meaning message.new) (budget_left ctx.exit) }
         ensures encoding { OnErr result (encodings_in held (datum_of payload.now ∷ []) ≢ []) }
+        ensures stands { IfErr result (λ e. StandsInRecord M.merged M.cost M.Refused held ctx.entry.depth
+            (datum_of payload.now) (M.meaning message.old) ctx.entry.budget.now e (M.meaning message.new)) }
         ensures full { FullOnlyIf result (asks ctx.entry.depth (datum_of payload.now)) };
 
     /// The record that holds an encoding.

@@ -1,5 +1,4 @@
 use Rattle.std.proofs.Common.{option_map}
-use Rattle.buffa_wire.specs.BudgetLeft.{defaults}
 use Rattle.buffa_codec.specs.Sub.{sub}
 use Rattle.buffa_ext.specs.MessageFacts.{is_full}
 use Rattle.buffa_ext.specs.StrictFacts.{strict_answer, strict_whole, told_strictly}
