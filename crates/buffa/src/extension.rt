@@ -11,6 +11,6 @@
 
 pub use buffa_ext::{
     Declared, Extension, ExtensionCodec, ExtensionSet, LastWins, Make, MessageIn, MessageRecord,
-    NoDefault, Numbered, PackableCodec, ReplayFault, SingularCodec, Step, codecs, replay,
-    set_then_read,
+    NoDefault, Numbered, PackableCodec, ReplayFault, SingularCodec, Step, StrictCodec,
+    StrictElementCodec, StrictSingularCodec, codecs, replay, set_then_read,
 };

@@ -4,3 +4,5 @@ pub mod ReplayLemmas
 pub mod MergeLemmas
 pub mod PinLemmas
 pub mod EqualStepLemmas
+pub mod StrictLemmas
+pub mod StrictPinLemmas

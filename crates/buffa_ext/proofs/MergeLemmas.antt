@@ -11,7 +11,7 @@ use Rattle.buffa_wire.specs.View.{records_in, datum_of}
 use Rattle.buffa_wire.specs.declared.unknown_fields.UnknownField.{UnknownField}
 use Rattle.buffa_codec.specs.Sub.{sub}
 use Rattle.buffa_codec.proofs.TurnLemmas.{sub-cut, sub-take_other, sub-take_same}
-use Rattle.buffa_ext.specs.Messages.{IsAllMerged, StopsAt, encodings_in}
+use Rattle.buffa_ext.specs.Messages.{IsAllMerged, StopsAt, StopsStanding, encodings_in}
 use Rattle.buffa_ext.specs.MessageFacts.{merged_more, encoding_refused}
 
 module _ (held : Datum → Option (List ℕ)) (n : ℕ) (xs : List UnknownField) (i : ℕ) (x : UnknownField) (lt : i < length xs) (e : x ≡ get_or xs i x) where
@@ -55,6 +55,22 @@ module _ (held : Datum → Option (List ℕ)) (n : ℕ) (xs : List UnknownField)
       ap (sub n) (sym whole) ∙ sub-cut n xs i x lt e same,
       (h.1, h.2),
       encoding_refused merged cost held asks (datum_of x.payload) (held (datum_of x.payload)) mid new m a err refl some full k,
+    )
+
+    -- and such stands then
+    pub stands_here : (asks : Datum → Type 0) (Standing : Datum → X → BudgetLeft → DecodeError → X → Type 0) (new : X) (a : BudgetLeft) (err : DecodeError) (all : List (ℕ × Datum)) → x.number ≡ n → records_in xs ≡ all
+        → IsAllMerged merged cost (encodings_in held (datum_of x.payload ∷ [])) mid m (Err err) new a → encodings_in held (datum_of x.payload ∷ []) ≢ [] → (err ≡ OutOfMemory → asks (datum_of x.payload))
+        → Standing (datum_of x.payload) mid m err new → StopsStanding merged cost held asks Standing (sub n all) old b err new a
+    stands_here asks Standing new a err all same whole k some full s = (
+      sub n (records_in (take i xs)),
+      datum_of x.payload,
+      sub n (records_in (drop (i + 1) xs)),
+      mid,
+      m,
+      ap (sub n) (sym whole) ∙ sub-cut n xs i x lt e same,
+      (h.1, h.2),
+      encoding_refused merged cost held asks (datum_of x.payload) (held (datum_of x.payload)) mid new m a err refl some full k,
+      s,
     )
 
 -- ---- memory

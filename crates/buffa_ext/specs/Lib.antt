@@ -5,3 +5,5 @@ pub mod Messages
 pub mod MessageFacts
 pub mod Pinned
 pub mod Names
+pub mod Strict
+pub mod StrictFacts

@@ -154,7 +154,7 @@ module _ {X : Type 0} (merged : X → List ℕ → Option X) (cost : List ℕ �
   fault_alone t mid m err (inl (inr h)) = inl (inr (omega (arith, h)))
   fault_alone t mid m err (inr h) = inr (alone (merged mid t) h.0, h.1)
 
-  fault_of_one : (t : List ℕ) (mid : X) (m : BudgetLeft) (err : DecodeError) → MergeFault (merged mid t) (cost t) m err → MergeFault (merged_all merged mid (t ∷ [])) (plus (cost t) nothing) m err
+  pub fault_of_one : (t : List ℕ) (mid : X) (m : BudgetLeft) (err : DecodeError) → MergeFault (merged mid t) (cost t) m err → MergeFault (merged_all merged mid (t ∷ [])) (plus (cost t) nothing) m err
   fault_of_one t mid m err (inl (inl h)) = inl (inl (omega (arith, h)))
   fault_of_one t mid m err (inl (inr h)) = inl (inr (omega (arith, h)))
   fault_of_one t mid m err (inr h) = inr (alone_too (merged mid t) h.0, h.1)

@@ -1,6 +1,6 @@
 -- Extensions that hold messages: the bytes of their records are merged in order.
 -- Source: the protobuf encoding guide, "Last One Wins".
-use Rattle.std.specs.Prelude.{◌≡◌, ◌≢◌, ◌↔◌, ◌≤◌, ℕ, ◌^◌, Bool, true, false, List, [], ◌∷◌, ◌++◌, ◌&&◌, nat_le, nat_lt, length, Option, Some, None, Result, Ok, Err, IfSome, IsOk, MatchResult, if◌then◌else◌}
+use Rattle.std.specs.Prelude.{◌≡◌, ◌≢◌, ◌↔◌, ◌≤◌, ℕ, ◌^◌, Bool, true, false, List, [], ◌∷◌, ◌++◌, ◌&&◌, nat_le, nat_lt, length, ◌⊎◌, Option, Some, None, Result, Ok, Err, IfSome, IsOk, MatchResult, if◌then◌else◌}
 use Rattle.std.specs.Option.{option_and_then}
 use Rattle.std.specs.List.{filter_map}
 use Rattle.buffa_bytes.specs.declared.error.DecodeError.{DecodeError}
@@ -8,7 +8,7 @@ use Rattle.buffa_bytes.specs.declared.error.DecodeError.TheVariants.{OutOfMemory
 use Rattle.buffa_bytes.specs.declared.error.EncodeError.{EncodeError}
 use Rattle.buffa_bytes.specs.declared.error.EncodeError.TheVariants.{GroupRefused, MessageTooLarge}
 use Rattle.buffa_wire.specs.BudgetLeft.{BudgetLeft, Covers, Pays, PaysAtMost, defaults, nothing, plus}
-use Rattle.buffa_wire.specs.Message.{BeginsField, MergeFault}
+use Rattle.buffa_wire.specs.Message.{BeginsField, FieldRefused, MergeFault, Stands}
 use Rattle.buffa_wire.specs.declared.context.DecodeContext.{DecodeContext}
 use Rattle.buffa_wire.specs.Parse.{Fits}
 use Rattle.buffa_wire.specs.Records.{Datum, group, records_of}
@@ -86,12 +86,24 @@ IsEncodingRefused merged cost held asks d old before e after =
     (t : List ℕ) × (held d ≡ Some t) × PaysAtMost before (cost t) after × (e ≡ OutOfMemory → asks d)
     × (e ≢ OutOfMemory → MergeFault (merged old t) (cost t) before e)
 
+-- What stands where the encoding in a record was refused, at a depth: its fields before the refused one are merged, and of that
+-- one there stands what its type says; or memory ran out before any of it was merged.
+abbrev pub StandsInRecord : {X : Type 0} → (ℕ → X → List ℕ → Option X) → (ℕ → List ℕ → BudgetLeft) → FieldRefused X → (Datum → Option (List ℕ)) → ℕ → Datum → X → BudgetLeft → DecodeError → X → Type 0
+StandsInRecord merged cost Refused held n d old before e new =
+    (t : List ℕ) × (held d ≡ Some t) × (Stands merged cost Refused n old t before e new ⊎ ((e ≡ OutOfMemory) × (new ≡ old)))
+
 -- merging records stops at one: all before it are merged and paid for, the encoding in it is refused with what they
 -- leave, and nothing is said of those behind it
 abbrev pub StopsAt : {X : Type 0} → (X → List ℕ → Option X) → (List ℕ → BudgetLeft) → (Datum → Option (List ℕ)) → (Datum → Type 0) → List Datum → X → BudgetLeft → DecodeError → BudgetLeft → Type 0
 StopsAt {X = X} merged cost held asks ds old before e after =
     (front : List Datum) × (d : Datum) × (back : List Datum) × (mid : X) × (left : BudgetLeft) × (ds ≡ front ++ d ∷ back)
     × AreMerged merged cost (encodings_in held front) old before mid left × IsEncodingRefused merged cost held asks d mid left e after
+
+-- the same, and what the value is then: Standing says it of the record, of what those before it made and left, of the error and of the value
+abbrev pub StopsStanding : {X : Type 0} → (X → List ℕ → Option X) → (List ℕ → BudgetLeft) → (Datum → Option (List ℕ)) → (Datum → Type 0) → (Datum → X → BudgetLeft → DecodeError → X → Type 0) → List Datum → X → BudgetLeft → DecodeError → X → BudgetLeft → Type 0
+StopsStanding {X = X} merged cost held asks Standing ds old before e new after =
+    (front : List Datum) × (d : Datum) × (back : List Datum) × (mid : X) × (left : BudgetLeft) × (ds ≡ front ++ d ∷ back)
+    × AreMerged merged cost (encodings_in held front) old before mid left × IsEncodingRefused merged cost held asks d mid left e after × Standing d mid left e new
 
 -- merging the encodings in records returns whether there was one; or it stops at a record
 abbrev pub MergesRecords : {X : Type 0} → (X → List ℕ → Option X) → (List ℕ → BudgetLeft) → (Datum → Option (List ℕ)) → (Datum → Type 0) → List Datum → X → BudgetLeft → Result Bool DecodeError → X → BudgetLeft → Type 0

@@ -28,6 +28,9 @@ use crate::descriptor::{Declared, Make, NoDefault};
 use crate::message::{GroupCodec, MessageCodec, MessageIn};
 use crate::record::{Delimited, Grouped, MessageRecord};
 use crate::steps::{ReplayFault, Step};
+pub use crate::strict_laws::{
+    faults_are_these, strict_messages_are_pinned, strict_values_are_pinned,
+};
 use buffa_codec::{ExtensionCodec, LastWins, Repeated, SingularCodec};
 use buffa_wire::{Message, MessageSpec};
 use std::alloc::{AllocError, Global};

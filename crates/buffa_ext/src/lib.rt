@@ -11,11 +11,13 @@ pub mod record;
 pub mod set;
 pub mod stage;
 pub mod steps;
+pub mod strict;
+pub mod strict_laws;
 
 pub use back::set_then_read;
 pub use buffa_codec::{
     BytesCodec, EnumCodec, ExtensionCodec, LastWins, Numbered, PackableCodec, PackedRepeated,
-    Repeated, SingularCodec, StringCodec,
+    Repeated, SingularCodec, StrictCodec, StrictElementCodec, StrictSingularCodec, StringCodec,
 };
 pub use descriptor::{Declared, Extension, Make, NoDefault};
 pub use message::{GroupCodec, MessageCodec, MessageIn};

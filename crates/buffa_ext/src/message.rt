@@ -1,13 +1,14 @@
 //! Codecs of messages: all records of the right kind, merged in order.
 
-ghost use Rattle.std.specs.Prelude.{◌≡◌, ◌≤◌, ℕ, [], ◌∷◌, Option, Some, None, Err, option_map, IfOk, OnErr};
+ghost use Rattle.std.specs.Prelude.{◌≡◌, ◌≤◌, ℕ, [], ◌∷◌, Option, Some, None, Err, option_map, IfErr, IfOk, OnErr};
 ghost use Rattle.std.proofs.Common.{◌∙◌};
 ghost use Rattle.buffa_bytes.specs.declared.error.DecodeError.TheVariants.{OutOfMemory};
 ghost use Rattle.buffa_wire.specs.BudgetLeft.{Covers, defaults};
 ghost use Rattle.buffa_wire.specs.Parse.{Fits};
 ghost use Rattle.buffa_wire.specs.Records.{records_of};
 ghost use Rattle.buffa_codec.specs.Sub.{sub};
-ghost use Rattle.buffa_ext.specs.Messages.{IsAnswer, LeavesOfRecord, MergesRecords, ReachesRecord, cost_all, message_of};
+ghost use Rattle.buffa_ext.specs.Messages.{IsAnswer, LeavesOfRecord, MergesRecords, ReachesRecord, StandsInRecord, StopsStanding};
+ghost use Rattle.buffa_ext.specs.Messages.{cost_all, message_of};
 ghost use Rattle.buffa_ext.specs.Messages.{encoding_refusal, encodings_in};
 ghost use Rattle.buffa_ext.specs.MessageFacts.{message_back, spent, spent_cost};
 
@@ -137,7 +138,8 @@ impl<K: MessageRecord, M: Message> SingularCodec for MessageIn<K, M> {
 ///
 /// # Errors
 /// Those of [`Message::merge`], of the first encoding that is refused: those before it are paid for, of its
-/// own cost at most all, and of those behind it nothing. The value is then some value of its type.
+/// own cost at most all, and of those behind it nothing. The message is then what those before it made, and in it what
+/// [`MessageRecord::merge_in`] leaves of that one.
 ///
 /// ```ignore
 /// let found = merge_number::<K, M>(alloc, number, &fields, &mut budget, &mut message)?;
@@ -149,8 +151,11 @@ pub fn merge_number<K: MessageRecord, M: Message>(
     budget: &mut Budget,
     message: &mut M,
 ) -> Result<bool, DecodeError>
-    ensures { MergesRecords (M.merged 100) (M.cost 100) K.held (K.asks 100) (sub number fields.now.records)
+    ensures merged { MergesRecords (M.merged 100) (M.cost 100) K.held (K.asks 100) (sub number fields.now.records)
         (M.meaning message.old) budget.old result (M.meaning message.new) budget.new }
+    ensures stands { IfErr result (λ e. StopsStanding (M.merged 100) (M.cost 100) K.held (K.asks 100)
+        (StandsInRecord M.merged M.cost M.Refused K.held 100) (sub number fields.now.records) (M.meaning message.old)
+        budget.old e (M.meaning message.new) budget.new) }
 {
     let mut found = false;
     for field in fields.iter().as_slice() {

@@ -3,6 +3,7 @@
 ghost use Rattle.std.specs.Prelude.{◌≡◌, ◌≢◌, ℕ, List, [], ◌∷◌, Option, Some, None, IfErr, IfOk, IsOk, OnErr, refl};
 ghost use Rattle.buffa_bytes.specs.declared.error.EncodeError.{EncodeError};
 ghost use Rattle.buffa_bytes.specs.declared.error.EncodeError.TheVariants.{OutOfMemory};
+ghost use Rattle.buffa_bytes.specs.declared.wire_type.WireType.{WireType};
 ghost use Rattle.buffa_bytes.specs.Gives.{FullOnlyIf};
 ghost use Rattle.buffa_wire.specs.BudgetLeft.{budget_left};
 ghost use Rattle.buffa_wire.specs.Parse.{Fits};
@@ -10,11 +11,12 @@ ghost use Rattle.buffa_wire.specs.Records.{Datum, bytes, records_of};
 ghost use Rattle.buffa_wire.specs.Encoding.{records_encoding};
 ghost use Rattle.buffa_wire.specs.View.{datum_of};
 ghost use Rattle.buffa_codec.specs.Decoded.{HasByte, Refuses, bytes_held};
-ghost use Rattle.buffa_ext.specs.Messages.{BeginsFieldIn, MergesOne, group_held, group_of, group_refusal, encodings_in};
+ghost use Rattle.buffa_ext.specs.Messages.{BeginsFieldIn, MergesOne, StandsInRecord, group_held, group_of};
+ghost use Rattle.buffa_ext.specs.Messages.{group_refusal, encodings_in};
 ghost use Rattle.buffa_ext.specs.MessageFacts.{group_back};
 
 use buffa_wire::{
-    DecodeContext, DecodeError, EncodeError, Message, UnknownFieldData, UnknownFields,
+    DecodeContext, DecodeError, EncodeError, Message, UnknownFieldData, UnknownFields, WireType,
 };
 use std::alloc::Global;
 
@@ -25,6 +27,15 @@ use std::alloc::Global;
 /// pub type GroupCodec<M> = MessageIn<Grouped, M>;
 /// ```
 pub trait MessageRecord {
+    /// The wire type of a record of this kind.
+    ///
+    /// ```ignore
+    /// const WIRE_TYPE: WireType = WireType::LengthDelimited;
+    /// ```
+    const WIRE_TYPE: WireType;
+
+    ghost WIRE_TYPE: { WireType };
+
     /// The encoding in a record of this kind.
     ghost held: { Datum → Option (List ℕ) };
 
@@ -43,7 +54,12 @@ pub trait MessageRecord {
     /// Merges the encoding in a record of this kind, at the context's depth, and returns whether there is one.
     ///
     /// # Errors
-    /// Those of [`Message::merge`], where there is one; out of memory only where merging it may take some.
+    /// Those of [`Message::merge`], where there is one; out of memory only where merging it may take some. The message is
+    /// then as it says; where memory ran out it may be as it was.
+    ///
+    /// ```ignore
+    /// let merged = K::merge_in(alloc, payload, &mut message, lent);
+    /// ```
     fn merge_in<M: Message>(
         alloc: Global,
         payload: &UnknownFieldData,
@@ -53,6 +69,8 @@ pub trait MessageRecord {
         ensures merged { MergesOne M.merged M.cost held ctx.entry (datum_of payload.now) (M.meaning message.old) result
             (M.meaning message.new) (budget_left ctx.exit) }
         ensures encoding { OnErr result (encodings_in held (datum_of payload.now ∷ []) ≢ []) }
+        ensures stands { IfErr result (λ e. StandsInRecord M.merged M.cost M.Refused held ctx.entry.depth
+            (datum_of payload.now) (M.meaning message.old) ctx.entry.budget.now e (M.meaning message.new)) }
         ensures full { FullOnlyIf result (asks ctx.entry.depth (datum_of payload.now)) };
 
     /// The record that holds an encoding.
@@ -79,6 +97,10 @@ pub trait MessageRecord {
 pub struct Delimited;
 
 impl MessageRecord for Delimited {
+    const WIRE_TYPE: WireType = WireType::LengthDelimited;
+
+    ghost WIRE_TYPE = { WireType.LengthDelimited };
+
     ghost held = { bytes_held };
 
     ghost holder = { bytes };
@@ -125,6 +147,10 @@ impl MessageRecord for Delimited {
 pub struct Grouped;
 
 impl MessageRecord for Grouped {
+    const WIRE_TYPE: WireType = WireType::StartGroup;
+
+    ghost WIRE_TYPE = { WireType.StartGroup };
+
     ghost held = { group_held };
 
     ghost holder = { group_of };

@@ -1,19 +1,20 @@
 //! The trait of messages that keep extensions; its calls change records by [`stage`](crate::stage).
 
 ghost use Rattle.std.specs.Prelude.{◌≡◌, ◌≢◌, ◌↔◌, ◌≤◌, ◌+◌, IsTrue, ℕ, List, [], length, Option, None};
-ghost use Rattle.std.specs.Prelude.{OnOk, OnErr, IfOk, IsOk};
+ghost use Rattle.std.specs.Prelude.{OnOk, OnErr, IfErr, IfOk, IsOk};
 ghost use Rattle.std.specs.Borrow.{sem, Lends};
 ghost use Rattle.buffa_wire.specs.Records.{Held};
 ghost use Rattle.buffa_wire.specs.contracts.unknown_fields.UnknownFields.{the_row as fields_row};
 ghost use Rattle.buffa_codec.specs.Sub.{sub};
 ghost use Rattle.buffa_codec.specs.Decoded.{Refuses};
+ghost use Rattle.buffa_codec.specs.Strict.{TellsFault};
 ghost use Rattle.buffa_ext.specs.Defaults.{IsDefaulted, IsRefused, ReadsNumber};
 ghost use Rattle.buffa_ext.specs.Steps.{HoldsRecord, IsCleared, IsSet};
 
 use crate::descriptor::{Declared, Extension};
 use crate::stage::{has_number, remove, replace};
-use buffa_codec::ExtensionCodec;
-use buffa_wire::{Blank, EncodeError, UnknownFields};
+use buffa_codec::{ExtensionCodec, StrictCodec};
+use buffa_wire::{Blank, DecodeError, EncodeError, UnknownFields};
 use std::alloc::{AllocError, Global};
 
 /// A message that lends its list of unknown fields, whose extensions are read and set there.
@@ -90,6 +91,30 @@ pub trait ExtensionSet {
         ensures full { OnErr result (C.asks (sub ext.now.number (fields_of self.now).records)) }
     {
         C::decode(alloc, ext.number(), self.unknown_fields())
+    }
+
+    /// What the records of the number are read as, where each of them is read: what [`ExtensionSet::extension`]
+    /// answers then. `ext` has to extend this message.
+    ///
+    /// # Errors
+    /// The fault of the first record of the number that the codec doesn't read: another wire type, a malformed payload,
+    /// or a limit of a budget; or out of memory, only where a request may be refused.
+    ///
+    /// ```ignore
+    /// let limit = options.read_extension(alloc, &ext)?; // of 38 02 and 3A 00: Err(WireTypeMismatch 7 0 2)
+    /// ```
+    final fn read_extension<C: StrictCodec, D>(
+        &self,
+        alloc: Global,
+        ext: &Extension<C, D>,
+    ) -> Result<C::Output, DecodeError>
+        requires { ext.now.extendee.now ≡ fqn }
+        ensures value { IfOk result (λ o. C.reads (sub ext.now.number (fields_of self.now).records) (C.answer o)) }
+        ensures whole { OnOk result (C.IsFaultless ext.now.number (sub ext.now.number (fields_of self.now).records)) }
+        ensures fault { IfErr result (TellsFault (C.HasFault ext.now.number
+            (sub ext.now.number (fields_of self.now).records)) (C.asks (sub ext.now.number (fields_of self.now).records))) }
+    {
+        C::decode_strictly(alloc, ext.number(), self.unknown_fields())
     }
 
     /// Drops the records of the extension's number, and puts the value's behind the others. No other record is

@@ -1,8 +1,9 @@
 //! Options by their bytes.
 
-use buffa_ext::codecs::PackedRepeated;
+use buffa_ext::codecs::{Int32, MessageCodec, PackedRepeated, Repeated, StringCodec};
 use buffa_ext::{Extension, ExtensionSet};
-use buffa_wire::UnknownFields;
+use buffa_wire::{DecodeError, UnknownFields, WireType};
+use sample_types::flat::FlatMsg;
 use sample_validator::options::{
     FieldOptions, max_length_or_default, read_choices, read_int32, read_label,
 };
@@ -123,5 +124,102 @@ fn prices_are_read_as_a_packed_list(rt: HostRuntime) -> Result<(), Fail> {
     );
     let all = options.extension(alloc, &prices)?;
     assert!(rt; all.as_slice() == [Price { cents: -3 }].as_slice());
+    Ok(())
+}
+
+// What a strict reading of `int32 min = 50011` of the bytes answers.
+fn min_of(alloc: Global, bytes: &[u8]) -> Result<Result<Option<i32>, DecodeError>, Fail> {
+    let options = options_of(alloc, bytes)?;
+    let min = Extension::<Int32>::new(50011, "google.protobuf.FieldOptions");
+    Ok(options.read_extension(alloc, &min))
+}
+
+#[test]
+fn malformed_numbers_are_read_as_faults(rt: HostRuntime) -> Result<(), Fail> {
+    let other = Err(DecodeError::WireTypeMismatch {
+        field_number: 50011,
+        expected: WireType::Varint,
+        actual: WireType::LengthDelimited,
+    });
+    let four = Err(DecodeError::WireTypeMismatch {
+        field_number: 50011,
+        expected: WireType::Varint,
+        actual: WireType::Fixed32,
+    });
+    let rows: [(&[u8], Result<Option<i32>, DecodeError>); 6] = [
+        (&[], Ok(None)),
+        (&[0x88, 0xB5, 0x18, 0x05], Ok(None)),
+        (b"\xD8\xB5\x18\x05\xD8\xB5\x18\x06", Ok(Some(6))),
+        (b"\xDA\xB5\x18\x01\x05\xD8\xB5\x18\x06", other),
+        (b"\xD8\xB5\x18\x06\xDA\xB5\x18\x01\x05", other),
+        (b"\xDD\xB5\x18\x00\x00\x00\x00\xDA\xB5\x18\x01\x05", four),
+    ];
+    for (bytes, answer) in rows {
+        assert!(rt; min_of(rt.alloc(), bytes)? == answer);
+    }
+    Ok(())
+}
+
+#[test]
+fn malformed_payloads_are_read_as_faults(rt: HostRuntime) -> Result<(), Fail> {
+    let alloc = rt.alloc();
+    let label = Extension::<StringCodec>::new(50002, "google.protobuf.FieldOptions");
+    let options = options_of(alloc, b"\x92\xB5\x18\x04name\x92\xB5\x18\x01\xFF")?;
+    match options.read_extension(alloc, &label) {
+        Ok(_) => assert!(rt; false),
+        Err(error) => assert!(rt; error == DecodeError::InvalidUtf8),
+    }
+    let choices = Extension::<Repeated<Int32>>::new(50003, "google.protobuf.FieldOptions");
+    let whole = options_of(
+        alloc,
+        &[0x98, 0xB5, 0x18, 0x01, 0x9A, 0xB5, 0x18, 0x03, 2, 0xAC, 2],
+    )?;
+    let all = whole.read_extension(alloc, &choices)?;
+    assert!(rt; all.as_slice() == [1, 2, 300].as_slice());
+    let cut = options_of(
+        alloc,
+        &[0x9A, 0xB5, 0x18, 0x02, 2, 0xAC, 0x98, 0xB5, 0x18, 0x01],
+    )?;
+    match cut.read_extension(alloc, &choices) {
+        Ok(_) => assert!(rt; false),
+        Err(error) => assert!(rt; error == DecodeError::UnexpectedEof),
+    }
+    Ok(())
+}
+
+// The fault of a strict reading of messages at number 7 of the bytes, one and as a list.
+fn faults_of(alloc: Global, bytes: &[u8]) -> Result<[Option<DecodeError>; 2], Fail> {
+    let options = options_of(alloc, bytes)?;
+    let one = Extension::<MessageCodec<FlatMsg>>::new(7, "google.protobuf.FieldOptions");
+    let all = Extension::<Repeated<MessageCodec<FlatMsg>>>::new(7, "google.protobuf.FieldOptions");
+    let first = match options.read_extension(alloc, &one) {
+        Ok(_) => None,
+        Err(error) => Some(error),
+    };
+    let listed = match options.read_extension(alloc, &all) {
+        Ok(_) => None,
+        Err(error) => Some(error),
+    };
+    Ok([first, listed])
+}
+
+#[test]
+fn malformed_messages_are_read_as_faults(rt: HostRuntime) -> Result<(), Fail> {
+    let other = Some(DecodeError::WireTypeMismatch {
+        field_number: 7,
+        expected: WireType::LengthDelimited,
+        actual: WireType::Varint,
+    });
+    let eof = Some(DecodeError::UnexpectedEof);
+    let rows: [(&[u8], Option<DecodeError>); 5] = [
+        (&[], None),
+        (&[0x3A, 0x00, 0x3A, 0x00], None),
+        (&[0x3A, 0x00, 0x38, 0x01, 0x3A, 0x01, 0x08], other),
+        (&[0x3A, 0x01, 0x08, 0x38, 0x01], eof),
+        (&[0x3A, 0x01, 0x08, 0x3A, 0x00], eof),
+    ];
+    for (bytes, fault) in rows {
+        assert!(rt; faults_of(rt.alloc(), bytes)? == [fault, fault]);
+    }
     Ok(())
 }

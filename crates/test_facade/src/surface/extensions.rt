@@ -50,6 +50,7 @@ fn sets_of_extensions(rt: HostRuntime) -> Result<(), Fail> {
     let mut labelled = labelled_of(rt.alloc(), &[0x38, 5])?;
     let ext = Extension::<Int32>::new(7, "test.Carrier");
     assert!(rt; labelled.extension(rt.alloc(), &ext)? == Some(5));
+    assert!(rt; labelled.read_extension(rt.alloc(), &ext)? == Some(5));
     labelled.set_extension(rt.alloc(), &ext, 6)?;
     labelled.try_set_extension(rt.alloc(), &ext, 7)?;
     assert!(rt; labelled.has_extension(&ext));

@@ -11,4 +11,4 @@ returns-clause-reads g c =
     let budget = c.new-budget.result in
     records_answer (g.M.MessageSpec.merged 100) (g.M.MessageSpec.cost 100) g.K.MessageRecord.held (g.K.MessageRecord.asks 100) ds (m c.blank-message.result) g.M.Blank.blank_is (m c.merge_number-merged.new.message)
     budget defaults c.merge_number-merged.new.budget c.merge_number-merged.result c.answer.result (option_map m) c.blank-message.ensures (is_full budget c.new-budget.ensures.unknown c.new-budget.ensures.memory)
-    c.merge_number-merged.ensures c.answer.ensures.answer
+    c.merge_number-merged.ensures.merged c.answer.ensures.answer

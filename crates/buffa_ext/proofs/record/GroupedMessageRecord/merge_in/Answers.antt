@@ -1,5 +1,6 @@
-use Rattle.std.proofs.Common.{sym, ap, ◌∙◌, ◌++◌, subst}
-use Rattle.buffa_wire.specs.Encoding.{records_encoding}
+use Rattle.std.proofs.Common.{refl, sym, ap, ◌∙◌, ◌++◌, inr, subst}
+use Rattle.buffa_wire.specs.Encoding.{fields_encoding, records_encoding}
+use Rattle.buffa_wire.specs.Records.{records_of}
 use Rattle.buffa_wire.specs.View.{datum_of}
 use Rattle.buffa_codec.specs.Decoded.{HasByte}
 use Rattle.buffa_ext.specs.Messages.{group_held}
@@ -11,3 +12,7 @@ returns-clause-full g c full =
     subst HasByte (sym (ap (λ d. group_held (datum_of d)) c.in-Group.is))
     (λ none. tag_has_byte c.as_slice-encoding.result.now (c.in-Err.ensures.full full)
     (c.as_slice-encoding.ensures.value ∙ c.in-Ok.ensures.writes ∙ ap (λ l. l ++ records_encoding c.in-Group.fields.records) c.new-bytes.ensures.items ∙ none))
+
+pub returns-in_default-write_to-clause-stands : goal.returns-in_default-write_to-clause-stands
+returns-in_default-write_to-clause-stands g c =
+    (fields_encoding (records_of c.in-Group.fields.records), ap (λ d. group_held (datum_of d)) c.in-Group.is, inr (refl, refl))

@@ -1,0 +1,42 @@
+use Rattle.std.proofs.Common.{true, sym, ap, ◌∙◌}
+use Rattle.buffa_wire.specs.View.{records_in}
+use Rattle.buffa_codec.specs.Strict.{TellsFault}
+use Rattle.buffa_codec.proofs.StrictLemmas.{faultless_more, faultless_other}
+use Rattle.buffa_ext.specs.Strict.{RecordFault, kind_fault}
+use Rattle.buffa_ext.proofs.MergeLemmas.{one_more, passed_over}
+use Rattle.buffa_ext.proofs.StrictLemmas.{or_true, reaches_here}
+use Rattle.buffa_ext.proofs.strict.merge_each.Goals.{then-field-number+in-Ok, else-field-number}
+use Rattle.buffa_ext.proofs.strict.merge_each.Goals as goal
+
+pub loop-field-preserved : goal.loop-field-preserved
+loop-field-preserved g c =
+    let m = g.M.Blank.meaning in
+    let kind = kind_fault g.K.MessageRecord.held g.K.MessageRecord.WIRE_TYPE c.args.number in
+    elim c.if-field-number.branch [
+      | then-field-number+in-Ok w ↦ record {
+        merged = one_more g.K.MessageRecord.held c.args.number c.as_slice-field-items.result.now c.loop-field.field-index c.field-item.result c.loop-field-test.true c.field-item.is
+            (g.M.MessageSpec.merged 100) (g.M.MessageSpec.cost 100) (m c.args.message.now) (m c.loop-field.message) c.args.budget.now c.loop-field.budget c.loop-field.found c.loop-field.invariant.merged
+            (m w.merge_one.new.message) (m c.if-field-number.message) w.merge_one.new.budget c.if-field-number.budget true c.if-field-number.found
+            w.if-field-number.true (ap m w.message-is) w.budget-is (w.found-is ∙ sym (or_true c.loop-field.found)) w.in-Ok.ensures.merged;
+        kinds = faultless_more c.args.number c.as_slice-field-items.result.now c.loop-field.field-index c.field-item.result c.loop-field-test.true c.field-item.is
+            kind w.if-field-number.true c.loop-field.invariant.kinds (sym w.in-Ok.ensures.kind);
+      }
+      | else-field-number w ↦ record {
+        merged = passed_over g.K.MessageRecord.held c.args.number c.as_slice-field-items.result.now c.loop-field.field-index c.field-item.result c.loop-field-test.true c.field-item.is
+            (g.M.MessageSpec.merged 100) (g.M.MessageSpec.cost 100) (m c.args.message.now) (m c.loop-field.message) c.args.budget.now c.loop-field.budget c.loop-field.found c.loop-field.invariant.merged
+            (m c.if-field-number.message) c.if-field-number.budget c.if-field-number.found
+            w.if-field-number.false (ap m w.message-is) w.budget-is w.found-is;
+        kinds = faultless_other c.args.number c.as_slice-field-items.result.now c.loop-field.field-index c.field-item.result c.loop-field-test.true c.field-item.is
+            kind w.if-field-number.false c.loop-field.invariant.kinds;
+      }
+    ]
+
+pub returns-in-Err-clause-fault : goal.returns-in-Err-clause-fault
+returns-in-Err-clause-fault g c =
+    let merged = g.M.MessageSpec.merged 100 in
+    let cost = g.M.MessageSpec.cost 100 in
+    reaches_here g.K.MessageRecord.held c.args.number c.as_slice-field-items.result.now c.loop-field.field-index c.field-item.result c.loop-field-test.true c.field-item.is
+    merged cost g.K.MessageRecord.WIRE_TYPE
+    (λ d mid left. TellsFault (RecordFault merged cost g.K.MessageRecord.held g.K.MessageRecord.WIRE_TYPE c.args.number d mid left) (g.K.MessageRecord.asks 100 d) c.in-Err.error)
+    (g.M.Blank.meaning c.args.message.now) (g.M.Blank.meaning c.loop-field.message) c.args.budget.now c.loop-field.budget c.loop-field.found c.args.fields.now.records
+    c.if-field-number.true (ap records_in c.as_slice-field-items.ensures.value ∙ c.iter.ensures) c.loop-field.invariant.kinds c.loop-field.invariant.merged c.in-Err.ensures.fault

@@ -1,0 +1,15 @@
+use Rattle.std.proofs.Common.{take, Ok}
+use Rattle.buffa_wire.specs.View.{records_in}
+use Rattle.buffa_codec.specs.Strict.{Faultless}
+use Rattle.buffa_codec.specs.Sub.{sub}
+use Rattle.buffa_ext.specs.Messages.{IsAllMerged, encodings_in}
+use Rattle.buffa_ext.specs.Strict.{kind_fault}
+use Rattle.buffa_ext.proofs.strict.merge_each.Given as goal
+
+-- the encodings so far are merged, and each record holds one
+abbrev pub invariant-loop-field : goal.invariant-loop-field
+invariant-loop-field g l = record {
+  merged : IsAllMerged (g.M.MessageSpec.merged 100) (g.M.MessageSpec.cost 100) (encodings_in g.K.MessageRecord.held (sub l.number (records_in (take l.field-index l.field-items))))
+      (g.M.Blank.meaning l.fn.message) l.fn.budget (Ok l.found) (g.M.Blank.meaning l.message) l.budget;
+  kinds : Faultless (kind_fault g.K.MessageRecord.held g.K.MessageRecord.WIRE_TYPE l.number) (sub l.number (records_in (take l.field-index l.field-items)));
+}

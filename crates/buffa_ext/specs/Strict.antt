@@ -1,0 +1,48 @@
+-- Strict readings of messages: a record of another kind is a fault, and so is one whose encoding isn't merged.
+-- Source: the protobuf encoding guide, "Message Structure" and "Last One Wins".
+use Rattle.std.specs.Prelude.{◌≡◌, ◌↔◌, ◌⊎◌, ℕ, List, [], ◌∷◌, ◌++◌, Option, Some, None}
+use Rattle.buffa_bytes.specs.declared.error.DecodeError.{DecodeError}
+use Rattle.buffa_bytes.specs.declared.wire_type.WireType.{WireType}
+use Rattle.buffa_codec.specs.Strict.{Faultless, unless_found}
+use Rattle.buffa_ext.specs.Messages.{AreMerged, encodings_in}
+use Rattle.buffa_wire.specs.BudgetLeft.{BudgetLeft}
+use Rattle.buffa_wire.specs.Message.{MergeFault}
+use Rattle.buffa_wire.specs.Records.{Datum}
+
+-- the fault of a record of number n that holds no encoding
+abbrev pub kind_fault : (Datum → Option (List ℕ)) → WireType → ℕ → Datum → Option DecodeError
+kind_fault held w n d = unless_found (held d) w n d
+
+module _ {X : Type 0} (merged : X → List ℕ → Option X) (cost : List ℕ → BudgetLeft) (held : Datum → Option (List ℕ)) (w : WireType) (n : ℕ) where
+  -- all records hold encodings, and these are merged into a value by a budget
+  abbrev pub AreMessages : X → BudgetLeft → List Datum → Type 0
+  AreMessages old before ds =
+      Faultless (kind_fault held w n) ds × (new : X) × (left : BudgetLeft) × AreMerged merged cost (encodings_in held ds) old before new left
+
+  -- a record holds no encoding, or its encoding isn't merged
+  abbrev pub RecordFault : Datum → X → BudgetLeft → DecodeError → Type 0
+  RecordFault d old left e = (kind_fault held w n d ≡ Some e) ⊎ ((t : List ℕ) × (held d ≡ Some t) × MergeFault (merged old t) (cost t) left e)
+
+  -- the records before one hold encodings, which are merged; and of that one such is true, by what they made and left
+  abbrev pub ReachesStrictly : (Datum → X → BudgetLeft → Type 0) → X → BudgetLeft → List Datum → Type 0
+  ReachesStrictly P old before ds =
+      (front : List Datum) × (d : Datum) × (back : List Datum) × (mid : X) × (left : BudgetLeft) × (ds ≡ front ++ d ∷ back)
+      × Faultless (kind_fault held w n) front × AreMerged merged cost (encodings_in held front) old before mid left × P d mid left
+
+  -- the first fault of records
+  abbrev pub FirstRecordFault : X → BudgetLeft → List Datum → DecodeError → Type 0
+  FirstRecordFault old before ds e = ReachesStrictly (λ d mid left. RecordFault d mid left e) old before ds
+
+-- ---- what a strict reading leaves open
+
+-- records have no fault, or a first one
+abbrev pub FaultlessOrFault : (ℕ → List Datum → Type 0) → (ℕ → List Datum → DecodeError → Type 0) → Type 0
+FaultlessOrFault faultless fault = (n : ℕ) (ds : List Datum) → faultless n ds ⊎ ((e : DecodeError) × fault n ds e)
+
+-- the first fault is one
+abbrev pub OneFault : (ℕ → List Datum → DecodeError → Type 0) → Type 0
+OneFault fault = (n : ℕ) (ds : List Datum) (e f : DecodeError) → fault n ds e → fault n ds f → e ≡ f
+
+-- records without a fault are read as no value exactly where there is none of them
+abbrev pub NoneIsAbsent : {M : Type 0} → (ℕ → List Datum → Type 0) → (List Datum → Option M → Type 0) → Type 0
+NoneIsAbsent {M = M} faultless reads = (n : ℕ) (ds : List Datum) (o : Option M) → faultless n ds → reads ds o → (o ≡ None) ↔ (ds ≡ [])
