@@ -14,3 +14,4 @@ pub mod OrderedLemmas
 pub mod PackedLemmas
 pub mod KeptMapLemmas
 pub mod KeptLawLemmas
+pub mod LevelLemmas

@@ -2,6 +2,7 @@
 -- A field of a closed enum does so with a number that isn't declared, a map of such enums with the whole entry.
 -- Source: the protobuf language guide, "Enumerations"; the protobuf encoding guide, "Maps".
 use Rattle.std.specs.Prelude.{◌≡◌, ℕ, ◌==◌, ◌≤◌, max, List, [], ◌∷◌, ◌++◌, Some, Result, Err, if◌then◌else◌}
+use Rattle.std.specs.List.{AllByRecursion}
 use Rattle.std.specs.Option.{option_map}
 use Rattle.buffa_bytes.specs.declared.wire_type.WireType.{WireType}
 use Rattle.buffa_bytes.specs.declared.error.DecodeError.{DecodeError}
@@ -12,7 +13,9 @@ use Rattle.buffa_wire.specs.Parse.{Fits, IsPayload}
 use Rattle.buffa_wire.specs.Records.{Datum, records_of}
 use Rattle.buffa_wire.specs.Encoding.{records_encoding, wire_of}
 use Rattle.buffa_wire.specs.Takes.{Asks, IsTaken, Need, ReadsBack, Stays, Taker}
+use Rattle.buffa_fields.specs.Keep.{AllNumbers}
 use Rattle.buffa_fields.specs.Layout.{Choice, Shape}
+use Rattle.buffa_fields.specs.Levels.{IsTakenWritten}
 
 -- records that a message keeps
 abbrev pub Kept : Type 0
@@ -41,13 +44,21 @@ pub record Aside (X : Type 0) : Type 1 where
   -- records are put behind those that are kept, whatever these are
   pub behind : (d : ℕ) (v : X) (kept : Kept) (n : ℕ) (w : WireType) (p : List ℕ) → takes d (v, kept) n w p ≡ option_map (kept_behind kept) (takes d (v, []) n w p)
 
+-- The records are of the member's number, and all of them are taken only at a depth of the value's levels; and what may have been
+-- put aside only at a depth of its own.
+pub record IsExactKeeping {P X : Type 0} (s : Shape P X) (a : Aside X) : Type 0 where
+  pub numbers : (k : ℕ) (v : X) → AllNumbers (λ n. n == k) (s.records k v)
+  pub least : (k d : ℕ) (v : X) → s.normal v → AllByRecursion (IsTakenWritten a.takes d) (s.records k v) → s.levels v ≤ d
+  pub aside : (k d : ℕ) (x : Datum) → a.IsAside x → IsTakenWritten a.takes d (k, x) → a.levels x ≤ d
+
 -- The value's own records read back to it, and nothing of them is put aside; what may have been put aside is so again, and
--- the value stays.
+-- the value stays. Its levels are exact, where those in it are.
 pub record ReadsBackBeside {P X : Type 0} (s : Shape P X) (a : Aside X) : Type 0 where
   pub back : (k : ℕ) → IsNumber k → (d : ℕ) (v : X) → Fits (records_of (s.records k v)) → s.normal v → s.levels v ≤ d →
       ReadsBack a.takes (λ n. n == k) d (s.blank, []) (records_encoding (s.records k v)) (v, [])
   pub again : (k d : ℕ) (v : X) (x : Datum) (p : List ℕ) → a.IsAside x → a.levels x ≤ d → IsPayload d k x p →
       a.takes d (v, []) k (wire_of x) p ≡ Some (v, (k, x) ∷ [])
+  pub exact : s.Exact → IsExactKeeping s a
 
 -- a member takes the field whose tag was read, beside these records, or tells the fault of its wire type, and then nothing has
 -- changed, and the field is unread; memory runs out only where it may be asked for; a field is refused as the member says, and

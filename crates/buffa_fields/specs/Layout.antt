@@ -19,7 +19,8 @@ use Rattle.buffa_wire.specs.RecordReading.{field_at}
 use Rattle.buffa_wire.specs.Records.{Datum, height, records_of}
 use Rattle.buffa_wire.specs.Encoding.{records_encoding, wire_of}
 use Rattle.buffa_wire.specs.Kept.{keep_need}
-use Rattle.buffa_fields.specs.Keep.{KeepTakesMemory, keep_takes}
+use Rattle.buffa_fields.specs.Keep.{AllNumbers, KeepTakesMemory, keep_takes}
+use Rattle.buffa_fields.specs.Levels.{IsTakenWritten}
 use Rattle.buffa_wire.specs.Takes.{Asks, IsTaken, Need, ReadsBack, Stays, Taker}
 
 -- What a member of a message is: what its value means, what a payload makes of it, where that may ask for memory, and
@@ -40,12 +41,20 @@ pub record Shape (P X : Type 0) : Type 1 where
   -- the sizes of the messages in it, in the order in which its passes reserve and consume them
   pub slots : X → List ℕ
   pub levels : X → ℕ
+  -- what has to be of the types of messages in it, for its levels to be exact
+  pub Exact : Type 0
   pub normal : X → Type 0
   pub stays : Stays need
 
--- The records read back to the value.
+-- The records are of the member's number, and all of them are taken only at a depth of the value's levels.
+pub record IsExactMember {P X : Type 0} (s : Shape P X) : Type 0 where
+  pub numbers : (k : ℕ) (v : X) → AllNumbers (λ n. n == k) (s.records k v)
+  pub least : (k d : ℕ) (v : X) → s.normal v → AllByRecursion (IsTakenWritten s.takes d) (s.records k v) → s.levels v ≤ d
+
+-- The records read back to the value; and its levels are exact, where those in it are.
 pub record ReadsBackTo {P X : Type 0} (s : Shape P X) : Type 0 where
   pub back : (k : ℕ) → IsNumber k → (d : ℕ) (v : X) → Fits (records_of (s.records k v)) → s.normal v → s.levels v ≤ d → ReadsBack s.takes (λ n. n == k) d s.blank (records_encoding (s.records k v)) v
+  pub exact : s.Exact → IsExactMember s
 
 -- ---- what the calls of a message's members owe
 
@@ -190,3 +199,9 @@ pub record Layout (M X : Type 0) : Type 1 where
   pub Owes : Type 0
   pub back : Owes → sound ≡ true → (d : ℕ) (v : X) → Fits (records_of (own v)) → normal v → levels v ≤ d → ReadsBack takes declares d blank (records_encoding (own v)) (bare v)
   pub again : Owes → sound ≡ true → (d : ℕ) (v : X) → normal v → levels v ≤ d → AllByRecursion (IsPutBehind takes adds d) (kept v)
+  -- where the levels of each member are exact, those of all are: their own records are of their numbers; and these, and what is kept
+  -- under their numbers, are all taken only at a depth of the levels
+  pub Exact : Type 0
+  pub numbers : Owes → Exact → (v : X) → AllNumbers declares (own v)
+  pub least : Owes → Exact → sound ≡ true → (d : ℕ) (v : X) → normal v → height (kept v) ≤ d → AllByRecursion (IsTakenWritten takes d) (own v) →
+      AllByRecursion (λ y. declares y.0 ≡ true → IsTakenWritten takes d y) (kept v) → levels v ≤ d

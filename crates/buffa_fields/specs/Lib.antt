@@ -45,3 +45,6 @@ pub mod KeptMaps
 pub mod KeptMapFacts
 pub mod EntryDepthFacts
 pub mod Pinned
+pub mod Levels
+pub mod LevelFacts
+pub mod LevelKindFacts

@@ -1,24 +1,27 @@
 -- Lists of members. A message names its members by these, one after the other.
+use Rattle.std.specs.Option.{option_map}
 use Rattle.std.specs.Prelude.{◌≡◌, ℕ, ◌==◌, ◌&&◌, ◌||◌, true, false, not, max, List, [], ◌++◌, Result, Err, refl}
 use Rattle.std.proofs.Common.{sym, ap, ◌∙◌, arith, append_assoc, append-nil}
 use Rattle.std.proofs.lemmas.Bool.{and_parts}
 use Rattle.buffa_bytes.specs.declared.error.DecodeError.{DecodeError}
+use Rattle.buffa_bytes.specs.declared.wire_type.WireType.{WireType}
 use Rattle.buffa_wire.specs.Records.{Datum, height}
 use Rattle.buffa_wire.specs.Kept.{keep_need}
 use Rattle.buffa_fields.specs.Keep.{AllNumbers, KeepTakesMemory, keep_takes}
 use Rattle.buffa_wire.proofs.KeepLemmas.{keep_stays}
 use Rattle.buffa_fields.specs.KeepFacts.{keep_again}
-use Rattle.buffa_wire.specs.Takes.{costs_nothing}
+use Rattle.buffa_wire.specs.Takes.{Taker, costs_nothing}
 use Rattle.buffa_fields.specs.Layout.{Choice, IsFieldKept, Layout, Passed, ReadsBackTo, Shape, Took, both_need, both_take, is_number, more, passes, visited}
 use Rattle.buffa_fields.specs.LayoutFacts.{field_apart, field_asks, field_taken, is_kept, kept_asks, kept_stays, is_passed, none_keep, passed_asks, more_none, seen_field}
 use Rattle.buffa_fields.specs.BackFacts.{no_pieces}
 use Rattle.buffa_fields.specs.PairFacts.{both_again, both_back, both_stay, fits_both, sound_parts}
-use Rattle.buffa_fields.specs.Aside.{AllAside, Aside, ReadsBackBeside, TookBeside, aside_levels, beside_take}
+use Rattle.buffa_fields.specs.Aside.{AllAside, Aside, Kept, ReadsBackBeside, TookBeside, aside_levels, beside_take, kept_among}
 use Rattle.buffa_fields.specs.AsideFacts.{beside_again, beside_back, kept_field_apart, kept_field_asks, kept_field_taken}
+use Rattle.buffa_fields.specs.LevelFacts.{aside_low, both_numbers, first_one, firsts, others_low}
 
 -- a member under a number, and the others
 abbrev pub field : {M P A B : Type 0} → ℕ → (M → P) → Shape P A → Layout M B → Layout M (A × B)
-field k get s l = record {
+field {M} {P} {A} {B} k get s l = record {
   meaning = λ m. (s.meaning (get m), l.meaning m);
   blank = (s.blank, l.blank);
   takes = both_take k s.takes l.takes;
@@ -66,11 +69,20 @@ field k get s l = record {
   again = λ owes ok d v normal low.
       let sound = sound_parts k (l.declares k) (s.whole && l.sound) ok in
       both_again k s.takes l.takes l.adds d (l.kept v.1) normal.2 (l.again owes.1 (and_parts s.whole l.sound sound.2).1 d v.1 normal.1 (omega (arith, low)));
+  Exact = s.Exact × l.Exact;
+  numbers = λ owes exact v. both_numbers k l.declares (s.records k v.0) (l.own v.1) ((owes.0.exact exact.0).numbers k v.0) (l.numbers owes.1 exact.1 v.1);
+  least = λ owes exact ok d v normal high own kept.
+      let sound = sound_parts k (l.declares k) (s.whole && l.sound) ok in
+      let one = owes.0.exact exact.0 in
+      let all : Taker (A × B) = both_take k s.takes l.takes in
+      let first = one.least k d v.0 normal.0 (firsts k all s.takes (λ a. a) d (λ v n w p is. (λ x. (x, v.1), rw is refl)) (s.records k v.0) (l.own v.1) (one.numbers k v.0) own) in
+      let others = others_low k all l owes.1 exact.1 sound.1 (λ d v n w p off. rw off refl) d (s.records k v.0) v.1 (and_parts s.whole l.sound sound.2).1 normal.1 high own kept in
+      omega (arith, first, others);
 }
 
 -- the same of a member that puts aside what it doesn't understand, among the fields that are kept
 abbrev pub field_kept : {M P A B : Type 0} → ℕ → (M → P) → Shape P A → Aside A → Layout M B → Layout M (A × B)
-field_kept k get s a l = record {
+field_kept {M} {P} {A} {B} k get s a l = record {
   meaning = λ m. (s.meaning (get m), l.meaning m);
   blank = (s.blank, l.blank);
   takes = beside_take k a.takes l.adds l.takes;
@@ -122,6 +134,18 @@ field_kept k get s a l = record {
   again = λ owes ok d v normal low.
       let sound = sound_parts k (l.declares k) (l.keeps && l.sound) ok in
       beside_again a k l.adds l.takes s owes.0 d (l.kept v.1) normal.2 (omega (arith, low)) (l.again owes.1 (and_parts l.keeps l.sound sound.2).1 d v.1 normal.1 (omega (arith, low)));
+  Exact = s.Exact × l.Exact;
+  numbers = λ owes exact v. both_numbers k l.declares (s.records k v.0) (l.own v.1) ((owes.0.exact exact.0).numbers k v.0) (l.numbers owes.1 exact.1 v.1);
+  least = λ owes exact ok d v normal high own kept.
+      let sound = sound_parts k (l.declares k) (l.keeps && l.sound) ok in
+      let one = owes.0.exact exact.0 in
+      let all : Taker (A × B) = beside_take k a.takes l.adds l.takes in
+      let held : A → A × Kept = λ x. (x, []) in
+      let mine : (v : A × B) (n : ℕ) (w : WireType) (p : List ℕ) → (n == k) ≡ true → (set : A × Kept → A × B) × (all d v n w p ≡ option_map set (a.takes d (held v.0) n w p)) = λ v n w p is. (kept_among l.adds v.1, rw is refl) in
+      let first = one.least k d v.0 normal.0 (firsts k all a.takes held d mine (s.records k v.0) (l.own v.1) (one.numbers k v.0) own) in
+      let others = others_low k all l owes.1 exact.1 sound.1 (λ d v n w p off. rw off refl) d (s.records k v.0) v.1 (and_parts l.keeps l.sound sound.2).1 normal.1 high own kept in
+      let beside = aside_low k s a l.adds l.declares all one d (first_one k all a.takes held d mine) (l.kept v.1) normal.2 kept in
+      omega (arith, first, others, beside);
 }
 
 -- fields that aren't declared are kept
@@ -165,6 +189,9 @@ keep get = record {
   Owes = Unit {0};
   back = λ _ _ d v fits h low. no_pieces keep_takes (λ n. false) d [];
   again = λ _ _ d v h low. keep_again d v;
+  Exact = Unit {0};
+  numbers = λ _ _ v. tt;
+  least = λ _ _ _ d v normal high own kept. high;
 }
 
 -- fields that aren't declared are passed over
@@ -208,4 +235,7 @@ skip = record {
   Owes = Unit {0};
   back = λ _ _ d v f h low. no_pieces passes (λ n. false) d v;
   again = λ _ _ d v h low. tt;
+  Exact = Unit {0};
+  numbers = λ _ _ v. tt;
+  least = λ _ _ _ d v normal high own kept. omega arith;
 }

@@ -58,3 +58,9 @@ PutsAside {X = X} a takes asks need refuses IsAside levels =
     × ((d : ℕ) (old : X) (n : ℕ) (w : WireType) (bs : List ℕ) (e : DecodeError) (new : X) → a.refuses d old n w bs e new ↔ refuses d old n w bs e new)
     × ((x : Datum) → a.IsAside x ↔ IsAside x)
     × (a.levels ≡ levels)
+
+-- a field of this number, taken or refused, leaves this part of a message as it is, and not only what it means
+abbrev pub LeavesAlone : {M Q : Type 0} → FieldTaken M → ℕ → (M → Q) → Type 0
+LeavesAlone {M = M} taken k part =
+    (d : ℕ) (old : M) (w : WireType) (bs : List ℕ) (before : BudgetLeft) (r : Result (Unit {0}) DecodeError) (new : M) (after : BudgetLeft) (rest : List ℕ) →
+    taken d old k w bs before r new after rest → part new ≡ part old

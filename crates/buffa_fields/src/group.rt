@@ -17,6 +17,8 @@ ghost use Rattle.buffa_wire.proofs.ByPayloadLemmas.{by_payload, merged_fields};
 ghost use Rattle.buffa_fields.specs.Nested.{message_levels, message_slots};
 ghost use Rattle.buffa_fields.specs.Refusals.{RefusesTaggedField, RefusesGroup, RefusesInGroup};
 ghost use Rattle.buffa_fields.specs.Values.{IfThere};
+ghost use Rattle.buffa_fields.specs.LevelKindFacts.{group_member_low, group_numbers};
+ghost use Rattle.buffa_fields.specs.Levels.{AreExactLevels};
 
 use crate::member::Member;
 use buffa_wire::{
@@ -173,6 +175,7 @@ impl<N: Message> Member for Group<N> {
       records = group_records N.records;
       slots = message_slots N.encoding N.slots;
       levels = message_levels N.levels;
+      Exact = AreExactLevels N.merged N.encoding N.records N.normal N.levels;
       normal = λ v. IfThere N.normal v;
       stays = group_stays N.cost;
     } };
@@ -225,5 +228,10 @@ impl<N: Message> Member for Group<N> {
           N.MessageSpec.encoding_records
           (merged_fields (by_payload N.MessageSpec.stays N.MessageSpec.merged_is N.MessageSpec.cost_is))
           N.MessageSpec.merged_encoding n number d v fits normal low;
+      exact = λ exact. record {
+        numbers = group_numbers N.records;
+        least = group_member_low N.merged N.blank_is N.encoding N.records N.normal N.levels exact
+            N.MessageSpec.encoding_records;
+      };
     } };
 }

@@ -11,6 +11,7 @@ ghost use Rattle.buffa_fields.specs.KeptMaps.{IsAsideEntry, KeptPairTakesMemory,
 ghost use Rattle.buffa_fields.specs.KeptMapFacts.{kept_map_back, kept_pair_again, kept_pair_behind, kept_pair_stays};
 ghost use Rattle.buffa_fields.specs.MapFacts.{distinct_put};
 ghost use Rattle.buffa_fields.specs.MapFields.{entry_records};
+ghost use Rattle.buffa_fields.specs.LevelKindFacts.{exact_flat_keeping, kept_pair_low, entry_numbers};
 
 use crate::keeping::Keeping;
 use crate::map_member::MapOf;
@@ -109,5 +110,7 @@ where
           (λ v h. plain_back VC.reading VC.writing d v VC.MapCodec.plain (VC.MapCodec.reads_back d VC.reading.blank v h.0 h.1))
           n number l fits normal.0 (distinct_put KC.Value.same KC.Value.MapKey.equivalence l normal.1));
       again = λ k d v x p aside low payload. kept_pair_again KC.reading VC.reading (put KC.Value.same) k d v x p aside low payload;
+      exact = λ _. exact_flat_keeping _ _ (entry_numbers KC.writing VC.writing) (λ v i. 0)
+          (kept_pair_low KC.reading VC.reading (put KC.Value.same));
     } };
 }

@@ -9,6 +9,7 @@ ghost use Rattle.buffa_wire.specs.Enums.{numbers};
 ghost use Rattle.buffa_fields.specs.KeptNumbers.{IsAsideNumber, KeptNumberTakesMemory, RefusesKeptNumber, TakesKeptNumber, kept_number_cost, kept_number_taken};
 ghost use Rattle.buffa_fields.specs.KeptNumberFacts.{kept_number_again, kept_number_back, kept_number_behind, kept_number_stays};
 ghost use Rattle.buffa_fields.specs.MemberRecords.{optional_records};
+ghost use Rattle.buffa_fields.specs.LevelKindFacts.{exact_numbers, optional_numbers};
 
 use crate::keeping::Keeping;
 use crate::kept;
@@ -84,5 +85,6 @@ impl<E: Enumeration> Keeping for Optional<ClosedEnum<E>> {
     ghost kept_back = { record {
       back = λ k number d v fits normal low. unfold optional_records in (kept_number_back (numbers E.of_number E.blank_is) k number d v normal);
       again = kept_number_again (numbers E.of_number E.blank_is);
+      exact = λ _. exact_numbers _ _ (optional_numbers _) (λ v i. 0) (λ x i. 0);
     } };
 }

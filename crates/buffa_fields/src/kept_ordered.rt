@@ -12,6 +12,7 @@ ghost use Rattle.buffa_fields.specs.KeptMaps.{IsAsideEntry, KeptPairTakesMemory,
 ghost use Rattle.buffa_fields.specs.KeptMapFacts.{kept_map_back, kept_pair_again, kept_pair_behind, kept_pair_stays};
 ghost use Rattle.buffa_fields.specs.MapFields.{entry_records};
 ghost use Rattle.buffa_fields.specs.OrderedFacts.{ascending_put};
+ghost use Rattle.buffa_fields.specs.LevelKindFacts.{exact_flat_keeping, kept_pair_low, entry_numbers};
 
 use crate::keeping::Keeping;
 use crate::ordered_key::OrderedKey;
@@ -112,5 +113,7 @@ where
           (λ v h. plain_back VC.reading VC.writing d v VC.MapCodec.plain (VC.MapCodec.reads_back d VC.reading.blank v h.0 h.1))
           n number l fits normal.0 (ascending_put KC.Value.OrderedKey.total l normal.1));
       again = λ k d v x p aside low payload. kept_pair_again KC.reading VC.reading (insert_entry KC.Value.order) k d v x p aside low payload;
+      exact = λ _. exact_flat_keeping _ _ (entry_numbers KC.writing VC.writing) (λ v i. 0)
+          (kept_pair_low KC.reading VC.reading (insert_entry KC.Value.order));
     } };
 }

@@ -41,12 +41,16 @@ ghost use Rattle.buffa_fields.specs.RepeatedGroups.{GroupsTakeMemory, groups_cos
 ghost use Rattle.buffa_fields.specs.Refusals.{RefusesAs, RefusesElements, RefusesGroup, RefusesMessage, RefusesNew, RefusesPair};
 ghost use Rattle.buffa_fields.specs.MemberRecords.{optional_records, plain_records};
 ghost use Rattle.buffa_wire.specs.Takes.{cost_of, merged_of};
-ghost use Rattle.buffa_fields.specs.Pinned.{AmongKept, CostsEach, GoesAside, KeepingOrOthers, MemberOrOthers, PassedOver, PutsAside, TakeAlike};
+ghost use Rattle.buffa_fields.specs.Pinned.{AmongKept, CostsEach, GoesAside, KeepingOrOthers, LeavesAlone, MemberOrOthers, PassedOver, PutsAside, TakeAlike};
 ghost use Rattle.buffa_fields.specs.Values.{IfThere, RefusesAlone, ValueTakesMemory, free, some_taken, value_taken};
 
 use crate::fields::Fields;
 use crate::group::Group;
 use crate::keeping::Keeping;
+pub use crate::level_laws::{
+    levels_of_fields_are_exact, messages_in_lists_are_these, messages_in_members_are_these,
+    values_have_no_messages,
+};
 use crate::map_member::MapOf;
 use crate::map_nested::MapOfNested;
 use crate::member::Member;
@@ -485,8 +489,9 @@ pub fn kept_records_are_these<M: Fields, N: Keeping>()
 {}
 
 /// A member that puts records aside, in front of others that keep fields: it takes the fields of its number, and what it
-/// puts aside comes behind the records that are kept, whatever these are. All else is as with any other member.
-pub fn keeping_members_are_these<M: Fields, N: Keeping>()
+/// puts aside comes behind the records that are kept, whatever these are. Such a field leaves each other member as it is,
+/// and not only what it means. All else is as with any other member.
+pub fn keeping_members_are_these<M: Fields, N: Keeping, O: Member>()
     ensures meaning { (k : ℕ) (get : M → N.Part) (m : M) →
         (field_kept k get N.shape N.aside M.layout).meaning m ≡ (N.shape.meaning (get m), M.layout.meaning m) }
     ensures blank { (k : ℕ) (get : M → N.Part) →
@@ -520,6 +525,8 @@ pub fn keeping_members_are_these<M: Fields, N: Keeping>()
         ↔ ((get b ≡ get a) × M.layout.Same a b) }
     ensures same_but { (k : ℕ) (get : M → N.Part) (a b : M) → (field_kept k get N.shape N.aside M.layout).SameBut a b
         ↔ ((get b ≡ get a) × M.layout.SameBut a b) }
+    ensures others { (k j : ℕ) (get : M → N.Part) (other : M → O.Part) →
+        LeavesAlone (field_kept k get N.shape N.aside (field j other O.shape M.layout)).Taken k other }
 {}
 
 /// A message of its members: the member of its number takes a field, and merging costs what the fields cost. It is

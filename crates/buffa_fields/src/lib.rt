@@ -10,6 +10,7 @@ pub mod kept_map;
 pub mod kept_number;
 pub mod kept_ordered;
 pub mod laws;
+pub mod level_laws;
 mod list;
 mod map;
 pub mod map_member;

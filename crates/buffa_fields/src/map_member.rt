@@ -12,6 +12,7 @@ ghost use Rattle.buffa_map.specs.Encoding.{AllHold};
 ghost use Rattle.buffa_fields.specs.MapFields.{PairTakesMemory, pair_cost, pair_taken, entry_records};
 ghost use Rattle.buffa_fields.specs.MapFacts.{distinct_put, map_back, map_stays};
 ghost use Rattle.buffa_fields.specs.Refusals.{RefusesPair};
+ghost use Rattle.buffa_fields.specs.LevelKindFacts.{exact_flat, entry_numbers};
 
 use crate::map::{map_len, take_entry, write_map};
 use crate::meaning::And;
@@ -54,6 +55,7 @@ where
       records = entry_records KC.writing VC.writing;
       slots = λ _. [];
       levels = λ _. 0;
+      Exact = Unit {0};
       normal = λ l. AllHold (λ k. KC.fits k × KC.normal k) (λ v. VC.fits v × VC.normal v) l
           × IsDistinct KC.Value.same (keys_of l);
       stays = map_stays KC.reading VC.reading (KC.COST + VC.COST);
@@ -96,5 +98,6 @@ where
           (λ v h. plain_back KC.reading KC.writing d v KC.MapCodec.plain (KC.MapCodec.reads_back d KC.reading.blank v h.0 h.1))
           (λ v h. plain_back VC.reading VC.writing d v VC.MapCodec.plain (VC.MapCodec.reads_back d VC.reading.blank v h.0 h.1))
           n number l fits normal.0 (distinct_put KC.Value.same KC.Value.MapKey.equivalence l normal.1));
+      exact = λ _. exact_flat _ (entry_numbers KC.writing VC.writing) (λ v i. 0);
     } };
 }

@@ -19,6 +19,8 @@ ghost use Rattle.buffa_fields.specs.Nested.{FitsInside};
 ghost use Rattle.buffa_fields.specs.NestedMapFacts.{pairs_back};
 ghost use Rattle.buffa_fields.specs.NestedMaps.{pair_levels, pair_records, pair_slots};
 ghost use Rattle.buffa_fields.specs.Refusals.{RefusesPair};
+ghost use Rattle.buffa_fields.specs.LevelKindFacts.{pairs_low, pair_numbers};
+ghost use Rattle.buffa_fields.specs.Levels.{AreExactLevels};
 
 use crate::map::take_entry;
 use crate::meaning::And;
@@ -105,6 +107,7 @@ where
       records = pair_records KC.writing N.encoding;
       slots = pair_slots N.encoding N.slots;
       levels = pair_levels N.levels;
+      Exact = AreExactLevels N.merged N.encoding N.records N.normal N.levels;
       normal = λ l. AllHold (λ k. KC.fits k × KC.normal k) (FitsInside N.normal N.records) l
           × IsDistinct KC.Value.same (keys_of l);
       stays = map_stays KC.reading (message_reading N.blank_is N.merged N.cost) (KC.COST + N.COST);
@@ -146,5 +149,12 @@ where
           (λ k. KC.fits k × KC.normal k)
           (λ d v h. plain_back KC.reading KC.writing d v KC.MapCodec.plain (KC.MapCodec.reads_back d KC.reading.blank v h.0 h.1))
           n number d l fits normal.0 (distinct_put KC.Value.same KC.Value.MapKey.equivalence l normal.1) low;
+      exact = λ exact. record {
+        numbers = pair_numbers KC.writing N.encoding;
+        least = λ k d v normal taken. pairs_low KC.reading KC.writing
+            (KC.MapCodec.written_wire ∙ sym KC.MapValueDecode.wire) (λ x. KC.fits x × KC.normal x)
+            (λ d v h. plain_back KC.reading KC.writing d v KC.MapCodec.plain (KC.MapCodec.reads_back d KC.reading.blank v h.0 h.1))
+            N.merged N.blank_is N.cost N.encoding N.records N.normal N.levels exact (put KC.Value.same) k d v normal.0 taken;
+      };
     } };
 }

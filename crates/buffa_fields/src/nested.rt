@@ -16,6 +16,8 @@ ghost use Rattle.buffa_fields.specs.Nested.{FitsInside, MessageTakesMemory, mess
 ghost use Rattle.buffa_fields.specs.NestedFacts.{TellsLength, head, nested_back, message_stays};
 ghost use Rattle.buffa_fields.specs.Refusals.{RefusesTaggedField, RefusesInside, RefusesMessage};
 ghost use Rattle.buffa_fields.specs.Values.{IfThere};
+ghost use Rattle.buffa_fields.specs.LevelKindFacts.{message_numbers, nested_low};
+ghost use Rattle.buffa_fields.specs.Levels.{AreExactLevels};
 
 use crate::member::Member;
 use buffa_wire::{
@@ -142,6 +144,7 @@ impl<N: Message> Member for Nested<N> {
       records = message_records N.encoding;
       slots = message_slots N.encoding N.slots;
       levels = message_levels N.levels;
+      Exact = AreExactLevels N.merged N.encoding N.records N.normal N.levels;
       normal = λ v. IfThere (FitsInside N.normal N.records) v;
       stays = message_stays N.cost;
     } };
@@ -193,5 +196,9 @@ impl<N: Message> Member for Nested<N> {
       back = λ n number d v fits normal low. nested_back N.merged N.blank_is N.encoding N.levels
           (FitsInside N.normal N.records)
           (λ d v ok low. N.MessageSpec.merged_encoding d v ok.1 ok.0 low) n number d v fits normal low;
+      exact = λ exact. record {
+        numbers = message_numbers N.encoding;
+        least = nested_low N.merged N.blank_is N.encoding N.records N.normal N.levels exact;
+      };
     } };
 }

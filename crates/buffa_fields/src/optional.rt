@@ -6,6 +6,7 @@ ghost use Rattle.buffa_bytes.specs.Front.{check_wire};
 ghost use Rattle.buffa_fields.specs.Values.{IfThere, RefusesAlone, ValueTakesMemory, free, some_taken};
 ghost use Rattle.buffa_fields.specs.ValueFacts.{some_back};
 ghost use Rattle.buffa_fields.specs.MemberRecords.{optional_records};
+ghost use Rattle.buffa_fields.specs.LevelKindFacts.{exact_flat, optional_numbers};
 
 use crate::member::Member;
 use crate::proto_type::ProtoType;
@@ -40,6 +41,7 @@ impl<C: ProtoType> Member for Optional<C> {
       records = optional_records C.datum;
       slots = λ _. [];
       levels = λ _. 0;
+      Exact = Unit {0};
       normal = λ v. IfThere (λ x. C.fits x × C.normal x) v;
       stays = λ d n w p x h. refl;
     } };
@@ -93,5 +95,6 @@ impl<C: ProtoType> Member for Optional<C> {
       back = λ k number d v fits normal low. unfold optional_records in (some_back C.reading C.writing C.datum k number d
           C.MapCodec.plain C.WIRE_TYPE C.MapValueDecode.wire C.MapCodec.written_wire C.fits C.normal C.MapCodec.reads_back
           C.ProtoType.datum_encoding v normal);
+      exact = λ _. exact_flat _ (optional_numbers C.datum) (λ v i. 0);
     } };
 }

@@ -16,6 +16,7 @@ ghost use Rattle.buffa_fields.specs.MapFacts.{map_back, map_stays};
 ghost use Rattle.buffa_fields.specs.OrderedFacts.{ascending_put};
 ghost use Rattle.buffa_fields.specs.OrderedMaps.{KeysAscend};
 ghost use Rattle.buffa_fields.specs.Refusals.{RefusesPair, RefusesPairIn};
+ghost use Rattle.buffa_fields.specs.LevelKindFacts.{exact_flat, entry_numbers};
 
 use crate::map::{map_len, write_map};
 use crate::meaning::And;
@@ -96,6 +97,7 @@ where
       records = entry_records KC.writing VC.writing;
       slots = λ _. [];
       levels = λ _. 0;
+      Exact = Unit {0};
       normal = λ l. AllHold (λ k. KC.fits k × KC.normal k) (λ v. VC.fits v × VC.normal v) l
           × KeysAscend KC.Value.order l;
       stays = map_stays KC.reading VC.reading (KC.COST + VC.COST);
@@ -138,5 +140,6 @@ where
           (λ v h. plain_back KC.reading KC.writing d v KC.MapCodec.plain (KC.MapCodec.reads_back d KC.reading.blank v h.0 h.1))
           (λ v h. plain_back VC.reading VC.writing d v VC.MapCodec.plain (VC.MapCodec.reads_back d VC.reading.blank v h.0 h.1))
           n number l fits normal.0 (ascending_put KC.Value.OrderedKey.total l normal.1));
+      exact = λ _. exact_flat _ (entry_numbers KC.writing VC.writing) (λ v i. 0);
     } };
 }

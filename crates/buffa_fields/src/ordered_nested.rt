@@ -17,6 +17,8 @@ ghost use Rattle.buffa_fields.specs.NestedMaps.{pair_levels, pair_records, pair_
 ghost use Rattle.buffa_fields.specs.OrderedFacts.{ascending_put};
 ghost use Rattle.buffa_fields.specs.OrderedMaps.{KeysAscend};
 ghost use Rattle.buffa_fields.specs.Refusals.{RefusesPair};
+ghost use Rattle.buffa_fields.specs.LevelKindFacts.{pairs_low, pair_numbers};
+ghost use Rattle.buffa_fields.specs.Levels.{AreExactLevels};
 
 use crate::map_nested::{pairs_len, write_pairs};
 use crate::meaning::And;
@@ -62,6 +64,7 @@ where
       records = pair_records KC.writing N.encoding;
       slots = pair_slots N.encoding N.slots;
       levels = pair_levels N.levels;
+      Exact = AreExactLevels N.merged N.encoding N.records N.normal N.levels;
       normal = λ l. AllHold (λ k. KC.fits k × KC.normal k) (FitsInside N.normal N.records) l
           × KeysAscend KC.Value.order l;
       stays = map_stays KC.reading (message_reading N.blank_is N.merged N.cost) (KC.COST + N.COST);
@@ -103,5 +106,12 @@ where
           (λ k. KC.fits k × KC.normal k)
           (λ d v h. plain_back KC.reading KC.writing d v KC.MapCodec.plain (KC.MapCodec.reads_back d KC.reading.blank v h.0 h.1))
           n number d l fits normal.0 (ascending_put KC.Value.OrderedKey.total l normal.1) low;
+      exact = λ exact. record {
+        numbers = pair_numbers KC.writing N.encoding;
+        least = λ k d v normal taken. pairs_low KC.reading KC.writing
+            (KC.MapCodec.written_wire ∙ sym KC.MapValueDecode.wire) (λ x. KC.fits x × KC.normal x)
+            (λ d v h. plain_back KC.reading KC.writing d v KC.MapCodec.plain (KC.MapCodec.reads_back d KC.reading.blank v h.0 h.1))
+            N.merged N.blank_is N.cost N.encoding N.records N.normal N.levels exact (insert_entry KC.Value.order) k d v normal.0 taken;
+      };
     } };
 }

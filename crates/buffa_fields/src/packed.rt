@@ -13,6 +13,7 @@ ghost use Rattle.buffa_fields.specs.Lists.{ElementsTakeMemory, check_list_wire, 
 ghost use Rattle.buffa_fields.specs.ListFacts.{packed_field_back};
 ghost use Rattle.buffa_fields.specs.Refusals.{RefusesElements};
 ghost use Rattle.buffa_fields.specs.Values.{free};
+ghost use Rattle.buffa_fields.specs.LevelKindFacts.{exact_flat, packed_numbers};
 
 use crate::list::take_elements;
 use crate::member::Member;
@@ -176,6 +177,7 @@ impl<C: Packable> Member for Packed<C> {
       records = packed_records C.writing.encoding;
       slots = λ _. [];
       levels = λ _. 0;
+      Exact = Unit {0};
       normal = λ vs. AllByRecursion (λ v. C.fits v × C.normal v) vs;
       stays = λ d n w p x h. refl;
     } };
@@ -209,5 +211,6 @@ impl<C: Packable> Member for Packed<C> {
       back = λ k number d v fits normal low. packed_field_back C.reading C.writing C.datum k number d C.MapCodec.plain
           C.WIRE_TYPE C.MapValueDecode.wire C.MapCodec.written_wire C.fits C.normal
           C.MapCodec.reads_back C.ProtoType.datum_encoding C.Packable.apart v fits normal;
+      exact = λ _. exact_flat _ (packed_numbers C.writing.encoding) (λ v i. 0);
     } };
 }

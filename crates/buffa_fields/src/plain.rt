@@ -5,6 +5,7 @@ ghost use Rattle.buffa_bytes.specs.Front.{check_wire};
 ghost use Rattle.buffa_fields.specs.Values.{RefusesAlone, ValueTakesMemory, free, value_taken};
 ghost use Rattle.buffa_fields.specs.ValueFacts.{plain_back};
 ghost use Rattle.buffa_fields.specs.MemberRecords.{plain_records};
+ghost use Rattle.buffa_fields.specs.LevelKindFacts.{exact_flat, plain_numbers};
 
 use crate::member::Member;
 use crate::proto_type::ProtoType;
@@ -39,6 +40,7 @@ impl<C: ProtoType> Member for Plain<C> {
       records = plain_records C.is_blank C.datum;
       slots = λ _. [];
       levels = λ _. 0;
+      Exact = Unit {0};
       normal = λ v. C.fits v × C.normal v;
       stays = λ d n w p x h. refl;
     } };
@@ -84,5 +86,6 @@ impl<C: ProtoType> Member for Plain<C> {
       back = λ k number d v fits normal low. unfold plain_records in (plain_back C.reading C.writing C.datum k number d
           C.MapCodec.plain C.WIRE_TYPE C.MapValueDecode.wire C.MapCodec.written_wire C.fits C.normal C.MapCodec.reads_back
           C.ProtoType.datum_encoding C.Value.blank_is C.is_blank C.ProtoType.blank_only v normal.0 normal.1);
+      exact = λ _. exact_flat _ (plain_numbers C.is_blank C.datum) (λ v i. 0);
     } };
 }

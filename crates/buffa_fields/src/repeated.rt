@@ -6,6 +6,7 @@ ghost use Rattle.buffa_fields.specs.Lists.{ElementsTakeMemory, check_list_wire, 
 ghost use Rattle.buffa_fields.specs.ListFacts.{elements_back};
 ghost use Rattle.buffa_fields.specs.Refusals.{RefusesElements};
 ghost use Rattle.buffa_fields.specs.Values.{free};
+ghost use Rattle.buffa_fields.specs.LevelKindFacts.{element_numbers, exact_flat};
 
 use crate::list::{elements_len, take_elements, write_elements};
 use crate::member::Member;
@@ -41,6 +42,7 @@ impl<C: ProtoType> Member for Repeated<C> {
       records = element_records C.datum;
       slots = λ _. [];
       levels = λ _. 0;
+      Exact = Unit {0};
       normal = λ vs. AllByRecursion (λ v. C.fits v × C.normal v) vs;
       stays = λ d n w p x h. refl;
     } };
@@ -75,5 +77,6 @@ impl<C: ProtoType> Member for Repeated<C> {
       back = λ k number d v fits normal low. elements_back C.reading C.writing C.datum k number d C.MapCodec.plain
           C.WIRE_TYPE C.MapValueDecode.wire C.MapCodec.written_wire C.fits C.normal
           C.MapCodec.reads_back C.ProtoType.datum_encoding v normal;
+      exact = λ _. exact_flat _ (element_numbers C.datum) (λ v i. 0);
     } };
 }

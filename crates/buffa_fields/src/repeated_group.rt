@@ -17,6 +17,8 @@ ghost use Rattle.buffa_fields.specs.RepeatedGroupFacts.{groups_back, groups_stay
 ghost use Rattle.buffa_fields.specs.RepeatedNested.{messages_levels, messages_slots};
 ghost use Rattle.buffa_wire.proofs.ByPayloadLemmas.{by_payload, merged_fields};
 ghost use Rattle.buffa_fields.specs.Refusals.{RefusesTaggedField, RefusesNew};
+ghost use Rattle.buffa_fields.specs.LevelKindFacts.{groups_low, groups_numbers};
+ghost use Rattle.buffa_fields.specs.Levels.{AreExactLevels};
 
 use crate::group::{group_len, take_group, write_group};
 use crate::member::Member;
@@ -151,6 +153,7 @@ impl<N: Message> Member for RepeatedGroup<N> {
       records = element_records (group_datum N.records);
       slots = messages_slots N.encoding N.slots;
       levels = messages_levels N.levels;
+      Exact = AreExactLevels N.merged N.encoding N.records N.normal N.levels;
       normal = λ vs. AllByRecursion N.normal vs;
       stays = groups_stay N.COST N.cost;
     } };
@@ -184,5 +187,10 @@ impl<N: Message> Member for RepeatedGroup<N> {
           N.MessageSpec.encoding_records
           (merged_fields (by_payload N.MessageSpec.stays N.MessageSpec.merged_is N.MessageSpec.cost_is))
           N.MessageSpec.merged_encoding n number d v fits normal low;
+      exact = λ exact. record {
+        numbers = groups_numbers N.records;
+        least = groups_low N.merged N.blank_is N.encoding N.records N.normal N.levels exact
+            N.MessageSpec.encoding_records;
+      };
     } };
 }

@@ -14,6 +14,8 @@ ghost use Rattle.buffa_fields.specs.Nested.{FitsInside, MessageTakesMemory, mess
 ghost use Rattle.buffa_fields.specs.RepeatedNested.{MessagesTakeMemory, messages_cost, messages_levels, messages_records, messages_slots, messages_taken};
 ghost use Rattle.buffa_fields.specs.RepeatedNestedFacts.{messages_back, messages_stay};
 ghost use Rattle.buffa_fields.specs.Refusals.{RefusesTaggedField, RefusesNew};
+ghost use Rattle.buffa_fields.specs.LevelKindFacts.{messages_low, messages_numbers};
+ghost use Rattle.buffa_fields.specs.Levels.{AreExactLevels};
 
 use crate::member::Member;
 use crate::nested::{message_len, write_message};
@@ -146,6 +148,7 @@ impl<N: Message> Member for RepeatedNested<N> {
       records = messages_records N.encoding;
       slots = messages_slots N.encoding N.slots;
       levels = messages_levels N.levels;
+      Exact = AreExactLevels N.merged N.encoding N.records N.normal N.levels;
       normal = λ vs. AllByRecursion (FitsInside N.normal N.records) vs;
       stays = messages_stay N.COST N.cost;
     } };
@@ -178,5 +181,9 @@ impl<N: Message> Member for RepeatedNested<N> {
       back = λ n number d v fits normal low. messages_back N.merged N.blank_is N.encoding N.levels
           (FitsInside N.normal N.records)
           (λ d v ok low. N.MessageSpec.merged_encoding d v ok.1 ok.0 low) n number d v fits normal low;
+      exact = λ exact. record {
+        numbers = messages_numbers N.encoding;
+        least = messages_low N.merged N.blank_is N.encoding N.records N.normal N.levels exact;
+      };
     } };
 }

@@ -1,0 +1,80 @@
+//! How deep messages from their fields nest: exactly as deep as they say.
+
+ghost use Rattle.std.specs.Prelude.{◌↔◌, ℕ, List};
+ghost use Rattle.buffa_wire.specs.Records.{Datum};
+ghost use Rattle.buffa_wire.specs.Encoding.{records_encoding};
+ghost use Rattle.buffa_fields.specs.Levels.{AreExactLevels};
+ghost use Rattle.buffa_fields.specs.Members.{field, field_kept, keep, skip};
+
+use crate::fields::Fields;
+use crate::group::Group;
+use crate::keeping::Keeping;
+use crate::map_member::MapOf;
+use crate::map_nested::MapOfNested;
+use crate::member::Member;
+use crate::message::{Listed, Listing};
+use crate::nested::Nested;
+use crate::optional::Optional;
+use crate::ordered_key::OrderedKey;
+use crate::ordered_map::OrderedMapOf;
+use crate::ordered_nested::OrderedMapOfNested;
+use crate::packed::{Packable, Packed};
+use crate::plain::Plain;
+use crate::proto_type::ProtoType;
+use crate::repeated::Repeated;
+use crate::repeated_group::RepeatedGroup;
+use crate::repeated_nested::RepeatedNested;
+use buffa_map::map_codec::MapCodec;
+use buffa_wire::{MapKey, Message, MessageForm};
+use std::hash::Hash;
+
+/// A message from its fields nests exactly as deep as it says, where the messages in it do: at no lesser depth is the
+/// encoding of a value that fits merged, whatever it is merged into.
+pub fn levels_of_fields_are_exact<M: Listing>()
+    ensures { M.layout.Exact → AreExactLevels ⟦<Listed as MessageForm<M>>⟧.merged
+        (λ v. records_encoding (⟦<Listed as MessageForm<M>>⟧.records v)) ⟦<Listed as MessageForm<M>>⟧.records
+        ⟦<Listed as MessageForm<M>>⟧.normal ⟦<Listed as MessageForm<M>>⟧.levels }
+{}
+
+/// The messages in a list of members are those in each; where fields are kept or passed over there is none.
+pub fn messages_in_lists_are_these<M: Fields, N: Keeping>()
+    ensures field { (k : ℕ) (get : M → N.Part) → (field k get N.shape M.layout).Exact ↔ (N.shape.Exact × M.layout.Exact) }
+    ensures field_kept { (k : ℕ) (get : M → N.Part) →
+        (field_kept k get N.shape N.aside M.layout).Exact ↔ (N.shape.Exact × M.layout.Exact) }
+    ensures keep { (get : M → List (ℕ × Datum)) → (keep get).Exact }
+    ensures skip { (skip {M = M}).Exact }
+{}
+
+/// There is none in a member of values.
+pub fn values_have_no_messages<
+    C: ProtoType,
+    P: Packable,
+    KC: MapCodec,
+    VC: MapCodec,
+    OC: MapCodec,
+>()
+where
+    KC::Value: MapKey + Hash,
+    OC::Value: OrderedKey,
+    ensures values { ⟦<Plain<C> as Member>⟧.shape.Exact × ⟦<Optional<C> as Member>⟧.shape.Exact }
+    ensures lists { ⟦<Repeated<C> as Member>⟧.shape.Exact × ⟦<Packed<P> as Member>⟧.shape.Exact }
+    ensures maps { ⟦<MapOf<KC, VC> as Member>⟧.shape.Exact × ⟦<OrderedMapOf<OC, VC> as Member>⟧.shape.Exact }
+{}
+
+/// In a member that is a message, or has some, they are of its type, whose levels have to be exact.
+pub fn messages_in_members_are_these<N: Message, KC: MapCodec, OC: MapCodec>()
+where
+    KC::Value: MapKey + Hash,
+    OC::Value: OrderedKey,
+    ensures nested { ⟦<Nested<N> as Member>⟧.shape.Exact
+        ↔ AreExactLevels N.merged N.encoding N.records N.normal N.levels }
+    ensures list { ⟦<RepeatedNested<N> as Member>⟧.shape.Exact
+        ↔ AreExactLevels N.merged N.encoding N.records N.normal N.levels }
+    ensures group { ⟦<Group<N> as Member>⟧.shape.Exact ↔ AreExactLevels N.merged N.encoding N.records N.normal N.levels }
+    ensures groups { ⟦<RepeatedGroup<N> as Member>⟧.shape.Exact
+        ↔ AreExactLevels N.merged N.encoding N.records N.normal N.levels }
+    ensures map { ⟦<MapOfNested<KC, N> as Member>⟧.shape.Exact
+        ↔ AreExactLevels N.merged N.encoding N.records N.normal N.levels }
+    ensures ordered { ⟦<OrderedMapOfNested<OC, N> as Member>⟧.shape.Exact
+        ↔ AreExactLevels N.merged N.encoding N.records N.normal N.levels }
+{}
