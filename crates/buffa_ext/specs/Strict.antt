@@ -20,8 +20,8 @@ module _ {X : Type 0} (merged : X → List ℕ → Option X) (cost : List ℕ �
       Faultless (kind_fault held w n) ds × (new : X) × (left : BudgetLeft) × AreMerged merged cost (encodings_in held ds) old before new left
 
   -- a record holds no encoding, or its encoding isn't merged
-  abbrev pub RecordFault : Datum → X → BudgetLeft → DecodeError → Type 0
-  RecordFault d old left e = (kind_fault held w n d ≡ Some e) ⊎ ((t : List ℕ) × (held d ≡ Some t) × MergeFault (merged old t) (cost t) left e)
+  abbrev pub MessageRecordFault : Datum → X → BudgetLeft → DecodeError → Type 0
+  MessageRecordFault d old left e = (kind_fault held w n d ≡ Some e) ⊎ ((t : List ℕ) × (held d ≡ Some t) × MergeFault (merged old t) (cost t) left e)
 
   -- the records before one hold encodings, which are merged; and of that one such is true, by what they made and left
   abbrev pub ReachesStrictly : (Datum → X → BudgetLeft → Type 0) → X → BudgetLeft → List Datum → Type 0
@@ -31,7 +31,7 @@ module _ {X : Type 0} (merged : X → List ℕ → Option X) (cost : List ℕ �
 
   -- the first fault of records
   abbrev pub FirstRecordFault : X → BudgetLeft → List Datum → DecodeError → Type 0
-  FirstRecordFault old before ds e = ReachesStrictly (λ d mid left. RecordFault d mid left e) old before ds
+  FirstRecordFault old before ds e = ReachesStrictly (λ d mid left. MessageRecordFault d mid left e) old before ds
 
 -- ---- what a strict reading leaves open
 

@@ -7,11 +7,11 @@ use Rattle.buffa_bytes.specs.declared.error.DecodeError.{DecodeError}
 use Rattle.buffa_bytes.specs.declared.error.DecodeError.TheVariants.{OutOfMemory, WireTypeMismatch}
 use Rattle.buffa_bytes.specs.declared.wire_type.WireType.{WireType}
 use Rattle.buffa_codec.specs.CodecFacts.{left_over}
-use Rattle.buffa_codec.specs.Strict.{Faultless, TellsFault, unless_found}
+use Rattle.buffa_codec.specs.Strict.{Faultless, IsFaultOrFull, unless_found}
 use Rattle.buffa_codec.specs.StrictFacts.{no_two, not_both}
 use Rattle.buffa_ext.specs.Messages.{AreMerged, IsAllMerged, IsAnswer, LeavesOf, ReachesRecord, cost_all, encodings_in, merged_all, message_of, some_there}
 use Rattle.buffa_ext.specs.MessageFacts.{answers, cost-append, encoding_refused, fault_of_one, merged-append, message_none, message_some, spent_cost}
-use Rattle.buffa_ext.specs.Strict.{AreMessages, FirstRecordFault, ReachesStrictly, RecordFault, kind_fault}
+use Rattle.buffa_ext.specs.Strict.{AreMessages, FirstRecordFault, ReachesStrictly, MessageRecordFault, kind_fault}
 use Rattle.buffa_wire.specs.BudgetLeft.{BudgetLeft, Pays, defaults}
 use Rattle.buffa_wire.specs.Encoding.{wire_of}
 use Rattle.buffa_wire.specs.Message.{MergeFault}
@@ -50,13 +50,13 @@ is_of_another held w n d h = kind_other (held d) w n d h
 
 module _ {X : Type 0} (merged : X → List ℕ → Option X) (cost : List ℕ → BudgetLeft) (held : Datum → Option (List ℕ)) (w : WireType) (n : ℕ) where
   told_by : (asks : Datum → Type 0) (d : Datum) (t : List ℕ) (old : X) (left : BudgetLeft) (e : DecodeError) → held d ≡ Some t → (e ≡ OutOfMemory → asks d) → (e ≢ OutOfMemory → MergeFault (merged old t) (cost t) left e)
-      → (e ≡ OutOfMemory) ⊎ (e ≢ OutOfMemory) → TellsFault (RecordFault merged cost held w n d old left) (asks d) e
+      → (e ≡ OutOfMemory) ⊎ (e ≢ OutOfMemory) → IsFaultOrFull (MessageRecordFault merged cost held w n d old left) (asks d) e
   told_by asks d t old left e h full fault (inl k) = inr (k, full k)
   told_by asks d t old left e h full fault (inr k) = inl (inr (t, h, fault k))
 
   -- a record whose encoding is refused has a fault, or takes memory
   pub refused_record : (asks : Datum → Type 0) (d : Datum) (old new : X) (before after : BudgetLeft) (e : DecodeError) → encodings_in held (d ∷ []) ≢ [] → (e ≡ OutOfMemory → asks d)
-      → IsAllMerged merged cost (encodings_in held (d ∷ [])) old before (Err e) new after → TellsFault (RecordFault merged cost held w n d old before) (asks d) e
+      → IsAllMerged merged cost (encodings_in held (d ∷ [])) old before (Err e) new after → IsFaultOrFull (MessageRecordFault merged cost held w n d old before) (asks d) e
   refused_record asks d old new before after e some full h =
       let k = encoding_refused merged cost held asks d (held d) old new before after e refl some full h in
       told_by asks d k.0 old before e k.1 k.3 k.4 (by_memory (is_oom e) e refl)
@@ -85,7 +85,7 @@ module _ {X : Type 0} (merged : X → List ℕ → Option X) (cost : List ℕ �
   none_held None d e blank v b h k = no_two (message_of merged cost blank b []) v refl k
 
   -- an element has no fault
-  pub no_fault : (blank v : X) (b : BudgetLeft) (d : Datum) (e : DecodeError) → message_of merged cost blank b (encodings_in held (d ∷ [])) ≡ Some v → RecordFault merged cost held w n d blank b e → ⊥
+  pub no_fault : (blank v : X) (b : BudgetLeft) (d : Datum) (e : DecodeError) → message_of merged cost blank b (encodings_in held (d ∷ [])) ≡ Some v → MessageRecordFault merged cost held w n d blank b e → ⊥
   no_fault blank v b d e h (inl k) = none_held (held d) d e blank v b k h
   no_fault blank v b d e h (inr (t, same, k)) =
       let one : encodings_in held (d ∷ []) ≡ t ∷ [] = ap (λ z. cons_option z []) same in
@@ -110,17 +110,17 @@ module _ {X : Type 0} (merged : X → List ℕ → Option X) (cost : List ℕ �
       (ap (encodings_in held) cut ∙ filter_map-append held front (d ∷ back) ∙ ap (λ o. encodings_in held front ++ cons_option o (encodings_in held back)) same) h.3)
       done k
 
-  reached : (asks : Datum → Type 0) (blank : X) (ds : List Datum) (e : DecodeError) → ReachesStrictly merged cost held w n (λ d mid left. TellsFault (RecordFault merged cost held w n d mid left) (asks d) e) blank defaults ds
-      → TellsFault (FirstRecordFault merged cost held w n blank defaults ds) (ReachesRecord merged cost blank held asks ds) e
+  reached : (asks : Datum → Type 0) (blank : X) (ds : List Datum) (e : DecodeError) → ReachesStrictly merged cost held w n (λ d mid left. IsFaultOrFull (MessageRecordFault merged cost held w n d mid left) (asks d) e) blank defaults ds
+      → IsFaultOrFull (FirstRecordFault merged cost held w n blank defaults ds) (ReachesRecord merged cost blank held asks ds) e
   reached asks blank ds e (front, d, back, mid, left, cut, kinds, done, inl k) = inl (front, d, back, mid, left, cut, kinds, done, k)
   reached asks blank ds e (front, d, back, mid, left, cut, kinds, done, inr k) = inr (k.0, (front, d, back, mid, left, cut, done, k.1))
 
   -- what stops merging into a blank under a default budget is the first fault, or takes memory
   pub told_strictly : (asks : Datum → Type 0) (old blank : X) (before : BudgetLeft) (ds : List Datum) (e : DecodeError) → old ≡ blank → before ≡ defaults
-      → ReachesStrictly merged cost held w n (λ d mid left. TellsFault (RecordFault merged cost held w n d mid left) (asks d) e) old before ds
-      → TellsFault (FirstRecordFault merged cost held w n blank defaults ds) (ReachesRecord merged cost blank held asks ds) e
+      → ReachesStrictly merged cost held w n (λ d mid left. IsFaultOrFull (MessageRecordFault merged cost held w n d mid left) (asks d) e) old before ds
+      → IsFaultOrFull (FirstRecordFault merged cost held w n blank defaults ds) (ReachesRecord merged cost blank held asks ds) e
   told_strictly asks old blank before ds e same from h =
-      let P : Datum → X → BudgetLeft → Type 0 = λ d mid left. TellsFault (RecordFault merged cost held w n d mid left) (asks d) e in
+      let P : Datum → X → BudgetLeft → Type 0 = λ d mid left. IsFaultOrFull (MessageRecordFault merged cost held w n d mid left) (asks d) e in
       reached asks blank ds e (subst (λ x. ReachesStrictly merged cost held w n P x defaults ds) same (subst (λ b. ReachesStrictly merged cost held w n P old b ds) from h))
 
   -- what was merged into a blank under a default budget is what the records are read as
@@ -137,13 +137,13 @@ module _ {X : Type 0} (merged : X → List ℕ → Option X) (cost : List ℕ �
       subst (λ x. AreMessages merged cost held w n x defaults ds) same (subst (λ b. AreMessages merged cost held w n old b ds) from (kinds, new, after, (h.1, h.2)))
 
   -- a record that isn't merged into a blank is no element, or takes memory
-  pub told_element : (asks : ℕ → Datum → Type 0) (k : ℕ) (d : Datum) (old blank : X) (b : BudgetLeft) (e : DecodeError) → old ≡ blank → TellsFault (RecordFault merged cost held w n d old b) (asks k d) e
-      → TellsFault (RecordFault merged cost held w n d blank b) ((i : ℕ) × asks i d) e
-  told_element asks k d old blank b e same (inl h) = inl (subst (λ x. RecordFault merged cost held w n d x b e) same h)
+  pub told_element : (asks : ℕ → Datum → Type 0) (k : ℕ) (d : Datum) (old blank : X) (b : BudgetLeft) (e : DecodeError) → old ≡ blank → IsFaultOrFull (MessageRecordFault merged cost held w n d old b) (asks k d) e
+      → IsFaultOrFull (MessageRecordFault merged cost held w n d blank b) ((i : ℕ) × asks i d) e
+  told_element asks k d old blank b e same (inl h) = inl (subst (λ x. MessageRecordFault merged cost held w n d x b e) same h)
   told_element asks k d old blank b e same (inr h) = inr (h.0, (k, h.1))
 
   -- a record of another kind has that fault
   pub told_kind : (asks : Datum → Type 0) (d : Datum) (old : X) (b : BudgetLeft) (expected actual : WireType) → expected ≡ w → actual ≡ wire_of d → false ≡ some_there (encodings_in held (d ∷ []))
-      → TellsFault (RecordFault merged cost held w n d old b) (asks d) (WireTypeMismatch n expected actual)
+      → IsFaultOrFull (MessageRecordFault merged cost held w n d old b) (asks d) (WireTypeMismatch n expected actual)
   told_kind asks d old b expected actual own is none =
       inl (inl (is_of_another held w n d none ∙ ap (λ x. Some (WireTypeMismatch n x (wire_of d))) (sym own) ∙ ap (λ a. Some (WireTypeMismatch n expected a)) (sym is)))

@@ -7,7 +7,7 @@ ghost use Rattle.buffa_wire.specs.Records.{Held};
 ghost use Rattle.buffa_wire.specs.contracts.unknown_fields.UnknownFields.{the_row as fields_row};
 ghost use Rattle.buffa_codec.specs.Sub.{sub};
 ghost use Rattle.buffa_codec.specs.Decoded.{Refuses};
-ghost use Rattle.buffa_codec.specs.Strict.{TellsFault};
+ghost use Rattle.buffa_codec.specs.Strict.{IsFaultOrFull};
 ghost use Rattle.buffa_ext.specs.Defaults.{IsDefaulted, IsRefused, ReadsNumber};
 ghost use Rattle.buffa_ext.specs.Steps.{HoldsRecord, IsCleared, IsSet};
 
@@ -111,7 +111,7 @@ pub trait ExtensionSet {
         requires { ext.now.extendee.now ≡ fqn }
         ensures value { IfOk result (λ o. C.reads (sub ext.now.number (fields_of self.now).records) (C.answer o)) }
         ensures whole { OnOk result (C.IsFaultless ext.now.number (sub ext.now.number (fields_of self.now).records)) }
-        ensures fault { IfErr result (TellsFault (C.HasFault ext.now.number
+        ensures fault { IfErr result (IsFaultOrFull (C.HasFault ext.now.number
             (sub ext.now.number (fields_of self.now).records)) (C.asks (sub ext.now.number (fields_of self.now).records))) }
     {
         C::decode_strictly(alloc, ext.number(), self.unknown_fields())

@@ -3,10 +3,10 @@
 ghost use Rattle.std.specs.Prelude.{◌≡◌, ◌∷◌, [], None, Ok, Some, IfErr, IfOk, OnOk, option_map, true};
 ghost use Rattle.buffa_wire.specs.BudgetLeft.{defaults};
 ghost use Rattle.buffa_wire.specs.View.{datum_of};
-ghost use Rattle.buffa_codec.specs.Strict.{Faultless, TellsFault};
+ghost use Rattle.buffa_codec.specs.Strict.{Faultless, IsFaultOrFull};
 ghost use Rattle.buffa_codec.specs.Sub.{sub};
 ghost use Rattle.buffa_ext.specs.Messages.{IsAllMerged, IsAnswer, encodings_in, message_of};
-ghost use Rattle.buffa_ext.specs.Strict.{AreMessages, FirstRecordFault, ReachesStrictly, RecordFault, kind_fault};
+ghost use Rattle.buffa_ext.specs.Strict.{AreMessages, FirstRecordFault, ReachesStrictly, MessageRecordFault, kind_fault};
 ghost use Rattle.buffa_ext.specs.StrictFacts.{no_fault, no_first_fault, one_left};
 
 use crate::message::MessageIn;
@@ -30,7 +30,7 @@ fn merge_one<K: MessageRecord, M: Message>(
         (encodings_in K.held (datum_of payload.now ∷ [])) (M.meaning message.old) budget.old (Ok true)
         (M.meaning message.new) budget.new) }
     ensures kind { OnOk result (kind_fault K.held K.WIRE_TYPE number (datum_of payload.now) ≡ None) }
-    ensures fault { IfErr result (TellsFault (RecordFault (M.merged 100) (M.cost 100) K.held K.WIRE_TYPE number
+    ensures fault { IfErr result (IsFaultOrFull (MessageRecordFault (M.merged 100) (M.cost 100) K.held K.WIRE_TYPE number
         (datum_of payload.now) (M.meaning message.old) budget.old) (K.asks 100 (datum_of payload.now))) }
 {
     let lent = DecodeContext {
@@ -62,7 +62,7 @@ fn merge_each<K: MessageRecord, M: Message>(
         (M.meaning message.new) budget.new) }
     ensures kinds { OnOk result (Faultless (kind_fault K.held K.WIRE_TYPE number) (sub number fields.now.records)) }
     ensures fault { IfErr result (λ e. ReachesStrictly (M.merged 100) (M.cost 100) K.held K.WIRE_TYPE number
-        (λ d mid left. TellsFault (RecordFault (M.merged 100) (M.cost 100) K.held K.WIRE_TYPE number d mid left)
+        (λ d mid left. IsFaultOrFull (MessageRecordFault (M.merged 100) (M.cost 100) K.held K.WIRE_TYPE number d mid left)
         (K.asks 100 d) e) (M.meaning message.old) budget.old (sub number fields.now.records)) }
 {
     let mut found = false;
@@ -110,7 +110,7 @@ impl<K: MessageRecord, M: Message> StrictElementCodec for MessageIn<K, M> {
     ghost IsElement = { λ n b d. (v : M.Meaning)
         × (message_of (M.merged 100) (M.cost 100) M.blank_is b (encodings_in K.held (d ∷ [])) ≡ Some v) };
 
-    ghost ElementFault = { λ n b d. RecordFault (M.merged 100) (M.cost 100) K.held K.WIRE_TYPE n d M.blank_is b };
+    ghost ElementFault = { λ n b d. MessageRecordFault (M.merged 100) (M.cost 100) K.held K.WIRE_TYPE n d M.blank_is b };
 
     fn check_element(
         alloc: Global,

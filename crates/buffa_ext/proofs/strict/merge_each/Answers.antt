@@ -1,8 +1,8 @@
 use Rattle.std.proofs.Common.{true, sym, ap, ◌∙◌}
 use Rattle.buffa_wire.specs.View.{records_in}
-use Rattle.buffa_codec.specs.Strict.{TellsFault}
+use Rattle.buffa_codec.specs.Strict.{IsFaultOrFull}
 use Rattle.buffa_codec.proofs.StrictLemmas.{faultless_more, faultless_other}
-use Rattle.buffa_ext.specs.Strict.{RecordFault, kind_fault}
+use Rattle.buffa_ext.specs.Strict.{MessageRecordFault, kind_fault}
 use Rattle.buffa_ext.proofs.MergeLemmas.{one_more, passed_over}
 use Rattle.buffa_ext.proofs.StrictLemmas.{or_true, reaches_here}
 use Rattle.buffa_ext.proofs.strict.merge_each.Goals.{then-field-number+in-Ok, else-field-number}
@@ -37,6 +37,6 @@ returns-in-Err-clause-fault g c =
     let cost = g.M.MessageSpec.cost 100 in
     reaches_here g.K.MessageRecord.held c.args.number c.as_slice-field-items.result.now c.loop-field.field-index c.field-item.result c.loop-field-test.true c.field-item.is
     merged cost g.K.MessageRecord.WIRE_TYPE
-    (λ d mid left. TellsFault (RecordFault merged cost g.K.MessageRecord.held g.K.MessageRecord.WIRE_TYPE c.args.number d mid left) (g.K.MessageRecord.asks 100 d) c.in-Err.error)
+    (λ d mid left. IsFaultOrFull (MessageRecordFault merged cost g.K.MessageRecord.held g.K.MessageRecord.WIRE_TYPE c.args.number d mid left) (g.K.MessageRecord.asks 100 d) c.in-Err.error)
     (g.M.Blank.meaning c.args.message.now) (g.M.Blank.meaning c.loop-field.message) c.args.budget.now c.loop-field.budget c.loop-field.found c.args.fields.now.records
     c.if-field-number.true (ap records_in c.as_slice-field-items.ensures.value ∙ c.iter.ensures) c.loop-field.invariant.kinds c.loop-field.invariant.merged c.in-Err.ensures.fault
