@@ -1,5 +1,6 @@
 -- The lemmas that this crate hands out.
 pub mod NormalLemmas
+mod FieldLemmas
 mod NumberLemmas
 pub mod PassedLemmas
 pub mod TreeFieldLemmas

@@ -1,12 +1,13 @@
 -- What bytes mean to a message that is a count of repeated fields: each varint of number 9 counts one, others are
 -- passed over. Source: the protobuf encoding guide, "Repeated Elements".
-use Rattle.std.specs.Prelude.{ℕ, zero, suc, ◌+◌, ◌-◌, ◌^◌, ◌==◌, List, [], ◌∷◌, ◌++◌, min, Option, if◌then◌else◌}
+use Rattle.std.specs.Prelude.{◌≡◌, ℕ, zero, suc, ◌+◌, ◌-◌, ◌^◌, ◌==◌, List, [], ◌∷◌, ◌++◌, min, Option, Err, if◌then◌else◌}
 use Rattle.buffa_bytes.specs.declared.wire_type.WireType.TheVariants.{Varint}
 use Rattle.buffa_wire.specs.BudgetLeft.{BudgetLeft, nothing}
 use Rattle.buffa_wire.specs.Records.{Datum, varint}
 use Rattle.buffa_bytes.specs.Values.{tag_encoding}
 use Rattle.buffa_bytes.specs.Varint.{varint_encoding}
 use Rattle.buffa_wire.specs.ByField.{FieldReader, merged_by}
+use Rattle.buffa_wire.specs.Message.{FieldRefused}
 use Rattle.sample_types.specs.Fields.{skipped_field, varint_field}
 
 -- one more, but no more than a u64 holds
@@ -18,6 +19,10 @@ count_field d v n w bs = if n == 9 then varint_field 9 (λ _. one_more v) w bs e
 
 abbrev pub count_merged : ℕ → ℕ → List ℕ → Option ℕ
 count_merged d v bs = merged_by (count_field d) v bs
+
+-- a refused field leaves the count as it was, and its own fault is told
+abbrev pub IsCountRefused : FieldRefused ℕ
+IsCountRefused d old n w bs before e new = (new ≡ old) × (count_field d old n w bs ≡ Err e)
 
 -- it costs nothing
 abbrev pub count_cost : ℕ → List ℕ → BudgetLeft

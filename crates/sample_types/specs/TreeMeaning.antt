@@ -9,7 +9,7 @@ use Rattle.buffa_bytes.specs.declared.wire_type.WireType.{WireType}
 use Rattle.buffa_bytes.specs.declared.wire_type.WireType.TheVariants.{LengthDelimited}
 use Rattle.buffa_bytes.specs.Gives.{◌>>=◌}
 use Rattle.buffa_wire.specs.BudgetLeft.{BudgetLeft, Lacks, Pays, PaysAtMost, nothing, plus, units}
-use Rattle.buffa_wire.specs.Message.{IsLimit, cost_in, merged_in}
+use Rattle.buffa_wire.specs.Message.{FieldRefused, IsLimit, cost_in, merged_in}
 use Rattle.buffa_bytes.specs.Front.{check_wire, delimited_at}
 use Rattle.buffa_bytes.specs.WireType.{same_wire}
 use Rattle.buffa_map.specs.Scalars.{int32_reading}
@@ -66,6 +66,11 @@ tree_takes d = taken_by (tree_field d (merged_in tree_merged d))
 
 abbrev pub tree_need : Need
 tree_need d = tree_field_need d (merged_in tree_merged d) (cost_in tree_cost d)
+
+-- a refused field leaves the tree as it was; and where it isn't the entry of a child, its own fault is told
+abbrev pub IsTreeRefused : FieldRefused Grown
+IsTreeRefused d old n w bs before e new =
+    (new ≡ old) × (((n ≡ 2) × (w ≡ LengthDelimited) → ⊥) → tree_field d (merged_in tree_merged d) old n w bs ≡ Err e)
 
 -- ---- what merging the entry of a child, at the front of bs, does
 

@@ -1,15 +1,15 @@
 //! A message that is a count of repeated fields.
 
-ghost use Rattle.std.specs.Prelude.{◌≡◌, ◌≢◌, ◌<◌, ◌^◌, [], refl, IsOk, OnErr};
+ghost use Rattle.std.specs.Prelude.{◌≡◌, ◌≢◌, ◌<◌, ◌^◌, [], refl, IfErr, IsOk, OnErr};
 ghost use Rattle.buffa_bytes.specs.declared.wire_type.WireType.TheVariants.{EndGroup};
 ghost use Rattle.buffa_wire.specs.BudgetLeft.{budget_left};
 ghost use Rattle.buffa_bytes.specs.Gives.{FullOnlyIf, Gives};
-ghost use Rattle.buffa_wire.specs.Message.{MergesField, Unchanged};
+ghost use Rattle.buffa_wire.specs.Message.{MergesField};
 ghost use Rattle.buffa_wire.specs.Passes.{IsSized};
 ghost use Rattle.buffa_bytes.specs.Written.{Writes};
 ghost use Rattle.buffa_wire.specs.Takes.{costs_nothing, taken_by};
 ghost use Rattle.buffa_wire.proofs.TakesLemmas.{merged_by_is, nothing_is};
-ghost use Rattle.sample_types.specs.Count.{count_cost, count_field, count_merged, count_records, count_encoding, one_encoding};
+ghost use Rattle.sample_types.specs.Count.{IsCountRefused, count_cost, count_field, count_merged, count_records, count_encoding, one_encoding};
 ghost use Rattle.sample_types.specs.CountFacts.{count_back, count_cost_some, count_same, count_sound, count_encoding_records};
 
 use buffa_wire::{
@@ -55,7 +55,7 @@ impl MessageSpec for CountMsg {
 
     ghost cost = { count_cost };
 
-    ghost Refused = { Unchanged };
+    ghost Refused = { IsCountRefused };
 
     ghost encoding = { count_encoding };
 
@@ -143,7 +143,8 @@ impl Message for CountMsg {
     ) -> Result<(), DecodeError>
         ensures merged { MergesField count_merged count_cost ctx.entry self.old.count tag.number tag.wire_type
             buf.old.now result self.new.count (budget_left ctx.exit) buf.new.now }
-        ensures refused { OnErr result (self.new.count ≡ self.old.count) }
+        ensures refused { IfErr result (λ e. IsCountRefused ctx.entry.depth self.old.count tag.number tag.wire_type
+            buf.old.now ctx.entry.budget.now e self.new.count) }
         ensures full { FullOnlyIf result (tag.wire_type ≢ EndGroup) }
         ensures gives { Gives (λ _. (self.new.count, buf.new.now)) result
             (count_field ctx.entry.depth self.old.count tag.number tag.wire_type buf.old.now) }

@@ -15,7 +15,7 @@ ghost use Rattle.buffa_wire.specs.Kept.{keep_need};
 ghost use Rattle.buffa_wire.specs.Parse.{Fits};
 ghost use Rattle.buffa_wire.specs.Records.{Datum, height, records_of};
 ghost use Rattle.buffa_wire.specs.Encoding.{records_encoding};
-ghost use Rattle.sample_types.specs.Count.{count_cost, count_merged, count_records, count_encoding};
+ghost use Rattle.sample_types.specs.Count.{IsCountRefused, count_cost, count_merged, count_records, count_encoding};
 ghost use Rattle.sample_types.specs.Fields.{number_encoding, number_records, value_encoding, value_field, value_records};
 ghost use Rattle.buffa_map.specs.Children.{children_in, no_child};
 ghost use Rattle.sample_types.specs.Grown.{Grown, grown};
@@ -23,7 +23,7 @@ ghost use Rattle.sample_types.specs.Letters.{lower, same_letters};
 ghost use Rattle.sample_types.specs.Numbers.{ReadsAlone, flat_takes, two_field, two_takes};
 ghost use Rattle.sample_types.specs.Passed.{proxy};
 ghost use Rattle.sample_types.specs.Pinned.{PassIsPinned, TripIsPinned};
-ghost use Rattle.sample_types.specs.TreeMeaning.{tree_cost, tree_merged};
+ghost use Rattle.sample_types.specs.TreeMeaning.{IsTreeRefused, tree_cost, tree_merged};
 ghost use Rattle.sample_types.specs.TreeEncoding.{IsNormalTree, tree_encoding, tree_levels, tree_records, tree_slots};
 
 use crate::count::CountMsg;
@@ -77,9 +77,10 @@ pub fn messages_are_these()
     ensures lists_records { (⟦<CountMsg as MessageSpec>⟧.records ≡ count_records)
         × (⟦<BudgetMsg as MessageSpec>⟧.records ≡ (λ rs. rs)) }
     ensures tree_records { ⟦<Tree as MessageSpec>⟧.records ≡ tree_records }
-    ensures count_refused { (d v n : ℕ) (w : _) (bs : List ℕ) (u : ℕ) → ⟦<CountMsg as MessageSpec>⟧.Refused d v n w bs u ↔ (u ≡ v) }
-    ensures tree_refused { (d : ℕ) (v : _) (n : ℕ) (w : _) (bs : List ℕ) (u : _) →
-        ⟦<Tree as MessageSpec>⟧.Refused d v n w bs u ↔ (u ≡ v) }
+    ensures count_refused { (d v n : ℕ) (w : _) (bs : List ℕ) (l : _) (e : _) (u : ℕ) →
+        ⟦<CountMsg as MessageSpec>⟧.Refused d v n w bs l e u ↔ IsCountRefused d v n w bs l e u }
+    ensures tree_refused { (d : ℕ) (v : _) (n : ℕ) (w : _) (bs : List ℕ) (l : _) (e : _) (u : _) →
+        ⟦<Tree as MessageSpec>⟧.Refused d v n w bs l e u ↔ IsTreeRefused d v n w bs l e u }
 {}
 
 /// What the values of the samples of numbers mean: their fields. Nothing is left out.

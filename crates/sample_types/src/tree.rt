@@ -1,15 +1,15 @@
 //! A message that holds itself.
 
-ghost use Rattle.std.specs.Prelude.{OnErr, [], pos, ◌≡◌, ◌≢◌, ◌+◌};
+ghost use Rattle.std.specs.Prelude.{IfErr, OnErr, [], pos, ◌≡◌, ◌≢◌, ◌+◌};
 ghost use Rattle.buffa_wire.specs.Passes.{IsNext, IsSized};
 ghost use Rattle.std.specs.BTreeMap.{values};
 ghost use Rattle.std.specs.List.{Contains};
 ghost use Rattle.buffa_map.specs.MessageField.{IsFieldWritten, field_slots};
 ghost use Rattle.buffa_bytes.specs.Gives.{FullOnlyIf};
-ghost use Rattle.buffa_wire.specs.Message.{BeginsField, IsFieldMerged, IsMerged, Unchanged};
+ghost use Rattle.buffa_wire.specs.Message.{BeginsField, IsFieldMerged, IsMerged, Stands};
 ghost use Rattle.buffa_map.specs.Scalars.{int32_writing};
 ghost use Rattle.buffa_map.specs.Children.{meant_children};
-ghost use Rattle.sample_types.specs.TreeMeaning.{IsChildMerged, tree_cost, tree_merged};
+ghost use Rattle.sample_types.specs.TreeMeaning.{IsChildMerged, IsTreeRefused, tree_cost, tree_merged};
 ghost use Rattle.sample_types.specs.TreeEncoding.{IsTreeWritten, tree_encoding, tree_slots};
 
 use crate::int32_field::{merge_value, number_len, write_number};
@@ -92,7 +92,7 @@ impl MessageSpec for Tree {
 
     ghost cost = { tree_cost };
 
-    ghost Refused = { Unchanged };
+    ghost Refused = { IsTreeRefused };
 
     ghost encoding = { tree_encoding };
 
@@ -249,7 +249,8 @@ where
     answer
 }
 
-// Merges the field whose tag was read. A refused one leaves the tree as it was.
+// Merges the field whose tag was read. A refused one leaves the tree as it was, and tells its own fault where it isn't
+// a child.
 #[cycle(merge)]
 fn merge_tree_field(
     alloc: Global,
@@ -262,7 +263,8 @@ fn merge_tree_field(
     ensures merged { IsFieldMerged tree_merged tree_cost depth tree.old tag.number tag.wire_type buf.old.now budget.old result
         tree.new budget.new buf.new.now }
     ensures full { FullOnlyIf result (tag.wire_type ≢ WireType.EndGroup) }
-    ensures stays { OnErr result (tree.new ≡ tree.old) }
+    ensures refused { IfErr result (λ e. IsTreeRefused depth tree.old tag.number tag.wire_type buf.old.now budget.old e
+        tree.new) }
 {
     if tag.field_number() != 2 {
         return merge_value(&mut tree.label, tag, buf, depth);
@@ -285,7 +287,7 @@ fn merge_tree_field(
 /// deeper. A field 2 costs 36 units of element memory, and what its child costs.
 ///
 /// # Errors
-/// Those of [`Message::merge`].
+/// Those of [`Message::merge`], and the tree is then as it says: what the fields before the refused one make of it.
 ///
 /// ```ignore
 /// merge_tree(alloc, child, bytes, depth, budget)?;
@@ -300,6 +302,8 @@ pub fn merge_tree(
 ) -> Result<(), DecodeError>
     ensures merged { IsMerged (tree_merged depth tree.old bytes.now) (tree_cost depth bytes.now) budget.old result tree.new
         budget.new }
+    ensures stands { IfErr result (λ e. Stands tree_merged tree_cost IsTreeRefused depth tree.old bytes.now budget.old e
+        tree.new) }
     ensures full { FullOnlyIf result (BeginsField bytes.now) }
 {
     let mut rest = bytes;
