@@ -147,18 +147,20 @@ def look(crates, lanes):
     edits = [Look(crate, path) for crate in crates for path in paths_of(crate)]
     failed = {it: it.why_not for it in edits if it.why_not}
     failed.update({it: f"no such word stands elsewhere: {' '.join(it.strange_words(known))}" for it in edits if it not in failed and it.strange_words(known)})
+    # One program holds the error of ours; an edit of any other is read in a copy of its own.
+    program, *others = [it for it in crates if os.path.isfile(f"{TOP}/crates/{it}/src/main.rt")]
+    together = [it for it in crates if it not in others]
     layers, alone = [], []
     for edit in edits:
         if edit in failed:
             continue
-        if edit.renames():
+        if edit.renames() or edit.crate in others:
             alone.append(edit)
             continue
         layer = next((it for it in layers if not any(edit.touches(other) for other in it)), None)
         layers.append([edit]) if layer is None else layer.append(edit)
-    program = next(it for it in crates if os.path.isfile(f"{TOP}/crates/{it}/src/main.rt"))
     with ThreadPoolExecutor(lanes) as pool:
-        alone += [it for found in pool.map(lambda it: to_blame(it, program, crates), layers) for it in found]
+        alone += [it for found in pool.map(lambda it: to_blame(it, program, together), layers) for it in found]
         for edit, errors in zip(alone, pool.map(lambda it: errors_of([it], it.crate, []), alone)):
             if errors and not edit.is_refused_by_its_law(errors):
                 failed[edit] = "{}:{}: {}".format(*errors[0])

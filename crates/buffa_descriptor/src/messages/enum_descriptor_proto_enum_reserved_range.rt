@@ -1,0 +1,93 @@
+//! google.protobuf.EnumDescriptorProto.EnumReservedRange, made of descriptor.proto by protoc-gen-buffa.
+
+ghost use Rattle.std.proofs.Common.{lit<, refl};
+ghost use Rattle.buffa_fields.specs.Members.{field, keep};
+
+use buffa_fields::fields::Fields;
+use buffa_fields::kept::{self, KeptFields};
+use buffa_fields::meaning::And3;
+use buffa_fields::member::Member;
+use buffa_fields::message::{Listed, Listing};
+use buffa_fields::optional::Optional;
+use buffa_fields::visitor::Visitor;
+use buffa_map::map_codec::Int32;
+use buffa_wire::{Blank, DecodeContext, DecodeError, Formed, Tag, UnknownFields};
+use std::alloc::Global;
+
+/// A range of numbers that no value may have.
+///
+/// message EnumReservedRange {
+///     optional int32 start = 1;
+///     optional int32 end = 2;
+/// }
+#[derive(Drop)]
+pub struct EnumDescriptorProtoEnumReservedRange {
+    /// The first number.
+    pub start: Option<i32>,
+    /// The last number.
+    pub end: Option<i32>,
+    /// The fields that aren't declared, in order.
+    pub rest: UnknownFields,
+}
+
+impl Fields for EnumDescriptorProtoEnumReservedRange {
+    type Meaning = And3<Option<i32>, Option<i32>, KeptFields>;
+
+    const COST: usize = 56;
+
+    ghost COST = { 56 };
+
+    ghost positive = { lit< tt };
+
+    ghost layout = { field 1 (λ m. m.start) ⟦<Optional<Int32> as Member>⟧.shape (
+        field 2 (λ m. m.end) ⟦<Optional<Int32> as Member>⟧.shape (
+        keep (λ m. m.rest.records))) };
+
+    ghost sound = { refl };
+
+    fn visit<V: Visitor>(&self, visitor: &mut V) {
+        visitor.visit::<Optional<Int32>>(1, &self.start);
+        visitor.visit::<Optional<Int32>>(2, &self.end);
+        visitor.visit_kept(&self.rest);
+    }
+
+    fn take(
+        &mut self,
+        alloc: Global,
+        tag: Tag,
+        buf: &mut &[u8],
+        ctx: DecodeContext<'_>,
+    ) -> Result<(), DecodeError> {
+        match tag.field_number() {
+            1 => Optional::<Int32>::merge(&mut self.start, alloc, tag, buf, ctx),
+            2 => Optional::<Int32>::merge(&mut self.end, alloc, tag, buf, ctx),
+            _ => kept::keep(alloc, &mut self.rest, tag, buf, ctx),
+        }
+    }
+}
+
+impl Blank for EnumDescriptorProtoEnumReservedRange {
+    type Meaning = <EnumDescriptorProtoEnumReservedRange as Fields>::Meaning;
+
+    ghost meaning = { ⟦<EnumDescriptorProtoEnumReservedRange as Fields>⟧.layout.meaning };
+
+    ghost blank_is = { ⟦<EnumDescriptorProtoEnumReservedRange as Fields>⟧.layout.blank };
+
+    fn blank(alloc: Global) -> EnumDescriptorProtoEnumReservedRange {
+        EnumDescriptorProtoEnumReservedRange {
+            start: None,
+            end: None,
+            rest: UnknownFields::new(alloc),
+        }
+    }
+}
+
+impl Listing for EnumDescriptorProtoEnumReservedRange {
+    ghost means = { λ m. refl };
+
+    ghost starts = { refl };
+}
+
+impl Formed for EnumDescriptorProtoEnumReservedRange {
+    type Form = Listed;
+}

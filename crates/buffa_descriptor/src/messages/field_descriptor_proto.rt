@@ -1,0 +1,192 @@
+//! google.protobuf.FieldDescriptorProto, made of descriptor.proto by protoc-gen-buffa.
+
+ghost use Rattle.std.proofs.Common.{lit<, refl};
+ghost use Rattle.buffa_fields.specs.Members.{field, field_kept, keep};
+
+use crate::messages::field_descriptor_proto_label::FieldDescriptorProtoLabel;
+use crate::messages::field_descriptor_proto_type::FieldDescriptorProtoType;
+use crate::messages::field_options::FieldOptions;
+use buffa_fields::fields::Fields;
+use buffa_fields::keeping::Keeping;
+use buffa_fields::kept::{self, KeptFields};
+use buffa_fields::meaning::And12;
+use buffa_fields::member::Member;
+use buffa_fields::message::{Listed, Listing};
+use buffa_fields::nested::Nested;
+use buffa_fields::optional::Optional;
+use buffa_fields::visitor::Visitor;
+use buffa_map::map_codec::{Bool, ClosedEnum, Int32, Str};
+use buffa_wire::{Blank, DecodeContext, DecodeError, Formed, Tag, UnknownFields};
+use std::alloc::Global;
+use std::string::String;
+
+/// A field of a message, or an extension.
+///
+/// message FieldDescriptorProto {
+///     optional string name = 1;
+///     optional string extendee = 2;
+///     optional int32 number = 3;
+///     optional Label label = 4;
+///     optional Type type = 5;
+///     optional string type_name = 6;
+///     optional string default_value = 7;
+///     optional FieldOptions options = 8;
+///     optional int32 oneof_index = 9;
+///     optional string json_name = 10;
+///     optional bool proto3_optional = 17;
+/// }
+#[derive(Drop)]
+pub struct FieldDescriptorProto {
+    /// Its name.
+    pub name: Option<String>,
+    /// Of an extension, the message that it extends: the full name with a dot in front.
+    pub extendee: Option<String>,
+    /// Its number, 1 to 536,870,911.
+    pub number: Option<i32>,
+    /// How often it may stand in a message.
+    pub label: Option<FieldDescriptorProtoLabel>,
+    /// Its type. A map is a repeated message.
+    pub type_: Option<FieldDescriptorProtoType>,
+    /// Of a message, a group or an enum, which one: the full name with a dot in front.
+    pub type_name: Option<String>,
+    /// The default that the text says: a number in decimal, `true` or `false`, the name of an enum's value, a
+    /// string as it is, bytes with escapes as in C.
+    pub default_value: Option<String>,
+    /// The options of the field.
+    pub options: Option<FieldOptions>,
+    /// Of a field in a oneof, which one of the message's `oneof_decl`, counted from 0.
+    pub oneof_index: Option<i32>,
+    /// Its name in JSON.
+    pub json_name: Option<String>,
+    /// Whether it is `optional` in a file of proto3; such a field has a oneof of its own.
+    pub proto3_optional: Option<bool>,
+    /// The fields that aren't declared, in order.
+    pub rest: UnknownFields,
+}
+
+impl Fields for FieldDescriptorProto {
+    type Meaning = And12<
+        Option<[u8; 0]>,
+        Option<[u8; 0]>,
+        Option<i32>,
+        Option<i32>,
+        Option<i32>,
+        Option<[u8; 0]>,
+        Option<[u8; 0]>,
+        Option<<FieldOptions as Blank>::Meaning>,
+        Option<i32>,
+        Option<[u8; 0]>,
+        Option<bool>,
+        KeptFields,
+    >;
+
+    const COST: usize = 296;
+
+    ghost COST = { 296 };
+
+    ghost positive = { lit< tt };
+
+    ghost layout = { field 1 (λ m. m.name) ⟦<Optional<Str> as Member>⟧.shape (
+        field 2 (λ m. m.extendee) ⟦<Optional<Str> as Member>⟧.shape (
+        field 3 (λ m. m.number) ⟦<Optional<Int32> as Member>⟧.shape (
+        field_kept 4 (λ m. m.label) ⟦<Optional<ClosedEnum<FieldDescriptorProtoLabel>> as Member>⟧.shape
+        ⟦<Optional<ClosedEnum<FieldDescriptorProtoLabel>> as Keeping>⟧.aside (
+        field_kept 5 (λ m. m.type_) ⟦<Optional<ClosedEnum<FieldDescriptorProtoType>> as Member>⟧.shape
+        ⟦<Optional<ClosedEnum<FieldDescriptorProtoType>> as Keeping>⟧.aside (
+        field 6 (λ m. m.type_name) ⟦<Optional<Str> as Member>⟧.shape (
+        field 7 (λ m. m.default_value) ⟦<Optional<Str> as Member>⟧.shape (
+        field 8 (λ m. m.options) ⟦<Nested<FieldOptions> as Member>⟧.shape (
+        field 9 (λ m. m.oneof_index) ⟦<Optional<Int32> as Member>⟧.shape (
+        field 10 (λ m. m.json_name) ⟦<Optional<Str> as Member>⟧.shape (
+        field 17 (λ m. m.proto3_optional) ⟦<Optional<Bool> as Member>⟧.shape (
+        keep (λ m. m.rest.records)))))))))))) };
+
+    ghost sound = { refl };
+
+    fn visit<V: Visitor>(&self, visitor: &mut V) {
+        visitor.visit::<Optional<Str>>(1, &self.name);
+        visitor.visit::<Optional<Str>>(2, &self.extendee);
+        visitor.visit::<Optional<Int32>>(3, &self.number);
+        visitor.visit_keeping::<Optional<ClosedEnum<FieldDescriptorProtoLabel>>>(4, &self.label);
+        visitor.visit_keeping::<Optional<ClosedEnum<FieldDescriptorProtoType>>>(5, &self.type_);
+        visitor.visit::<Optional<Str>>(6, &self.type_name);
+        visitor.visit::<Optional<Str>>(7, &self.default_value);
+        visitor.visit::<Nested<FieldOptions>>(8, &self.options);
+        visitor.visit::<Optional<Int32>>(9, &self.oneof_index);
+        visitor.visit::<Optional<Str>>(10, &self.json_name);
+        visitor.visit::<Optional<Bool>>(17, &self.proto3_optional);
+        visitor.visit_kept(&self.rest);
+    }
+
+    fn take(
+        &mut self,
+        alloc: Global,
+        tag: Tag,
+        buf: &mut &[u8],
+        ctx: DecodeContext<'_>,
+    ) -> Result<(), DecodeError> {
+        match tag.field_number() {
+            1 => Optional::<Str>::merge(&mut self.name, alloc, tag, buf, ctx),
+            2 => Optional::<Str>::merge(&mut self.extendee, alloc, tag, buf, ctx),
+            3 => Optional::<Int32>::merge(&mut self.number, alloc, tag, buf, ctx),
+            4 => Optional::<ClosedEnum<FieldDescriptorProtoLabel>>::merge_kept(
+                &mut self.label,
+                &mut self.rest,
+                alloc,
+                tag,
+                buf,
+                ctx,
+            ),
+            5 => Optional::<ClosedEnum<FieldDescriptorProtoType>>::merge_kept(
+                &mut self.type_,
+                &mut self.rest,
+                alloc,
+                tag,
+                buf,
+                ctx,
+            ),
+            6 => Optional::<Str>::merge(&mut self.type_name, alloc, tag, buf, ctx),
+            7 => Optional::<Str>::merge(&mut self.default_value, alloc, tag, buf, ctx),
+            8 => Nested::<FieldOptions>::merge(&mut self.options, alloc, tag, buf, ctx),
+            9 => Optional::<Int32>::merge(&mut self.oneof_index, alloc, tag, buf, ctx),
+            10 => Optional::<Str>::merge(&mut self.json_name, alloc, tag, buf, ctx),
+            17 => Optional::<Bool>::merge(&mut self.proto3_optional, alloc, tag, buf, ctx),
+            _ => kept::keep(alloc, &mut self.rest, tag, buf, ctx),
+        }
+    }
+}
+
+impl Blank for FieldDescriptorProto {
+    type Meaning = <FieldDescriptorProto as Fields>::Meaning;
+
+    ghost meaning = { ⟦<FieldDescriptorProto as Fields>⟧.layout.meaning };
+
+    ghost blank_is = { ⟦<FieldDescriptorProto as Fields>⟧.layout.blank };
+
+    fn blank(alloc: Global) -> FieldDescriptorProto {
+        FieldDescriptorProto {
+            name: None,
+            extendee: None,
+            number: None,
+            label: None,
+            type_: None,
+            type_name: None,
+            default_value: None,
+            options: None,
+            oneof_index: None,
+            json_name: None,
+            proto3_optional: None,
+            rest: UnknownFields::new(alloc),
+        }
+    }
+}
+
+impl Listing for FieldDescriptorProto {
+    ghost means = { λ m. refl };
+
+    ghost starts = { refl };
+}
+
+impl Formed for FieldDescriptorProto {
+    type Form = Listed;
+}

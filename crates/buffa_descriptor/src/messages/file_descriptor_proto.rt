@@ -1,0 +1,206 @@
+//! google.protobuf.FileDescriptorProto, made of descriptor.proto by protoc-gen-buffa.
+
+ghost use Rattle.std.proofs.Common.{lit<, refl};
+ghost use Rattle.buffa_fields.specs.Members.{field, keep};
+
+use crate::messages::enum_descriptor_proto::EnumDescriptorProto;
+use crate::messages::field_descriptor_proto::FieldDescriptorProto;
+use crate::messages::file_options::FileOptions;
+use crate::messages::service_descriptor_proto::ServiceDescriptorProto;
+use crate::messages::source_code_info::SourceCodeInfo;
+use buffa_fields::fields::Fields;
+use buffa_fields::kept::{self, KeptFields};
+use buffa_fields::meaning::And13;
+use buffa_fields::member::Member;
+use buffa_fields::message::{Listed, Listing};
+use buffa_fields::nested::Nested;
+use buffa_fields::optional::Optional;
+use buffa_fields::repeated::Repeated;
+use buffa_fields::repeated_nested::RepeatedNested;
+use buffa_fields::visitor::Visitor;
+use buffa_map::map_codec::{BytesVec, Int32, Str};
+use buffa_wire::{Blank, DecodeContext, DecodeError, Formed, Tag, UnknownFields};
+use std::alloc::Global;
+use std::string::String;
+
+/// A .proto file.
+///
+/// message FileDescriptorProto {
+///     optional string name = 1;
+///     optional string package = 2;
+///     repeated string dependency = 3;
+///     repeated DescriptorProto message_type = 4;
+///     repeated EnumDescriptorProto enum_type = 5;
+///     repeated ServiceDescriptorProto service = 6;
+///     repeated FieldDescriptorProto extension = 7;
+///     optional FileOptions options = 8;
+///     optional SourceCodeInfo source_code_info = 9;
+///     repeated int32 public_dependency = 10;
+///     repeated int32 weak_dependency = 11;
+///     optional string syntax = 12;
+/// }
+///
+/// Held as the encodings of its messages, which merge_from_slice reads: message_type = 4.
+#[derive(Drop)]
+pub struct FileDescriptorProto {
+    /// Its name, from the folder in which protoc looks for imports.
+    pub name: Option<String>,
+    /// Its package, without a dot in front.
+    pub package: Option<String>,
+    /// The names of the files that it imports.
+    pub dependency: Vec<String>,
+    /// The message types that stand in no other one, each as its encoding: `message_types` reads them.
+    pub message_type: Vec<Vec<u8>>,
+    /// The enums that stand in no message.
+    pub enum_type: Vec<EnumDescriptorProto>,
+    /// The services.
+    pub service: Vec<ServiceDescriptorProto>,
+    /// The extensions that stand in no message.
+    pub extension: Vec<FieldDescriptorProto>,
+    /// The options of the file.
+    pub options: Option<FileOptions>,
+    /// Where in the text each declaration stands, where protoc was asked for it with --include_source_info.
+    pub source_code_info: Option<SourceCodeInfo>,
+    /// Which of `dependency` are public imports, counted from 0.
+    pub public_dependency: Vec<i32>,
+    /// Which of `dependency` are weak imports, counted from 0.
+    pub weak_dependency: Vec<i32>,
+    /// `proto2` or `proto3`; protoc leaves it out for `proto2`.
+    pub syntax: Option<String>,
+    /// The fields that aren't declared, in order.
+    pub rest: UnknownFields,
+}
+
+impl Fields for FileDescriptorProto {
+    type Meaning = And13<
+        Option<[u8; 0]>,
+        Option<[u8; 0]>,
+        [[u8; 0]; 0],
+        [[u8; 0]; 0],
+        [<EnumDescriptorProto as Blank>::Meaning; 0],
+        [<ServiceDescriptorProto as Blank>::Meaning; 0],
+        [<FieldDescriptorProto as Blank>::Meaning; 0],
+        Option<<FileOptions as Blank>::Meaning>,
+        Option<<SourceCodeInfo as Blank>::Meaning>,
+        [i32; 0],
+        [i32; 0],
+        Option<[u8; 0]>,
+        KeptFields,
+    >;
+
+    const COST: usize = 376;
+
+    ghost COST = { 376 };
+
+    ghost positive = { lit< tt };
+
+    ghost layout = { field 1 (λ m. m.name) ⟦<Optional<Str> as Member>⟧.shape (
+        field 2 (λ m. m.«package») ⟦<Optional<Str> as Member>⟧.shape (
+        field 3 (λ m. m.dependency) ⟦<Repeated<Str> as Member>⟧.shape (
+        field 4 (λ m. m.message_type) ⟦<Repeated<BytesVec> as Member>⟧.shape (
+        field 5 (λ m. m.enum_type) ⟦<RepeatedNested<EnumDescriptorProto> as Member>⟧.shape (
+        field 6 (λ m. m.service) ⟦<RepeatedNested<ServiceDescriptorProto> as Member>⟧.shape (
+        field 7 (λ m. m.extension) ⟦<RepeatedNested<FieldDescriptorProto> as Member>⟧.shape (
+        field 8 (λ m. m.options) ⟦<Nested<FileOptions> as Member>⟧.shape (
+        field 9 (λ m. m.source_code_info) ⟦<Nested<SourceCodeInfo> as Member>⟧.shape (
+        field 10 (λ m. m.public_dependency) ⟦<Repeated<Int32> as Member>⟧.shape (
+        field 11 (λ m. m.weak_dependency) ⟦<Repeated<Int32> as Member>⟧.shape (
+        field 12 (λ m. m.syntax) ⟦<Optional<Str> as Member>⟧.shape (
+        keep (λ m. m.rest.records))))))))))))) };
+
+    ghost sound = { refl };
+
+    fn visit<V: Visitor>(&self, visitor: &mut V) {
+        visitor.visit::<Optional<Str>>(1, &self.name);
+        visitor.visit::<Optional<Str>>(2, &self.package);
+        visitor.visit::<Repeated<Str>>(3, &self.dependency);
+        visitor.visit::<Repeated<BytesVec>>(4, &self.message_type);
+        visitor.visit::<RepeatedNested<EnumDescriptorProto>>(5, &self.enum_type);
+        visitor.visit::<RepeatedNested<ServiceDescriptorProto>>(6, &self.service);
+        visitor.visit::<RepeatedNested<FieldDescriptorProto>>(7, &self.extension);
+        visitor.visit::<Nested<FileOptions>>(8, &self.options);
+        visitor.visit::<Nested<SourceCodeInfo>>(9, &self.source_code_info);
+        visitor.visit::<Repeated<Int32>>(10, &self.public_dependency);
+        visitor.visit::<Repeated<Int32>>(11, &self.weak_dependency);
+        visitor.visit::<Optional<Str>>(12, &self.syntax);
+        visitor.visit_kept(&self.rest);
+    }
+
+    fn take(
+        &mut self,
+        alloc: Global,
+        tag: Tag,
+        buf: &mut &[u8],
+        ctx: DecodeContext<'_>,
+    ) -> Result<(), DecodeError> {
+        match tag.field_number() {
+            1 => Optional::<Str>::merge(&mut self.name, alloc, tag, buf, ctx),
+            2 => Optional::<Str>::merge(&mut self.package, alloc, tag, buf, ctx),
+            3 => Repeated::<Str>::merge(&mut self.dependency, alloc, tag, buf, ctx),
+            4 => Repeated::<BytesVec>::merge(&mut self.message_type, alloc, tag, buf, ctx),
+            5 => RepeatedNested::<EnumDescriptorProto>::merge(
+                &mut self.enum_type,
+                alloc,
+                tag,
+                buf,
+                ctx,
+            ),
+            6 => RepeatedNested::<ServiceDescriptorProto>::merge(
+                &mut self.service,
+                alloc,
+                tag,
+                buf,
+                ctx,
+            ),
+            7 => RepeatedNested::<FieldDescriptorProto>::merge(
+                &mut self.extension,
+                alloc,
+                tag,
+                buf,
+                ctx,
+            ),
+            8 => Nested::<FileOptions>::merge(&mut self.options, alloc, tag, buf, ctx),
+            9 => Nested::<SourceCodeInfo>::merge(&mut self.source_code_info, alloc, tag, buf, ctx),
+            10 => Repeated::<Int32>::merge(&mut self.public_dependency, alloc, tag, buf, ctx),
+            11 => Repeated::<Int32>::merge(&mut self.weak_dependency, alloc, tag, buf, ctx),
+            12 => Optional::<Str>::merge(&mut self.syntax, alloc, tag, buf, ctx),
+            _ => kept::keep(alloc, &mut self.rest, tag, buf, ctx),
+        }
+    }
+}
+
+impl Blank for FileDescriptorProto {
+    type Meaning = <FileDescriptorProto as Fields>::Meaning;
+
+    ghost meaning = { ⟦<FileDescriptorProto as Fields>⟧.layout.meaning };
+
+    ghost blank_is = { ⟦<FileDescriptorProto as Fields>⟧.layout.blank };
+
+    fn blank(alloc: Global) -> FileDescriptorProto {
+        FileDescriptorProto {
+            name: None,
+            package: None,
+            dependency: Vec::new(alloc),
+            message_type: Vec::new(alloc),
+            enum_type: Vec::new(alloc),
+            service: Vec::new(alloc),
+            extension: Vec::new(alloc),
+            options: None,
+            source_code_info: None,
+            public_dependency: Vec::new(alloc),
+            weak_dependency: Vec::new(alloc),
+            syntax: None,
+            rest: UnknownFields::new(alloc),
+        }
+    }
+}
+
+impl Listing for FileDescriptorProto {
+    ghost means = { λ m. refl };
+
+    ghost starts = { refl };
+}
+
+impl Formed for FileDescriptorProto {
+    type Form = Listed;
+}

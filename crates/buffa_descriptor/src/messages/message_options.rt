@@ -1,0 +1,105 @@
+//! google.protobuf.MessageOptions, made of descriptor.proto by protoc-gen-buffa.
+
+ghost use Rattle.std.proofs.Common.{lit<, refl};
+ghost use Rattle.std.specs.Prelude.{codes};
+ghost use Rattle.buffa_fields.specs.Members.{keep};
+
+use buffa_ext::ExtensionSet;
+use buffa_fields::fields::Fields;
+use buffa_fields::kept::{self, KeptFields};
+use buffa_fields::message::{Listed, Listing};
+use buffa_fields::visitor::Visitor;
+use buffa_wire::{Blank, DecodeContext, DecodeError, Formed, Tag, UnknownFields};
+use std::alloc::Global;
+
+/// The options of a message. Each of them, also one that `descriptor.proto` declares, is had by its number as
+/// an extension.
+///
+/// message MessageOptions {
+///     extensions 1 to max;
+/// }
+#[derive(Drop)]
+pub struct MessageOptions {
+    /// The fields that aren't declared, in order.
+    pub rest: UnknownFields,
+}
+
+impl Fields for MessageOptions {
+    type Meaning = KeptFields;
+
+    const COST: usize = 24;
+
+    ghost COST = { 24 };
+
+    ghost positive = { lit< tt };
+
+    ghost layout = { keep (λ m. m.rest.records) };
+
+    ghost sound = { refl };
+
+    fn visit<V: Visitor>(&self, visitor: &mut V) {
+        visitor.visit_kept(&self.rest);
+    }
+
+    fn take(
+        &mut self,
+        alloc: Global,
+        tag: Tag,
+        buf: &mut &[u8],
+        ctx: DecodeContext<'_>,
+    ) -> Result<(), DecodeError> {
+        kept::keep(alloc, &mut self.rest, tag, buf, ctx)
+    }
+}
+
+impl Blank for MessageOptions {
+    type Meaning = <MessageOptions as Fields>::Meaning;
+
+    ghost meaning = { ⟦<MessageOptions as Fields>⟧.layout.meaning };
+
+    ghost blank_is = { ⟦<MessageOptions as Fields>⟧.layout.blank };
+
+    fn blank(alloc: Global) -> MessageOptions {
+        MessageOptions {
+            rest: UnknownFields::new(alloc),
+        }
+    }
+}
+
+impl Listing for MessageOptions {
+    ghost means = { λ m. refl };
+
+    ghost starts = { refl };
+}
+
+impl Formed for MessageOptions {
+    type Form = Listed;
+}
+
+impl ExtensionSet for MessageOptions {
+    const PROTO_FQN: &'static str = "google.protobuf.MessageOptions";
+
+    ghost fqn = { codes "google.protobuf.MessageOptions" };
+
+    ghost fields_of = { λ m. m.rest };
+
+    ghost with_fields = { λ m w. record m { rest = w } };
+
+    fn extendee_name() -> &'static str {
+        Self::PROTO_FQN
+    }
+
+    fn unknown_fields(&self) -> &UnknownFields {
+        &self.rest
+    }
+
+    fn unknown_fields_mut(&mut self) -> &mut UnknownFields {
+        &mut self.rest
+    }
+
+    ghost fields_of_with = { λ m w. refl };
+
+    ghost with_fields_of = { λ m. refl };
+
+    ghost with_fields_twice = { λ m w u. refl };
+}

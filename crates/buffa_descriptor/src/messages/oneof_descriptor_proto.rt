@@ -1,0 +1,96 @@
+//! google.protobuf.OneofDescriptorProto, made of descriptor.proto by protoc-gen-buffa.
+
+ghost use Rattle.std.proofs.Common.{lit<, refl};
+ghost use Rattle.buffa_fields.specs.Members.{field, keep};
+
+use crate::messages::oneof_options::OneofOptions;
+use buffa_fields::fields::Fields;
+use buffa_fields::kept::{self, KeptFields};
+use buffa_fields::meaning::And3;
+use buffa_fields::member::Member;
+use buffa_fields::message::{Listed, Listing};
+use buffa_fields::nested::Nested;
+use buffa_fields::optional::Optional;
+use buffa_fields::visitor::Visitor;
+use buffa_map::map_codec::Str;
+use buffa_wire::{Blank, DecodeContext, DecodeError, Formed, Tag, UnknownFields};
+use std::alloc::Global;
+use std::string::String;
+
+/// A oneof. Its fields are those of the message whose `oneof_index` names it.
+///
+/// message OneofDescriptorProto {
+///     optional string name = 1;
+///     optional OneofOptions options = 2;
+/// }
+#[derive(Drop)]
+pub struct OneofDescriptorProto {
+    /// Its name.
+    pub name: Option<String>,
+    /// The options of the oneof.
+    pub options: Option<OneofOptions>,
+    /// The fields that aren't declared, in order.
+    pub rest: UnknownFields,
+}
+
+impl Fields for OneofDescriptorProto {
+    type Meaning = And3<Option<[u8; 0]>, Option<<OneofOptions as Blank>::Meaning>, KeptFields>;
+
+    const COST: usize = 88;
+
+    ghost COST = { 88 };
+
+    ghost positive = { lit< tt };
+
+    ghost layout = { field 1 (λ m. m.name) ⟦<Optional<Str> as Member>⟧.shape (
+        field 2 (λ m. m.options) ⟦<Nested<OneofOptions> as Member>⟧.shape (
+        keep (λ m. m.rest.records))) };
+
+    ghost sound = { refl };
+
+    fn visit<V: Visitor>(&self, visitor: &mut V) {
+        visitor.visit::<Optional<Str>>(1, &self.name);
+        visitor.visit::<Nested<OneofOptions>>(2, &self.options);
+        visitor.visit_kept(&self.rest);
+    }
+
+    fn take(
+        &mut self,
+        alloc: Global,
+        tag: Tag,
+        buf: &mut &[u8],
+        ctx: DecodeContext<'_>,
+    ) -> Result<(), DecodeError> {
+        match tag.field_number() {
+            1 => Optional::<Str>::merge(&mut self.name, alloc, tag, buf, ctx),
+            2 => Nested::<OneofOptions>::merge(&mut self.options, alloc, tag, buf, ctx),
+            _ => kept::keep(alloc, &mut self.rest, tag, buf, ctx),
+        }
+    }
+}
+
+impl Blank for OneofDescriptorProto {
+    type Meaning = <OneofDescriptorProto as Fields>::Meaning;
+
+    ghost meaning = { ⟦<OneofDescriptorProto as Fields>⟧.layout.meaning };
+
+    ghost blank_is = { ⟦<OneofDescriptorProto as Fields>⟧.layout.blank };
+
+    fn blank(alloc: Global) -> OneofDescriptorProto {
+        OneofDescriptorProto {
+            name: None,
+            options: None,
+            rest: UnknownFields::new(alloc),
+        }
+    }
+}
+
+impl Listing for OneofDescriptorProto {
+    ghost means = { λ m. refl };
+
+    ghost starts = { refl };
+}
+
+impl Formed for OneofDescriptorProto {
+    type Form = Listed;
+}

@@ -1,0 +1,116 @@
+//! google.protobuf.ServiceDescriptorProto, made of descriptor.proto by protoc-gen-buffa.
+
+ghost use Rattle.std.proofs.Common.{lit<, refl};
+ghost use Rattle.buffa_fields.specs.Members.{field, keep};
+
+use crate::messages::method_descriptor_proto::MethodDescriptorProto;
+use crate::messages::service_options::ServiceOptions;
+use buffa_fields::fields::Fields;
+use buffa_fields::kept::{self, KeptFields};
+use buffa_fields::meaning::And4;
+use buffa_fields::member::Member;
+use buffa_fields::message::{Listed, Listing};
+use buffa_fields::nested::Nested;
+use buffa_fields::optional::Optional;
+use buffa_fields::repeated_nested::RepeatedNested;
+use buffa_fields::visitor::Visitor;
+use buffa_map::map_codec::Str;
+use buffa_wire::{Blank, DecodeContext, DecodeError, Formed, Tag, UnknownFields};
+use std::alloc::Global;
+use std::string::String;
+
+/// A service.
+///
+/// message ServiceDescriptorProto {
+///     optional string name = 1;
+///     repeated MethodDescriptorProto method = 2;
+///     optional ServiceOptions options = 3;
+/// }
+#[derive(Drop)]
+pub struct ServiceDescriptorProto {
+    /// Its name.
+    pub name: Option<String>,
+    /// Its methods.
+    pub method: Vec<MethodDescriptorProto>,
+    /// The options of the service.
+    pub options: Option<ServiceOptions>,
+    /// The fields that aren't declared, in order.
+    pub rest: UnknownFields,
+}
+
+impl Fields for ServiceDescriptorProto {
+    type Meaning = And4<
+        Option<[u8; 0]>,
+        [<MethodDescriptorProto as Blank>::Meaning; 0],
+        Option<<ServiceOptions as Blank>::Meaning>,
+        KeptFields,
+    >;
+
+    const COST: usize = 112;
+
+    ghost COST = { 112 };
+
+    ghost positive = { lit< tt };
+
+    ghost layout = { field 1 (λ m. m.name) ⟦<Optional<Str> as Member>⟧.shape (
+        field 2 (λ m. m.method) ⟦<RepeatedNested<MethodDescriptorProto> as Member>⟧.shape (
+        field 3 (λ m. m.options) ⟦<Nested<ServiceOptions> as Member>⟧.shape (
+        keep (λ m. m.rest.records)))) };
+
+    ghost sound = { refl };
+
+    fn visit<V: Visitor>(&self, visitor: &mut V) {
+        visitor.visit::<Optional<Str>>(1, &self.name);
+        visitor.visit::<RepeatedNested<MethodDescriptorProto>>(2, &self.method);
+        visitor.visit::<Nested<ServiceOptions>>(3, &self.options);
+        visitor.visit_kept(&self.rest);
+    }
+
+    fn take(
+        &mut self,
+        alloc: Global,
+        tag: Tag,
+        buf: &mut &[u8],
+        ctx: DecodeContext<'_>,
+    ) -> Result<(), DecodeError> {
+        match tag.field_number() {
+            1 => Optional::<Str>::merge(&mut self.name, alloc, tag, buf, ctx),
+            2 => RepeatedNested::<MethodDescriptorProto>::merge(
+                &mut self.method,
+                alloc,
+                tag,
+                buf,
+                ctx,
+            ),
+            3 => Nested::<ServiceOptions>::merge(&mut self.options, alloc, tag, buf, ctx),
+            _ => kept::keep(alloc, &mut self.rest, tag, buf, ctx),
+        }
+    }
+}
+
+impl Blank for ServiceDescriptorProto {
+    type Meaning = <ServiceDescriptorProto as Fields>::Meaning;
+
+    ghost meaning = { ⟦<ServiceDescriptorProto as Fields>⟧.layout.meaning };
+
+    ghost blank_is = { ⟦<ServiceDescriptorProto as Fields>⟧.layout.blank };
+
+    fn blank(alloc: Global) -> ServiceDescriptorProto {
+        ServiceDescriptorProto {
+            name: None,
+            method: Vec::new(alloc),
+            options: None,
+            rest: UnknownFields::new(alloc),
+        }
+    }
+}
+
+impl Listing for ServiceDescriptorProto {
+    ghost means = { λ m. refl };
+
+    ghost starts = { refl };
+}
+
+impl Formed for ServiceDescriptorProto {
+    type Form = Listed;
+}
