@@ -29,7 +29,7 @@ use crate::message::{GroupCodec, MessageCodec, MessageIn};
 use crate::record::{Delimited, Grouped, MessageRecord};
 use crate::steps::{ReplayFault, Step};
 pub use crate::strict_laws::{
-    faults_are_these, strict_messages_are_pinned, strict_values_are_pinned,
+    record_faults_are_these, strict_messages_are_pinned, strict_values_are_pinned,
 };
 use buffa_codec::{ExtensionCodec, LastWins, Repeated, SingularCodec};
 use buffa_wire::{Message, MessageSpec};
@@ -200,7 +200,7 @@ pub fn held_encodings_are_these()
 
 /// A default that is declared is what its function makes, and no other; where none is declared there is none.
 /// It may be asked for wherever its function may always be called.
-pub fn defaults_are_these<V, F: Fn(Global) -> Result<V, AllocError>>()
+pub fn derecord_faults_are_these<V, F: Fn(Global) -> Result<V, AllocError>>()
     ensures none_callable { (s : NoDefault) → ⟦<NoDefault as Declared<V>>⟧.can_declare s }
     ensures none { (s : NoDefault) (o : Option V) → ⟦<NoDefault as Declared<V>>⟧.may_declare s o ↔ (o ≡ None) }
     ensures none_refused { (s : NoDefault) → ⟦<NoDefault as Declared<V>>⟧.may_refuse s → ⊥ }

@@ -40,7 +40,7 @@ pub fn strict_messages_are_pinned<K: MessageRecord, M: Message>()
 
 /// The fault of a record: it has another wire type; or, of a string, its bytes are no UTF-8; or, in a list of numbers, it
 /// is that of the first payload of packed bytes that is none.
-pub fn faults_are_these<N: Numbered>()
+pub fn record_faults_are_these<N: Numbered>()
     ensures number { (n : ℕ) (d : Datum) → ⟦<N as StrictSingularCodec>⟧.fault n d
         ≡ unless_found (N.Form.found d) N.Form.WIRE_TYPE n d }
     ensures string { (n : ℕ) (d : Datum) → ⟦<StringCodec as StrictSingularCodec>⟧.fault n d ≡ string_fault n d }

@@ -1,10 +1,12 @@
 -- What an option is read as, or its default.
 use Rattle.std.proofs.Common.{◌≡◌, ◌⊎◌, inl, inr, ℕ, List, [], ◌∷◌, ◌++◌, Option, Some, None, Result, Ok, Err, unwrap_or, refl, sym, subst, Global}
 use Rattle.std.specs.List.{cons_option, filter_map, last_or}
-use Rattle.std.specs.Result.{IsOk, OnErr}
+use Rattle.std.specs.Result.{IfErr, IsOk, OnErr}
 use Rattle.std.specs.declared.alloc.AllocError.{AllocError}
 use Rattle.buffa_wire.specs.Records.{Datum}
 use Rattle.buffa_codec.specs.Decoded.{HasByte, HasLast, last_read}
+use Rattle.buffa_bytes.specs.declared.error.DecodeError.{DecodeError}
+use Rattle.buffa_codec.specs.Strict.{TellsFault}
 use Rattle.buffa_ext.specs.Defaults.{IsDefaulted}
 use Rattle.std.proofs.lemmas.Option.{none-some, same_Some}
 
@@ -59,3 +61,9 @@ byte_of one (x ∷ front) d back o none h = byte_behind o (one x) (filter_map on
 
 pub last_has_byte : (one : Datum → Option (List ℕ)) (ds : List Datum) → HasLast (λ d. HasByte (one d)) one ds → HasByte (last_read one ds)
 last_has_byte one ds (front, d, back, h, none, e) = subst (λ l. HasByte (last_read one l)) (sym e) (byte_of one front d back None none h)
+
+-- a fault is told where no memory is asked for
+pub only_fault : {T : Type 0} (r : Result T DecodeError) (F G : DecodeError → Type 0) (asks : Type 0) → (asks → ⊥) → ((e : DecodeError) → F e → G e) → IfErr r (TellsFault F asks) → IfErr r G
+only_fault (Ok x) F G asks never to h = tt
+only_fault (Err e) F G asks never to (inl h) = to e h
+only_fault (Err e) F G asks never to (inr h) = absurd (never h.1)

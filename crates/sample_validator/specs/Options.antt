@@ -4,11 +4,13 @@ use Rattle.std.specs.Prelude.{ℕ, ℤ, Bool, List, [], ◌∷◌, map, Option, 
 use Rattle.std.specs.List.{flat_map}
 use Rattle.buffa_bytes.specs.Values.{int32_of}
 use Rattle.buffa_bytes.specs.Scalars.{bool_of}
+use Rattle.buffa_bytes.specs.declared.error.DecodeError.{DecodeError}
 use Rattle.buffa_bytes.specs.declared.wire_type.WireType.TheVariants.{Varint}
 use Rattle.buffa_wire.specs.Records.{Datum, varint, bytes}
 use Rattle.buffa_wire.specs.Found.{varint_in}
 use Rattle.buffa_codec.specs.Decoded.{last_read, string_held}
 use Rattle.buffa_codec.specs.Sub.{sub}
+use Rattle.buffa_codec.specs.Strict.{Faultless, FirstFault, unless_found}
 use Rattle.buffa_codec.specs.Packed.{numbers_in}
 
 -- an int32 option of number n: what its last varint says, if it has one
@@ -18,6 +20,17 @@ int32_option n rs = last_read (λ d. option_map int32_of (varint_in d)) (sub n r
 -- a bool option
 abbrev pub bool_option : ℕ → List (ℕ × Datum) → Option Bool
 bool_option n rs = last_read (λ d. option_map bool_of (varint_in d)) (sub n rs)
+
+-- the fault of a record of an int32 or bool option of number n: it is no varint
+abbrev pub varint_fault : ℕ → Datum → Option DecodeError
+varint_fault n d = unless_found (varint_in d) Varint n d
+
+-- each record of the option is read, or this is the fault of the first that isn't
+abbrev pub IsWhole : ℕ → List (ℕ × Datum) → Type 0
+IsWhole n rs = Faultless (varint_fault n) (sub n rs)
+
+abbrev pub IsMalformed : ℕ → List (ℕ × Datum) → DecodeError → Type 0
+IsMalformed n rs e = FirstFault (varint_fault n) (sub n rs) e
 
 -- a string option: the bytes of its last record that is UTF-8
 abbrev pub string_option : ℕ → List (ℕ × Datum) → Option (List ℕ)

@@ -1,8 +1,9 @@
 -- Rules for an int32 value, and which values they accept.
-use Rattle.std.specs.Prelude.{ℕ, ℤ, ◌≡◌, true, false, Option, Some, None, IfSome, unwrap_or, List}
+use Rattle.std.specs.Prelude.{ℕ, ℤ, ◌⊎◌, ◌≡◌, true, false, Option, Some, None, IfSome, unwrap_or, List}
 use Rattle.std.specs.Int.Signed.{◌≤ℤ◌, ◌<ℤ◌}
 use Rattle.buffa_wire.specs.Records.{Datum}
-use Rattle.sample_validator.specs.Options.{int32_option, bool_option}
+use Rattle.buffa_bytes.specs.declared.error.DecodeError.{DecodeError}
+use Rattle.sample_validator.specs.Options.{IsMalformed, IsWhole, int32_option, bool_option}
 use Rattle.sample_validator.specs.declared.rules.Rules.{Rules}
 use Rattle.sample_validator.specs.declared.rules.Violation.{Violation}
 use Rattle.sample_validator.specs.declared.rules.Violation.TheVariants.{Missing, TooSmall, TooGreat}
@@ -19,6 +20,14 @@ BreaksRule rules o TooSmall = (v : ℤ) × (least : ℤ) × (o ≡ Some v) × (r
 BreaksRule rules o TooGreat =
     (v : ℤ) × (most : ℤ) × (o ≡ Some v) × (rules.max ≡ Some most) × (most <ℤ v)
     × IfSome rules.min (λ least. least ≤ℤ v)
+
+-- each record of a rule is read; or this is the fault of the first that isn't, of the least value, the greatest, and whether one
+-- is asked for, in this order
+abbrev pub AreRead : List (ℕ × Datum) → Type 0
+AreRead rs = IsWhole 50011 rs × IsWhole 50012 rs × IsWhole 50013 rs
+
+abbrev pub AreMalformed : List (ℕ × Datum) → DecodeError → Type 0
+AreMalformed rs e = IsMalformed 50011 rs e ⊎ ((IsWhole 50011 rs × IsMalformed 50012 rs e) ⊎ (IsWhole 50011 rs × IsWhole 50012 rs × IsMalformed 50013 rs e))
 
 -- the rules that options set, at numbers 50011 to 50013
 abbrev pub rules_in : List (ℕ × Datum) → Rules

@@ -2,10 +2,11 @@
 
 ghost use Rattle.std.specs.Prelude.{◌≡◌, ◌≢◌, [], codes, refl, pos, unwrap_or};
 ghost use Rattle.std.proofs.Common.{lit<};
-ghost use Rattle.std.specs.Prelude.{IfOk, IsOk, OnErr, option_map, string_bytes};
+ghost use Rattle.std.specs.Prelude.{IfErr, IfOk, IsOk, OnErr, OnOk, option_map, string_bytes};
 ghost use Rattle.buffa_codec.specs.Decoded.{HasByte};
 ghost use Rattle.buffa_fields.specs.Members.{field, keep};
-ghost use Rattle.sample_validator.specs.Options.{bool_option, int32_list, int32_option, string_option};
+ghost use Rattle.sample_validator.specs.Options.{IsMalformed, IsWhole, bool_option, int32_list};
+ghost use Rattle.sample_validator.specs.Options.{int32_option, string_option};
 
 use buffa_codec::{Repeated, StringCodec};
 use buffa_ext::{Extension, ExtensionSet};
@@ -159,6 +160,48 @@ pub fn read_bool(
 {
     let option = Extension::<Bool>::new(number, FieldOptions::PROTO_FQN);
     options.extension(alloc, &option)
+}
+
+/// The same as [`read_int32`], where each record of the number is a varint; none only where there is no record.
+///
+/// # Errors
+/// [`DecodeError::WireTypeMismatch`] of the first record that is no varint. It takes no memory.
+///
+/// ```ignore
+/// let least = read_int32_strictly(alloc, options, 50011)?; // Some(1)
+/// ```
+pub fn read_int32_strictly(
+    alloc: Global,
+    options: &FieldOptions,
+    number: u32,
+) -> Result<Option<i32>, DecodeError>
+    ensures value { IfOk result (λ o. o ≡ int32_option number options.now.fields.records) }
+    ensures whole { OnOk result (IsWhole number options.now.fields.records) }
+    ensures fault { IfErr result (IsMalformed number options.now.fields.records) }
+{
+    let strict = Extension::<Int32>::new(number, FieldOptions::PROTO_FQN);
+    options.read_extension(alloc, &strict)
+}
+
+/// The same as [`read_bool`], where each record of the number is a varint; none only where there is no record.
+///
+/// # Errors
+/// [`DecodeError::WireTypeMismatch`] of the first record that is no varint. It takes no memory.
+///
+/// ```ignore
+/// let required = read_bool_strictly(alloc, options, 50013)?; // Some(true)
+/// ```
+pub fn read_bool_strictly(
+    alloc: Global,
+    options: &FieldOptions,
+    number: u32,
+) -> Result<Option<bool>, DecodeError>
+    ensures value { IfOk result (λ o. o ≡ bool_option number options.now.fields.records) }
+    ensures whole { OnOk result (IsWhole number options.now.fields.records) }
+    ensures fault { IfErr result (IsMalformed number options.now.fields.records) }
+{
+    let strict = Extension::<Bool>::new(number, FieldOptions::PROTO_FQN);
+    options.read_extension(alloc, &strict)
 }
 
 /// The option `int32 max_length = 50001`, or 255 where no record says it.

@@ -1,10 +1,11 @@
 //! A validator that the options of a field drive.
 
-ghost use Rattle.std.specs.Prelude.{◌≡◌, ◌↔◌, IfOk, IfErr, IsOk};
-ghost use Rattle.sample_validator.specs.Rules.{Accepts, BreaksRule, rules_in};
+ghost use Rattle.std.specs.Prelude.{◌≡◌, ◌↔◌, IfOk, IfErr, IsOk, OnOk};
+ghost use Rattle.sample_validator.specs.Rules.{Accepts, AreMalformed, AreRead, BreaksRule, rules_in};
 
-use crate::options::{FieldOptions, read_bool, read_int32};
-use std::alloc::{AllocError, Global};
+use crate::options::{FieldOptions, read_bool_strictly, read_int32_strictly};
+use buffa_wire::DecodeError;
+use std::alloc::Global;
 
 /// What a field of type `int32` may hold.
 ///
@@ -39,19 +40,20 @@ pub enum Violation {
 /// The rules that the options `int32 min = 50011`, `int32 max = 50012` and `bool required = 50013` set.
 ///
 /// # Errors
-/// None: reading numbers takes no memory.
+/// The first fault of an option, in this order: a malformed limit is no limit left out. Reading numbers takes no memory.
 ///
 /// ```ignore
 /// let found = read_rules(alloc, options)?; // min 1, max 9, required
 /// ```
-pub fn read_rules(alloc: Global, options: &FieldOptions) -> Result<Rules, AllocError>
+pub fn read_rules(alloc: Global, options: &FieldOptions) -> Result<Rules, DecodeError>
     ensures value { IfOk result (λ r. r ≡ rules_in options.now.fields.records) }
-    ensures always { IsOk result }
+    ensures whole { OnOk result (AreRead options.now.fields.records) }
+    ensures fault { IfErr result (AreMalformed options.now.fields.records) }
 {
     Ok(Rules {
-        min: read_int32(alloc, options, 50011)?,
-        max: read_int32(alloc, options, 50012)?,
-        required: read_bool(alloc, options, 50013)?.unwrap_or(false),
+        min: read_int32_strictly(alloc, options, 50011)?,
+        max: read_int32_strictly(alloc, options, 50012)?,
+        required: read_bool_strictly(alloc, options, 50013)?.unwrap_or(false),
     })
 }
 
@@ -90,7 +92,7 @@ pub fn judge(rules: &Rules, value: Option<i32>) -> Result<(), Violation>
 /// Judges the value of a field by its options: of a value that isn't accepted, the first rule that it breaks.
 ///
 /// # Errors
-/// None: reading the rules takes no memory.
+/// That of [`read_rules`], where an option is malformed.
 ///
 /// ```ignore
 /// let judged = validate(alloc, &options, value)?; // Ok(()) for Some(5), where 1 to 9 are allowed
@@ -99,10 +101,11 @@ pub fn validate(
     alloc: Global,
     options: &FieldOptions,
     value: Option<i32>,
-) -> Result<Result<(), Violation>, AllocError>
+) -> Result<Result<(), Violation>, DecodeError>
     ensures judged { IfOk result (λ judged. IsOk judged ↔ Accepts (rules_in options.now.fields.records) value) }
     ensures why { IfOk result (λ judged. IfErr judged (BreaksRule (rules_in options.now.fields.records) value)) }
-    ensures always { IsOk result }
+    ensures whole { OnOk result (AreRead options.now.fields.records) }
+    ensures fault { IfErr result (AreMalformed options.now.fields.records) }
 {
     let rules = read_rules(alloc, options)?;
     Ok(judge(&rules, value))

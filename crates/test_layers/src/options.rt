@@ -93,6 +93,19 @@ fn values_are_free_without_options(rt: HostRuntime) -> Result<(), Fail> {
     Ok(())
 }
 
+#[test]
+fn a_malformed_limit_is_no_limit_left_out(rt: HostRuntime) -> Result<(), Fail> {
+    let alloc = rt.alloc();
+    let malformed = options_of(alloc, b"\xE2\xB5\x18\x01\x05")?;
+    let fault = DecodeError::WireTypeMismatch {
+        field_number: 50012,
+        expected: WireType::Varint,
+        actual: WireType::LengthDelimited,
+    };
+    assert!(rt; validate(alloc, &malformed, Some(12)) == Err(fault));
+    Ok(())
+}
+
 // The price -3, in a record.
 const PRICE: [u8; 4] = [0xA8, 0xB6, 0x18, 0x05];
 

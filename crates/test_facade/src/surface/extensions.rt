@@ -4,7 +4,7 @@ use crate::labelled::{Labelled, labelled_of};
 use buffa::extension::codecs::{Int32, PackedRepeated, Repeated, StringCodec};
 use buffa::extension::{
     Declared, Extension, ExtensionCodec, ExtensionSet, Make, NoDefault, PackableCodec, ReplayFault,
-    SingularCodec, Step, replay,
+    SingularCodec, Step, StrictCodec, StrictElementCodec, StrictSingularCodec, replay,
 };
 use buffa::{Budget, DecodeContext, RECURSION_LIMIT, UnknownFieldData, UnknownFields};
 use std::alloc::{AllocError, Global};
@@ -91,6 +91,17 @@ fn codecs_of_one_record(rt: HostRuntime) -> Result<(), Fail> {
     assert!(rt; read == Some(5));
     let none = <StringCodec as SingularCodec>::decode_one(rt.alloc(), &payload)?;
     assert!(rt; none.is_none());
+    Ok(())
+}
+
+#[test]
+fn strict_codecs(rt: HostRuntime) -> Result<(), Fail> {
+    let payload = UnknownFieldData::Varint(5);
+    assert!(rt; <Int32 as StrictSingularCodec>::fault(1, &payload).is_none());
+    let mut budget = Budget::new(0);
+    <Int32 as StrictElementCodec>::check_element(rt.alloc(), 1, &payload, &mut budget)?;
+    let fields = UnknownFields::decode_from_slice(rt.alloc(), &[0x08, 5])?;
+    assert!(rt; <Int32 as StrictCodec>::decode_strictly(rt.alloc(), 1, &fields)? == Some(5));
     Ok(())
 }
 
