@@ -1,5 +1,5 @@
 -- What the laws of members that put records aside say.
-use Rattle.std.proofs.Common.{◌≡◌, ◌==◌, ℕ, ℤ, Bool, true, false, List, [], ◌++◌, length, cond, Option, Some, None, Result, Ok, Err, refl, sym, ap, subst, ◌∙◌, zero-add}
+use Rattle.std.proofs.Common.{◌≡◌, ℕ, ℤ, Bool, true, false, List, [], ◌++◌, length, cond, Option, Some, None, Result, Ok, Err, refl, sym, ap, subst, ◌∙◌, zero-add}
 use Rattle.std.proofs.lemmas.Bool.{eq-eqb}
 use Rattle.std.specs.Option.{option_map}
 use Rattle.buffa_bytes.proofs.FieldLemmas.{same_true}
@@ -16,7 +16,7 @@ use Rattle.buffa_map.specs.declared.map_entry.MapEntry.{MapEntry}
 use Rattle.buffa_wire.specs.BudgetLeft.{nothing, plus, unknown_fields}
 use Rattle.buffa_wire.specs.ByField.{value_of}
 use Rattle.buffa_wire.specs.Enums.{Numbers}
-use Rattle.buffa_fields.specs.Aside.{Aside, Kept, TookBeside}
+use Rattle.buffa_fields.specs.Aside.{Aside, Kept}
 use Rattle.buffa_fields.specs.Entries.{entry_cost, entry_taken}
 use Rattle.buffa_fields.specs.InsideFacts.{delimited_alone}
 use Rattle.buffa_fields.specs.KeptLists.{kept_numbers_cost, kept_numbers_taken, numbers_put, undeclared_of, varints}
@@ -24,23 +24,13 @@ use Rattle.buffa_fields.specs.KeptListFacts.{sifted_costs}
 use Rattle.buffa_fields.specs.KeptMaps.{kept_entry_cost, kept_pair_cost, kept_pair_taken, put_or_keep}
 use Rattle.buffa_fields.specs.KeptNumberFacts.{number_taken, set}
 use Rattle.buffa_fields.specs.KeptNumbers.{kept_number_cost, kept_number_taken, number_put}
-use Rattle.buffa_fields.specs.Layout.{Choice, Layout, Shape}
+use Rattle.buffa_fields.specs.Layout.{Layout, Shape}
 use Rattle.buffa_fields.specs.Lists.{elements_taken}
 use Rattle.buffa_fields.specs.MapFields.{pair_cost}
-use Rattle.buffa_fields.specs.Members.{field, field_kept}
-use Rattle.buffa_fields.specs.Pinned.{GoesAside, LeavesAlone}
+use Rattle.buffa_fields.specs.Members.{field_kept}
+use Rattle.buffa_fields.specs.Pinned.{GoesAside}
 
 -- ---- a member that puts records aside, in front of others that keep fields
--- a field of its number leaves another member, behind it, as it is
-pub leaves_alone : {M P Q A B C : Type 0} (k j : ℕ) (get : M → P) (other : M → Q) (s : Shape P A) (a : Aside A) (o : Shape Q B) (l : Layout M C) →
-    LeavesAlone (field_kept k get s a (field j other o l)).Taken k other
-leaves_alone {M} k j get other s a o l d old w bs before r new after rest h = at (k == k) (eq-eqb k k refl) h
-  where
-    at : (t : Bool) → t ≡ true → Choice t (TookBeside s a d (get old) (l.kept (l.meaning old)) k w bs before r (get new) (l.kept (l.meaning new)) after rest × ((other new ≡ other old) × l.SameBut old new))
-        ((get new ≡ get old) × (field j other o l).Taken d old k w bs before r new after rest) → other new ≡ other old
-    at true is h = h.1.0
-    at false is h = cc
-
 pub goes_aside : {M P A B : Type 0} (k : ℕ) (get : M → P) (s : Shape P A) (a : Aside A) (l : Layout M B) → l.keeps ≡ true → GoesAside s a l (field_kept k get s a l) k
 goes_aside k get s a l keeps d x w p u rs h = (
   (u, l.adds x.1 rs),

@@ -37,6 +37,7 @@ pub trait Keeping: Member {
         ensures { TookBeside Self.shape aside ctx.entry.depth part.old kept.old.records tag.number tag.wire_type buf.old.now
             ctx.entry.budget.now result part.new kept.new.records (budget_left ctx.exit) buf.new.now };
 
-    /// The value's own records read back, and so do those that were put aside.
+    /// The value's own records read back, and so do those that were put aside. Both nest exactly as deep as they say, where
+    /// the messages in the value do.
     ghost kept_back: { ReadsBackBeside Self.shape aside };
 }

@@ -79,6 +79,6 @@ pub trait Member {
         ensures { Took shape ctx.entry.depth part.old tag.number tag.wire_type buf.old.now ctx.entry.budget.now result
             part.new (budget_left ctx.exit) buf.new.now };
 
-    /// The encoding reads back.
+    /// The encoding reads back, and the value nests exactly as deep as it says, where the messages in it do.
     ghost back: { ReadsBackTo shape };
 }
