@@ -1,5 +1,5 @@
 -- A tree that nests deeper than the depth isn't merged.
-use Rattle.std.proofs.Common.{◌≡◌, ℕ, zero, suc, ℤ, pos, negsuc, FitsSigned, ◌^◌, ◌<◌, ◌≤◌, List, [], ◌∷◌, ◌++◌, length, length-append, None, Some, Result, Ok, Err, refl, sym, ap, ◌∙◌, arith, append-nil}
+use Rattle.std.proofs.Common.{◌≡◌, ℕ, zero, suc, ℤ, pos, negsuc, FitsSigned, ◌<◌, ◌≤◌, [], ◌++◌, None, Some, Result, Ok, Err, refl, sym, ap, ◌∙◌, arith, append-nil}
 use Rattle.std.specs.Int.{w32}
 use Rattle.std.specs.List.{AllByRecursion}
 use Rattle.buffa_bytes.proofs.DelimitedLemmas.{delimited_taken}
@@ -12,31 +12,23 @@ use Rattle.buffa_wire.specs.Message.{merged_in}
 use Rattle.buffa_wire.specs.Parse.{Fits}
 use Rattle.buffa_wire.specs.Records.{bytes, records_of}
 use Rattle.buffa_wire.specs.Takes.{merged_of}
-use Rattle.buffa_map.proofs.ChildrenLemmas.{short_children}
 use Rattle.buffa_map.proofs.LowLemmas.{AreEntriesRead, IsEntryRead, IsTakenBySome, deep_is_refused, records_taken}
-use Rattle.buffa_map.specs.Children.{AreShort, Children, child, child_entry, child_reading, children_encoding, children_of, children_records, no_child}
+use Rattle.buffa_map.specs.Children.{AreShort, Children, child, child_entry, child_reading, children_records, no_child}
 use Rattle.buffa_map.specs.Entry.{entry_of}
 use Rattle.buffa_map.specs.Scalars.{int32_reading}
 use Rattle.buffa_map.specs.declared.map_entry.MapEntry.{MapEntry}
-use Rattle.sample_types.specs.Fields.{value_encoding}
 use Rattle.sample_types.specs.Grown.{Grown, blank_tree, grown}
-use Rattle.sample_types.specs.TreeBackFacts.{short_tree}
-use Rattle.sample_types.specs.TreeEncoding.{IsNormalTree, tree_around, tree_encoding, tree_levels, tree_levels_over, tree_records}
+use Rattle.sample_types.specs.TreeBackFacts.{IsShortTree, tree_is_short, short_tree}
+use Rattle.sample_types.specs.TreeEncoding.{IsNormalTree, tree_encoding, tree_levels, tree_levels_over, tree_records}
 use Rattle.sample_types.specs.TreeFacts.{tree_encoding_records, tree_merged_is}
 use Rattle.sample_types.specs.TreeMeaning.{tree_merged, tree_takes}
 
 -- ---- one whose entries aren't too long has records that fit
-abbrev IsShort : Grown → Type 0
-IsShort t = AreShort tree_encoding (children_of t)
-
-short_by_length : (t : Grown) → IsNormalTree t → length (tree_encoding t) < 2 ^ 64 → IsShort t
-short_by_length (grown l cs) n h = short_children 2 tree_around cs (omega (arith, h, length-append (value_encoding l) (children_encoding 2 tree_around cs)))
-
 children_fit : (cs : Children ℤ) → AreShort tree_encoding cs → Fits (records_of (children_records tree_encoding 2 cs))
 children_fit no_child s = tt
 children_fit (child k t cs) s = ((omega arith, omega arith), s.0, children_fit cs s.1)
 
-tree_fits : (t : Grown) → IsShort t → IsNormalTree t → Fits (records_of (tree_records t))
+tree_fits : (t : Grown) → IsShortTree t → IsNormalTree t → Fits (records_of (tree_records t))
 tree_fits (grown (pos zero) cs) s n = children_fit cs s
 tree_fits (grown (pos (suc l)) cs) s n = ((omega arith, omega arith), int32_below (pos (suc l)) n.0, children_fit cs s)
 tree_fits (grown (negsuc l) cs) s n = ((omega arith, omega arith), int32_below (negsuc l) n.0, children_fit cs s)
@@ -63,7 +55,7 @@ module _ (d : ℕ) where
   all_entries (pos (suc l)) cs h = entries_read cs h.1
   all_entries (negsuc l) cs h = entries_read cs h.1
 
-tree_low : (d : ℕ) (l : ℤ) (cs : Children ℤ) (x : Grown) → IsShort (grown l cs) → IsNormalTree (grown l cs) → tree_merged d blank_tree (tree_encoding (grown l cs)) ≡ Some x →
+tree_low : (d : ℕ) (l : ℤ) (cs : Children ℤ) (x : Grown) → IsShortTree (grown l cs) → IsNormalTree (grown l cs) → tree_merged d blank_tree (tree_encoding (grown l cs)) ≡ Some x →
     ((n : ℕ) → n ≤ d → tree_levels_over l n ≤ d) × AreEntriesRead blank_tree tree_encoding d (merged_in tree_merged d) cs
 tree_low d l cs x s n h =
     let t : Grown = grown l cs in
@@ -71,4 +63,4 @@ tree_low d l cs x s n h =
     (λ k low. low, all_entries d l cs taken.1)
 
 pub deep_tree_is_refused : (d : ℕ) (t : Grown) → Fits (records_of (tree_records t)) → IsNormalTree t → d < tree_levels t → tree_merged d blank_tree (tree_encoding t) ≡ None
-deep_tree_is_refused d t fits n h = deep_is_refused blank_tree tree_encoding tree_levels_over (FitsSigned w32) IsShort tree_merged short_by_length (λ t s. s) tree_low d t (short_tree t fits) n h
+deep_tree_is_refused d t fits n h = deep_is_refused blank_tree tree_encoding tree_levels_over (FitsSigned w32) IsShortTree tree_merged tree_is_short (λ t s. s) tree_low d t (short_tree t fits) n h

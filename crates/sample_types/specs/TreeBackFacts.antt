@@ -68,11 +68,11 @@ module _ (d : ℕ) (m : ChildMeaning Grown) where
       ∙ children_read cs l [] h n.1 ∙ ap (λ z. Some (grown l z)) (children_in-listed cs)
 
 -- ---- entries that aren't too long
-abbrev IsShortTree : Grown → Type 0
+abbrev pub IsShortTree : Grown → Type 0
 IsShortTree t = AreShort tree_encoding (children_of t)
 
-short_encoding : (t : Grown) → IsNormalTree t → length (tree_encoding t) < 2 ^ 64 → IsShortTree t
-short_encoding (grown l cs) n h = short_children 2 tree_around cs (omega (arith, h, length-append (value_encoding l) (children_encoding 2 tree_around cs)))
+pub tree_is_short : (t : Grown) → IsNormalTree t → length (tree_encoding t) < 2 ^ 64 → IsShortTree t
+tree_is_short (grown l cs) n h = short_children 2 tree_around cs (omega (arith, h, length-append (value_encoding l) (children_encoding 2 tree_around cs)))
 
 pub short_tree : (t : Grown) → Fits (records_of (tree_records t)) → IsShortTree t
 short_tree (grown (pos zero) cs) h = short_records tree_encoding 2 cs h
@@ -85,4 +85,4 @@ level_read zero t short n low h = tree_read zero (λ _ _. None) t n h
 level_read (suc d) t short n low h = tree_read (suc d) (tree_merged d) t n h
 
 pub tree_back : (d : ℕ) (t : Grown) → Fits (records_of (tree_records t)) → IsNormalTree t → tree_levels t ≤ d → tree_merged d blank_tree (tree_encoding t) ≡ Some t
-tree_back d t fits n h = family_back blank_tree tree_encoding tree_levels_over (FitsSigned w32) IsShortTree tree_merged (λ l k. omega arith) short_encoding (λ t s. s) level_read d t (short_tree t fits) n h
+tree_back d t fits n h = family_back blank_tree tree_encoding tree_levels_over (FitsSigned w32) IsShortTree tree_merged (λ l k. omega arith) tree_is_short (λ t s. s) level_read d t (short_tree t fits) n h
