@@ -6,7 +6,7 @@ use Rattle.std.specs.declared.alloc.AllocError.{AllocError}
 use Rattle.buffa_wire.specs.Records.{Datum}
 use Rattle.buffa_codec.specs.Decoded.{HasByte, HasLast, last_read}
 use Rattle.buffa_bytes.specs.declared.error.DecodeError.{DecodeError}
-use Rattle.buffa_codec.specs.Strict.{TellsFault}
+use Rattle.buffa_codec.specs.Strict.{IsFaultOrFull}
 use Rattle.buffa_ext.specs.Defaults.{IsDefaulted}
 use Rattle.std.proofs.lemmas.Option.{none-some, same_Some}
 
@@ -63,7 +63,7 @@ pub last_has_byte : (one : Datum → Option (List ℕ)) (ds : List Datum) → Ha
 last_has_byte one ds (front, d, back, h, none, e) = subst (λ l. HasByte (last_read one l)) (sym e) (byte_of one front d back None none h)
 
 -- a fault is told where no memory is asked for
-pub only_fault : {T : Type 0} (r : Result T DecodeError) (F G : DecodeError → Type 0) (asks : Type 0) → (asks → ⊥) → ((e : DecodeError) → F e → G e) → IfErr r (TellsFault F asks) → IfErr r G
+pub only_fault : {T : Type 0} (r : Result T DecodeError) (F G : DecodeError → Type 0) (asks : Type 0) → (asks → ⊥) → ((e : DecodeError) → F e → G e) → IfErr r (IsFaultOrFull F asks) → IfErr r G
 only_fault (Ok x) F G asks never to h = tt
 only_fault (Err e) F G asks never to (inl h) = to e h
 only_fault (Err e) F G asks never to (inr h) = absurd (never h.1)
