@@ -145,8 +145,8 @@ module _ (e : Numbers) {X : Type 0} (reads : Taker (List ℕ)) (puts : X → Lis
     )
 
     -- more are undeclared than unknown fields were left
-    pub some_cost : (few : before.unknown < (numbers_cost e n ks).unknown) → 0 < (sifted_cost e reads d n w bs).unknown
-    some_cost few = subst (λ (z : BudgetLeft). 0 < z.unknown) (sym cost_is) (omega (arith, few))
+    pub some_cost : (few : before.unknown < (numbers_cost e n ks).unknown) → before.unknown < (sifted_cost e reads d n w bs).unknown
+    some_cost few = subst (λ (z : BudgetLeft). before.unknown < z.unknown) (sym cost_is) few
 
 -- ---- lists
 -- where varints are read of a payload, it has one whole
@@ -195,7 +195,7 @@ module _ (e : Numbers) (d n : ℕ) (w : WireType) (bs : List ℕ) (before : Budg
   unfolding kept_numbers_taken kept_numbers_cost
   numbers_unread f read = unread e (elements_taken varints) (λ vs us. vs ++ us) d n w bs before old kept f items before rest (fresh (Err f) read)
 
-  pub unread_refused : (f g : DecodeError) → RefusesElements varints d (map (λ k. k) start) n w bs f (map (λ k. k) items) → (let r : answer = Err f in r ≡ Err g) → RefusesKeptNumbers e d old n w bs g old
+  pub unread_refused : (f g : DecodeError) → RefusesElements varints d (map (λ k. k) start) n w bs f (map (λ k. k) items) → (let r : answer = Err f in r ≡ Err g) → RefusesKeptNumbers e d old n w bs before g old
   unread_refused f g h same =
       (refl, λ ne. inl (map (λ k. k) items, subst (λ z. RefusesElements varints d [] n w bs z (map (λ k. k) items)) (err_same same) (subst (λ z. RefusesElements varints d z n w bs f (map (λ k. k) items)) (map-id start ∙ none) h)))
 
@@ -219,7 +219,7 @@ module _ (e : Numbers) (d n : ℕ) (w : WireType) (bs : List ℕ) (before : Budg
         subst (λ z. ElementsTakeMemory varints d n w z) (sym all.2) (elements_ask d n w all.0 rest items all.1 all.3 (λ h. some (same ∙ h)))
     numbers_full (Err f) (inr (limit, few)) = λ full. let two = sym limit ∙ full in cc
 
-    pub numbers_refused : (r : answer) → Put r → OnErr r (old ≡ new) → (f : DecodeError) → r ≡ Err f → RefusesKeptNumbers e d old n w bs f new
+    pub numbers_refused : (r : answer) → Put r → OnErr r (old ≡ new) → (f : DecodeError) → r ≡ Err f → RefusesKeptNumbers e d old n w bs before f new
     unfolding kept_numbers_cost
     numbers_refused (Ok _) h stays f told = cc
     numbers_refused (Err g) h stays f told = (

@@ -1,5 +1,6 @@
 -- What is proved of entries of a map field that are put or put aside, or refused.
 use Rattle.std.proofs.Common.{◌≡◌, inl, inr, ℕ, Bool, List, Result, Ok, Err, refl, sym, ap, subst, ◌∙◌, arith}
+use Rattle.std.specs.Prelude.{OnErr}
 use Rattle.buffa_bytes.proofs.WireLemmas.{checked_same}
 use Rattle.buffa_bytes.specs.declared.error.DecodeError.{DecodeError}
 use Rattle.buffa_bytes.specs.declared.error.DecodeError.TheVariants.{OutOfMemory}
@@ -50,8 +51,13 @@ module _ {K V : Type 0} (key : Reading K) (val : Reading V) (same : K → K → 
   kept_full left checked f full (e, rest, is, inr (enough, inr (s, entry, inr kept))) = (checked_same n LengthDelimited w checked, e, rest, is, inr (inr (s, entry, inr kept.1)))
 
   -- ---- what is told of a refused one
-  pub kept_other : (ps : List (K × V)) (f e : DecodeError) → check_wire n LengthDelimited w ≡ Err f → f ≡ e → RefusesKeptPair key val cost d ps n w bs e ps
-  kept_other ps f e told is = (refl, λ ne. inl (told ∙ ap (λ z. Err z) is))
+  pub kept_other : (ps : List (K × V)) (left : BudgetLeft) (f e : DecodeError) → check_wire n LengthDelimited w ≡ Err f → f ≡ e → RefusesKeptPair key val cost d ps n w bs left e ps
+  kept_other ps left f e told is = (refl, λ ne. inl (told ∙ ap (λ z. Err z) is))
 
-  pub kept_refused : (rest : List ℕ) (s t : State K V) → check_wire n LengthDelimited w ≡ Ok tt → (f e : DecodeError) → f ≡ e → RefusesEntry by s bs t rest f → RefusesKeptPair key val cost d s.pairs n w bs e t.pairs
-  kept_refused rest s t checked f e is k = (sym k.pairs, λ ne. inr (checked_same n LengthDelimited w checked, s.left, subst (λ z. EntryFault key val d cost 1 s.left bs z) is (k.fault (λ full. ne (sym is ∙ full)))))
+  pub kept_refused : (rest : List ℕ) (s t : State K V) → check_wire n LengthDelimited w ≡ Ok tt → (f e : DecodeError) → f ≡ e → RefusesEntry by s bs t rest f → RefusesKeptPair key val cost d s.pairs n w bs s.left e t.pairs
+  kept_refused rest s t checked f e is k = (sym k.pairs, λ ne. inr (checked_same n LengthDelimited w checked, subst (λ z. EntryFault key val d cost 1 s.left bs z) is (k.fault (λ full. ne (sym is ∙ full)))))
+
+-- what a refusal leaves, of this refusal
+pub when_refused : {T P : Type 0} (r : Result T DecodeError) (e : DecodeError) → OnErr r P → r ≡ Err e → P
+when_refused (Ok _) e h is = cc
+when_refused (Err f) e h is = h

@@ -137,9 +137,9 @@ module _ (e : Numbers) (d n : ℕ) (w : WireType) (bs : List ℕ) (before : Budg
       unfolding IsFieldKept
       aside_full r keeps after over h = full_weaker (KeepTakesMemory before.unknown d n w bs) (KeptNumberTakesMemory e before.unknown d n w bs) r h.2 (λ asks. (wire, k, rest, there, is, asks))
 
-      pub aside_refused : (r : Answer) (keeps : Kept) (after : BudgetLeft) (over : List ℕ) → IsFieldKept d kept n w bs before r keeps after over → (f : DecodeError) → r ≡ Err f → RefusesKeptNumber e d old n w bs f old
+      pub aside_refused : (r : Answer) (keeps : Kept) (after : BudgetLeft) (over : List ℕ) → IsFieldKept d kept n w bs before r keeps after over → (f : DecodeError) → r ≡ Err f → RefusesKeptNumber e d old n w bs before f old
       unfolding IsFieldKept
-      aside_refused r keeps after over h f told = (refl, λ ne. inr (inr (k, rest, there, is, before.unknown, (h.4 f told ne).0)))
+      aside_refused r keeps after over h f told = (refl, λ ne. inr (inr (k, rest, there, is, (h.4 f told ne).0)))
 
       pub aside_stays : (r : Answer) (keeps : Kept) (after : BudgetLeft) (over : List ℕ) → IsFieldKept d kept n w bs before r keeps after over → OnErr r (kept ≡ keeps)
       unfolding IsFieldKept

@@ -49,8 +49,8 @@ module _ {K V : Type 0} (key : Reading K) (val : Reading V) (same : K → K → 
   map_full d n w bs left checked f full (e, rest, is, inr (enough, inr (s, entry, inr kept))) = absurd (kept.0 refl)
 
   -- it isn't put, where it is of another wire type
-  pub other_refused : (d : ℕ) (ps : List (K × V)) (n : ℕ) (w : WireType) (bs : List ℕ) (f e : DecodeError) → check_wire n LengthDelimited w ≡ Err f → f ≡ e → RefusesPair key val cost d ps n w bs e ps
-  other_refused d ps n w bs f e told is = (refl, λ ne. inl (told ∙ ap (λ z. Err z) is))
+  pub other_refused : (d : ℕ) (ps : List (K × V)) (n : ℕ) (w : WireType) (bs : List ℕ) (left : BudgetLeft) (f e : DecodeError) → check_wire n LengthDelimited w ≡ Err f → f ≡ e → RefusesPair key val cost d ps n w bs left e ps
+  other_refused d ps n w bs left f e told is = (refl, λ ne. inl (told ∙ ap (λ z. Err z) is))
 
   module _ (d n : ℕ) (w : WireType) (bs rest : List ℕ) (s t : State K V) (checked : check_wire n LengthDelimited w ≡ Ok tt) where
     -- ---- an entry is taken
@@ -66,8 +66,8 @@ module _ {K V : Type 0} (key : Reading K) (val : Reading V) (same : K → K → 
         n w old new bs rest s t checked limits f t.left k refl k.spent.most (omega (arith, k.spent.least))
 
     -- nor where it is refused, and tells its fault
-    pub map_refused : (f e : DecodeError) → f ≡ e → RefusesEntry (dropping key val same keeps d 0 cost) s bs t rest f → RefusesPair key val cost d s.pairs n w bs e t.pairs
-    map_refused f e is k = (sym k.pairs, λ ne. inr (checked_same n LengthDelimited w checked, s.left, subst (λ z. EntryFault key val d cost 0 s.left bs z) is (k.fault (λ full. ne (sym is ∙ full)))))
+    pub map_refused : (f e : DecodeError) → f ≡ e → RefusesEntry (dropping key val same keeps d 0 cost) s bs t rest f → RefusesPair key val cost d s.pairs n w bs s.left e t.pairs
+    map_refused f e is k = (sym k.pairs, λ ne. inr (checked_same n LengthDelimited w checked, subst (λ z. EntryFault key val d cost 0 s.left bs z) is (k.fault (λ full. ne (sym is ∙ full)))))
 
 -- ---- the size
 module _ {K V : Type 0} (kw : Writing K) (vw : Writing V) (is : SizeIsLength kw vw) (n t total : ℕ) (l m : List (K × V)) (walk : l ≡ m) (tag : t ≡ length (tag_encoding n LengthDelimited)) (sum : total ≡ saturated (field_size kw vw t l)) where

@@ -9,6 +9,7 @@ use Rattle.buffa_bytes.specs.declared.error.DecodeError.{DecodeError}
 use Rattle.buffa_bytes.specs.Gives.{FullOnlyIf}
 use Rattle.buffa_bytes.specs.Number.{IsNumber}
 use Rattle.buffa_wire.specs.BudgetLeft.{BudgetLeft}
+use Rattle.buffa_wire.specs.Message.{FieldRefused}
 use Rattle.buffa_wire.specs.Parse.{Fits, IsPayload}
 use Rattle.buffa_wire.specs.Records.{Datum, records_of}
 use Rattle.buffa_wire.specs.Encoding.{records_encoding, wire_of}
@@ -30,14 +31,14 @@ kept_among adds b x = (x.0, adds b x.1)
 
 -- What a member puts aside, where its value means an X: what a payload makes of the value and of the records that are
 -- kept beside it, where that may ask for memory with so many unknown fields left, and what it costs, an unknown field for each
--- record that is put aside too; what is said of a refused field, which puts nothing aside; which data may have been put aside
+-- record that is put aside too; what is said of a refused field under a budget, which puts nothing aside; which data may have been put aside
 -- under its number, and the levels at which they are again. All else is as the member's shape has it: the value's own records,
 -- which alone are written in its place, its slots, its levels.
 pub record Aside (X : Type 0) : Type 1 where
   pub takes : Taker (X × Kept)
   pub asks : ℕ → Asks
   pub need : Need
-  pub refuses : ℕ → X → ℕ → WireType → List ℕ → DecodeError → X → Type 0
+  pub refuses : FieldRefused X
   pub IsAside : Datum → Type 0
   pub levels : Datum → ℕ
   pub stays : Stays need
@@ -68,7 +69,7 @@ TookBeside s a d old kept n w bs before r new keeps after rest =
     IsTaken a.takes a.need d (s.meaning old, kept) n w bs before r (s.meaning new, keeps) after rest
     × FullOnlyIf r (a.asks before.unknown d n w bs)
     × ((e : DecodeError) → s.checks n w ≡ Err e → (r ≡ Err e) × (s.meaning old ≡ s.meaning new) × (kept ≡ keeps) × (bs ≡ rest))
-    × ((e : DecodeError) → r ≡ Err e → a.refuses d (s.meaning old) n w bs e (s.meaning new) × (kept ≡ keeps))
+    × ((e : DecodeError) → r ≡ Err e → a.refuses d (s.meaning old) n w bs before e (s.meaning new) × (kept ≡ keeps))
 
 -- ---- in a list of members
 

@@ -14,13 +14,14 @@ use Rattle.buffa_fields.specs.Exit.{Exit}
 use Rattle.buffa_map.specs.Codec.{Reading}
 use Rattle.buffa_map.specs.Scalars.{number_reading}
 use Rattle.buffa_wire.specs.BudgetLeft.{BudgetLeft, Pays, budget_left, need_by, unknown_fields}
+use Rattle.buffa_wire.specs.Message.{FieldRefused}
 use Rattle.buffa_wire.specs.Enums.{Numbers}
 use Rattle.buffa_wire.specs.Records.{varint}
 use Rattle.buffa_wire.specs.Takes.{IsTaken, Need, Taker, framed}
 use Rattle.buffa_wire.specs.declared.context.DecodeContext.{DecodeContext}
 use Rattle.buffa_fields.specs.Aside.{Kept}
 use Rattle.buffa_fields.specs.Lists.{elements_taken}
-use Rattle.buffa_fields.specs.Refusals.{Refusal, RefusesElements}
+use Rattle.buffa_fields.specs.Refusals.{RefusesElements}
 use denote.Ref.{Bor}
 
 -- varints as they are read: numbers of 64 bits
@@ -64,10 +65,10 @@ module _ (e : Numbers) where
 
   -- What is told of a refused field: the list stays. Unless memory ran out, the fault of the field as one of varints, or that more of
   -- them are undeclared than unknown fields are left.
-  abbrev pub RefusesKeptNumbers : Refusal (List ℤ)
-  RefusesKeptNumbers d old n w bs f new =
+  abbrev pub RefusesKeptNumbers : FieldRefused (List ℤ)
+  RefusesKeptNumbers d old n w bs left f new =
       (old ≡ new)
-      × (f ≢ OutOfMemory → ((ks : List ℕ) × RefusesElements varints d [] n w bs f ks) ⊎ ((f ≡ UnknownFieldLimitExceeded) × (0 < (kept_numbers_cost d n w bs).unknown)))
+      × (f ≢ OutOfMemory → ((ks : List ℕ) × RefusesElements varints d [] n w bs f ks) ⊎ ((f ≡ UnknownFieldLimitExceeded) × (left.unknown < (kept_numbers_cost d n w bs).unknown)))
 
   -- ---- a call that put varints so, and spent as much; or memory ran out, or more are undeclared than unknown fields were left
   abbrev pub PutsNumbers : {X T : Type 0} → (X → List ℤ → X) → ℕ → List ℕ → X × Kept → BudgetLeft → Result T DecodeError → X × Kept → BudgetLeft → Type 0

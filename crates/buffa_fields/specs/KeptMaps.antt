@@ -12,6 +12,7 @@ use Rattle.buffa_fields.specs.Exit.{Exit}
 use Rattle.buffa_map.specs.Pairs.{means}
 use denote.Ref.{Bor}
 use Rattle.buffa_wire.specs.BudgetLeft.{BudgetLeft, budget_left, nothing, plus, unknown_fields}
+use Rattle.buffa_wire.specs.Message.{FieldRefused}
 use Rattle.buffa_wire.specs.ByField.{value_of}
 use Rattle.buffa_wire.specs.Records.{Datum, bytes}
 use Rattle.buffa_wire.specs.Takes.{Asks, IsTaken, Need, Taker}
@@ -23,7 +24,6 @@ use Rattle.buffa_map.specs.declared.map_entry.MapEntry.{MapEntry}
 use Rattle.buffa_fields.specs.Aside.{Kept}
 use Rattle.buffa_fields.specs.Entries.{entry_cost, entry_taken}
 use Rattle.buffa_fields.specs.MapFields.{stepped}
-use Rattle.buffa_fields.specs.Refusals.{Refusal}
 
 module _ {K V : Type 0} (key : Reading K) (val : Reading V) where
   -- ---- what is read
@@ -56,11 +56,11 @@ module _ {K V : Type 0} (key : Reading K) (val : Reading V) where
       ⊎ ((s : MapEntry K V) × IsEntry key val d e s × ((s.known ≡ true) ⊎ ((need_of key val d cost e).unknown + 1 ≤ left)))))
 
   -- A refused entry isn't put: the pairs are as they were. Unless memory ran out, the wire type is told, or the fault that the entry
-  -- has at some budget, where an undeclared one takes an unknown field.
-  abbrev pub RefusesKeptPair : ℕ → Refusal (List (K × V))
-  RefusesKeptPair cost d old n w bs e new =
+  -- has under this budget, where an undeclared one takes an unknown field.
+  abbrev pub RefusesKeptPair : ℕ → FieldRefused (List (K × V))
+  RefusesKeptPair cost d old n w bs left e new =
       (old ≡ new)
-      × (e ≢ OutOfMemory → (check_wire n LengthDelimited w ≡ Err e) ⊎ ((w ≡ LengthDelimited) × (left : BudgetLeft) × EntryFault key val d cost 1 left bs e))
+      × (e ≢ OutOfMemory → (check_wire n LengthDelimited w ≡ Err e) ⊎ ((w ≡ LengthDelimited) × EntryFault key val d cost 1 left bs e))
 
   -- ---- what may stand among the records that are kept
 

@@ -16,11 +16,11 @@ use Rattle.buffa_fields.specs.Keep.{KeepTakesMemory}
 use Rattle.std.specs.Option.{option_map}
 use denote.Ref.{Bor}
 use Rattle.buffa_wire.specs.BudgetLeft.{BudgetLeft, budget_left, nothing, unknown_fields}
+use Rattle.buffa_wire.specs.Message.{FieldRefused}
 use Rattle.buffa_wire.specs.Enums.{Numbers}
 use Rattle.buffa_wire.specs.Records.{Datum, varint}
 use Rattle.buffa_wire.specs.Takes.{Asks, IsTaken, Need, Taker}
 use Rattle.buffa_fields.specs.Aside.{Kept}
-use Rattle.buffa_bytes.specs.declared.wire_type.WireType.{WireType}
 
 module _ (e : Numbers) where
   -- whether the low 32 bits of a varint are a declared number
@@ -72,11 +72,11 @@ module _ (e : Numbers) where
       (w ≡ Varint) × (k : ℕ) × (rest : List ℕ) × (varint_at bs ≡ Ok (k, rest)) × IsUndeclaredNumber k × KeepTakesMemory left d n w bs
 
   -- what is told of a refused one: the value stays; the wire type, the varint's fault, or, of an undeclared number, that of keeping it
-  abbrev pub RefusesKeptNumber : ℕ → Option ℤ → ℕ → WireType → List ℕ → DecodeError → Option ℤ → Type 0
-  RefusesKeptNumber d old n w bs f new =
+  abbrev pub RefusesKeptNumber : FieldRefused (Option ℤ)
+  RefusesKeptNumber d old n w bs left f new =
       (old ≡ new)
       × (f ≢ OutOfMemory → (check_wire n Varint w ≡ Err f) ⊎ ((varint_at bs ≡ Err f)
-      ⊎ ((k : ℕ) × (rest : List ℕ) × (varint_at bs ≡ Ok (k, rest)) × IsUndeclaredNumber k × (left : ℕ) × (field_at d left n w bs ≡ Err f))))
+      ⊎ ((k : ℕ) × (rest : List ℕ) × (varint_at bs ≡ Ok (k, rest)) × IsUndeclaredNumber k × (field_at d left.unknown n w bs ≡ Err f))))
 
 -- ---- a call that took the field whose tag was read: a declared number is the value, an undeclared one went behind these records
 abbrev pub TakesKeptNumber : {A D T : Type 0} → Numbers → Tag → DecodeContext → Exit D → Option A → Kept → Option A → Kept → Bor (List ℕ) → Bor (List ℕ) → Result T DecodeError → (A → ℤ) → Type 0

@@ -14,6 +14,7 @@ use Rattle.buffa_bytes.specs.Left.{past_no_payload}
 use Rattle.buffa_bytes.specs.Number.{IsNumber}
 use Rattle.buffa_wire.specs.Parse.{Fits, IsPayload}
 use Rattle.buffa_wire.specs.Cache.{Cache}
+use Rattle.buffa_wire.specs.Message.{FieldRefused}
 use Rattle.buffa_wire.specs.Passes.{IsNext, IsSized, IsWritten}
 use Rattle.buffa_wire.specs.RecordReading.{field_at}
 use Rattle.buffa_wire.specs.Records.{Datum, height, records_of}
@@ -33,8 +34,8 @@ pub record Shape (P X : Type 0) : Type 1 where
   pub takes : Taker X
   -- what is told of the number and the wire type of a field: that the member takes it, or the fault
   pub checks : ℕ → WireType → Result (Unit {0}) DecodeError
-  -- what is said of a refused field: of its fault, and of the value then
-  pub refuses : ℕ → X → ℕ → WireType → List ℕ → DecodeError → X → Type 0
+  -- what is said of a refused field: of its fault under a budget, and of the value then
+  pub refuses : FieldRefused X
   pub asks : Asks
   pub need : Need
   pub records : ℕ → X → List (ℕ × Datum)
@@ -64,7 +65,7 @@ unfoldable pub Took : {P X : Type 0} → Shape P X → ℕ → P → ℕ → Wir
 Took s d old n w bs before r new after rest =
     IsTaken s.takes s.need d (s.meaning old) n w bs before r (s.meaning new) after rest
     × FullOnlyIf r (s.asks d n w bs) × ((e : DecodeError) → s.checks n w ≡ Err e → (r ≡ Err e) × (s.meaning old ≡ s.meaning new) × (bs ≡ rest))
-    × ((e : DecodeError) → r ≡ Err e → s.refuses d (s.meaning old) n w bs e (s.meaning new))
+    × ((e : DecodeError) → r ≡ Err e → s.refuses d (s.meaning old) n w bs before e (s.meaning new))
 
 -- a field is refused by the fault of its bytes, or as one too many; unread is what stands where no payload does, and all
 -- of it where none may be kept, or no level is left for a group

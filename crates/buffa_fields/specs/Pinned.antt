@@ -4,12 +4,11 @@ use Rattle.buffa_bytes.specs.declared.wire_type.WireType.{WireType}
 use Rattle.buffa_bytes.specs.declared.error.DecodeError.{DecodeError}
 use Rattle.buffa_bytes.specs.Field.{Payload}
 use Rattle.buffa_wire.specs.BudgetLeft.{BudgetLeft, plus, unknown_fields}
-use Rattle.buffa_wire.specs.Message.{FieldTaken}
+use Rattle.buffa_wire.specs.Message.{FieldRefused, FieldTaken}
 use Rattle.buffa_wire.specs.Records.{Datum}
 use Rattle.buffa_wire.specs.Takes.{Asks, Need, Taker}
 use Rattle.buffa_fields.specs.Aside.{Aside, Kept, TookBeside}
 use Rattle.buffa_fields.specs.Layout.{Choice, IsFieldKept, Layout, Passed, Shape, Took}
-use Rattle.buffa_fields.specs.Refusals.{Refusal}
 
 -- two say the same of each field
 abbrev pub TakeAlike : {M : Type 0} → FieldTaken M → FieldTaken M → Type 0
@@ -50,12 +49,13 @@ GoesAside {A = A} {B = B} s a others all k =
 
 -- a member puts aside so: what a payload makes of its value and of the records beside it, where that may ask for memory, what it costs, what
 -- is said of a refused field, and which data may have been put aside, at which levels
-abbrev pub PutsAside : {X : Type 0} → Aside X → Taker (X × Kept) → (ℕ → Asks) → Need → Refusal X → (Datum → Type 0) → (Datum → ℕ) → Type 0
+abbrev pub PutsAside : {X : Type 0} → Aside X → Taker (X × Kept) → (ℕ → Asks) → Need → FieldRefused X → (Datum → Type 0) → (Datum → ℕ) → Type 0
 PutsAside {X = X} a takes asks need refuses IsAside levels =
     (a.takes ≡ takes)
     × ((s d n : ℕ) (w : WireType) (bs : List ℕ) → a.asks s d n w bs ↔ asks s d n w bs)
     × (a.need ≡ need)
-    × ((d : ℕ) (old : X) (n : ℕ) (w : WireType) (bs : List ℕ) (e : DecodeError) (new : X) → a.refuses d old n w bs e new ↔ refuses d old n w bs e new)
+    × ((d : ℕ) (old : X) (n : ℕ) (w : WireType) (bs : List ℕ) (left : BudgetLeft) (e : DecodeError) (new : X) →
+    a.refuses d old n w bs left e new ↔ refuses d old n w bs left e new)
     × ((x : Datum) → a.IsAside x ↔ IsAside x)
     × (a.levels ≡ levels)
 

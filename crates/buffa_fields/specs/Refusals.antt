@@ -7,7 +7,7 @@ use Rattle.buffa_bytes.specs.declared.wire_type.WireType.{WireType}
 use Rattle.buffa_bytes.specs.declared.wire_type.WireType.TheVariants.{LengthDelimited, StartGroup}
 use Rattle.buffa_bytes.specs.Front.{check_wire, delimited_at}
 use Rattle.buffa_wire.specs.BudgetLeft.{BudgetLeft}
-use Rattle.buffa_wire.specs.Message.{BeginsField}
+use Rattle.buffa_wire.specs.Message.{BeginsField, FieldRefused}
 use Rattle.buffa_map.specs.Codec.{Reading}
 use Rattle.buffa_map.specs.Entry.{EntryFault}
 use Rattle.buffa_map.specs.Pairs.{means}
@@ -21,26 +21,34 @@ use denote.Ref.{Bor}
 abbrev pub Refusal : Type 0 → Type 1
 Refusal X = ℕ → X → ℕ → WireType → List ℕ → DecodeError → X → Type 0
 
--- a member type says this of refused fields
+-- the same under any budget
+abbrev pub UnderAny : {X : Type 0} → Refusal X → FieldRefused X
+UnderAny refuses d old n w bs left e new = refuses d old n w bs e new
+
+-- a member type says this of refused fields under a budget; and this whatever the budget
+abbrev pub RefusesUnder : {P X : Type 0} → Shape P X → FieldRefused X → Type 0
+RefusesUnder {X = X} s refuses =
+    (d : ℕ) (old : X) (n : ℕ) (w : WireType) (bs : List ℕ) (left : BudgetLeft) (e : DecodeError) (new : X) →
+    s.refuses d old n w bs left e new ↔ refuses d old n w bs left e new
+
 abbrev pub RefusesAs : {P X : Type 0} → Shape P X → Refusal X → Type 0
-RefusesAs {X = X} s refuses =
-    (d : ℕ) (old : X) (n : ℕ) (w : WireType) (bs : List ℕ) (e : DecodeError) (new : X) → s.refuses d old n w bs e new ↔ refuses d old n w bs e new
+RefusesAs s refuses = RefusesUnder s (UnderAny refuses)
 
 -- a call that took the field whose tag was read, where it was refused
 abbrev pub RefusesTaggedField : {X T : Type 0} → Refusal X → Tag → ℕ → X → X → Bor (List ℕ) → Result T DecodeError → Type 0
 RefusesTaggedField refuses tag d old new before r = (e : DecodeError) → r ≡ Err e → refuses d old tag.number tag.wire_type before.now e new
 
 -- A refused entry isn't put: the pairs are as they were. Unless memory ran out, the wire type is told, or the fault that the
--- entry has at some budget: of its length, of the units left, or the first of its fields; any, where a message in it lacks some.
-abbrev pub RefusesPair : {K V : Type 0} → Reading K → Reading V → ℕ → Refusal (List (K × V))
-RefusesPair key val cost d old n w bs e new =
+-- entry has under this budget: of its length, of the units left, or the first of its fields; any, where a message in it lacks some.
+abbrev pub RefusesPair : {K V : Type 0} → Reading K → Reading V → ℕ → FieldRefused (List (K × V))
+RefusesPair key val cost d old n w bs left e new =
     (old ≡ new)
-    × (e ≢ OutOfMemory → (check_wire n LengthDelimited w ≡ Err e) ⊎ ((w ≡ LengthDelimited) × (left : BudgetLeft) × EntryFault key val d cost 0 left bs e))
+    × (e ≢ OutOfMemory → (check_wire n LengthDelimited w ≡ Err e) ⊎ ((w ≡ LengthDelimited) × EntryFault key val d cost 0 left bs e))
 
 -- the same of a call, where keys and values mean so, and a pair costs so many units
-abbrev pub RefusesPairIn : {A B T K V : Type 0} → Tag → ℕ → List (A × B) → List (A × B) → Bor (List ℕ) → Result T DecodeError → (A → K) → (B → V) → Reading K → Reading V → ℕ → Type 0
-RefusesPairIn tag d old new before r key_means val_means key val cost =
-    RefusesTaggedField (RefusesPair key val cost) tag d (means key_means val_means old) (means key_means val_means new) before r
+abbrev pub RefusesPairIn : {A B T K V : Type 0} → Tag → ℕ → BudgetLeft → List (A × B) → List (A × B) → Bor (List ℕ) → Result T DecodeError → (A → K) → (B → V) → Reading K → Reading V → ℕ → Type 0
+RefusesPairIn tag d left old new before r key_means val_means key val cost =
+    (e : DecodeError) → r ≡ Err e → RefusesPair key val cost d (means key_means val_means old) tag.number tag.wire_type before.now left e (means key_means val_means new)
 
 -- ---- lists
 module _ {V : Type 0} (codec : Reading V) where

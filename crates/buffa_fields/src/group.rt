@@ -15,7 +15,7 @@ ghost use Rattle.buffa_fields.specs.Groups.{GroupTakesMemory, group_cost, group_
 ghost use Rattle.buffa_fields.specs.GroupFacts.{group_member_back, group_stays};
 ghost use Rattle.buffa_wire.proofs.ByPayloadLemmas.{by_payload, merged_fields};
 ghost use Rattle.buffa_fields.specs.Nested.{message_levels, message_slots};
-ghost use Rattle.buffa_fields.specs.Refusals.{RefusesTaggedField, RefusesGroup, RefusesInGroup};
+ghost use Rattle.buffa_fields.specs.Refusals.{RefusesGroup, RefusesInGroup, RefusesTaggedField, UnderAny};
 ghost use Rattle.buffa_fields.specs.Values.{IfThere};
 ghost use Rattle.buffa_fields.specs.LevelKindFacts.{group_member_low, group_numbers};
 ghost use Rattle.buffa_fields.specs.Levels.{AreExactLevels};
@@ -170,7 +170,7 @@ impl<N: Message> Member for Group<N> {
       takes = group_taken N.blank_is N.merged;
       checks = λ n w. check_wire n StartGroup w;
       asks = GroupTakesMemory;
-      refuses = RefusesGroup;
+      refuses = UnderAny RefusesGroup;
       need = group_cost N.cost;
       records = group_records N.records;
       slots = message_slots N.encoding N.slots;

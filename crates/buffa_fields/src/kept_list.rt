@@ -145,7 +145,8 @@ fn take_numbers<E: Enumeration>(
         × (map E.meaning values.old.items ≡ map E.meaning values.new.items) × (kept.old.records ≡ kept.new.records)
         × (buf.old.now ≡ buf.new.now) }
     ensures refused { (e : _) → result ≡ Err e → RefusesKeptNumbers (numbers E.of_number E.blank_is) ctx.entry.depth
-        (map E.meaning values.old.items) tag.number tag.wire_type buf.old.now e (map E.meaning values.new.items) }
+        (map E.meaning values.old.items) tag.number tag.wire_type buf.old.now ctx.entry.budget.now e
+        (map E.meaning values.new.items) }
     ensures stays { OnErr result (kept.old.records ≡ kept.new.records) }
 {
     let DecodeContext { depth, budget } = ctx;

@@ -38,7 +38,8 @@ fn take_number<E: Enumeration>(
         × (option_map E.meaning part.old ≡ option_map E.meaning part.new) × (kept.old.records ≡ kept.new.records)
         × (buf.old.now ≡ buf.new.now) }
     ensures refused { (e : _) → result ≡ Err e → RefusesKeptNumber (numbers E.of_number E.blank_is) ctx.entry.depth
-        (option_map E.meaning part.old) tag.number tag.wire_type buf.old.now e (option_map E.meaning part.new) }
+        (option_map E.meaning part.old) tag.number tag.wire_type buf.old.now ctx.entry.budget.now e
+        (option_map E.meaning part.new) }
     ensures stays { OnErr result (kept.old.records ≡ kept.new.records) }
 {
     match check_wire_type(tag, WireType::Varint) {

@@ -46,7 +46,7 @@ where
         × (means KC.Value.meaning VC.Value.meaning map.old.entries ≡ means KC.Value.meaning VC.Value.meaning map.new.entries)
         × (kept.old.records ≡ kept.new.records) × (buf.old.now ≡ buf.new.now) }
     ensures refused { (e : _) → result ≡ Err e → RefusesKeptPair KC.reading VC.reading (KC.COST + VC.COST) ctx.entry.depth
-        (means KC.Value.meaning VC.Value.meaning map.old.entries) tag.number tag.wire_type buf.old.now e
+        (means KC.Value.meaning VC.Value.meaning map.old.entries) tag.number tag.wire_type buf.old.now ctx.entry.budget.now e
         (means KC.Value.meaning VC.Value.meaning map.new.entries) }
     ensures stays { OnErr result (kept.old.records ≡ kept.new.records) }
 {

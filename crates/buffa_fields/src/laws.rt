@@ -38,7 +38,7 @@ ghost use Rattle.buffa_fields.specs.Stands.{IsMemberRefused};
 ghost use Rattle.buffa_fields.specs.RepeatedNested.{MessagesTakeMemory, messages_cost, messages_levels, messages_records, messages_slots, messages_taken};
 ghost use Rattle.buffa_fields.specs.OrderedMaps.{KeysAscend};
 ghost use Rattle.buffa_fields.specs.RepeatedGroups.{GroupsTakeMemory, groups_cost, groups_taken};
-ghost use Rattle.buffa_fields.specs.Refusals.{RefusesAs, RefusesElements, RefusesGroup, RefusesMessage, RefusesNew, RefusesPair};
+ghost use Rattle.buffa_fields.specs.Refusals.{RefusesAs, RefusesElements, RefusesGroup, RefusesMessage, RefusesNew, RefusesPair, RefusesUnder};
 ghost use Rattle.buffa_fields.specs.MemberRecords.{optional_records, plain_records};
 ghost use Rattle.buffa_wire.specs.Takes.{cost_of, merged_of};
 ghost use Rattle.buffa_fields.specs.Pinned.{AmongKept, CostsEach, GoesAside, KeepingOrOthers, LeavesAlone, MemberOrOthers, PassedOver, PutsAside, TakeAlike};
@@ -82,8 +82,7 @@ pub fn plain_members_are_these<C: ProtoType>()
     ensures checks { (n : ℕ) (w : _) → ⟦<Plain<C> as Member>⟧.shape.checks n w ≡ check_wire n C.WIRE_TYPE w }
     ensures asks { (d n : ℕ) (w : _) (bs : List ℕ) → ⟦<Plain<C> as Member>⟧.shape.asks d n w bs
         ↔ (ValueTakesMemory C.reading d n w bs) }
-    ensures refuses { (d n : ℕ) (old new : _) (w : _) (bs : List ℕ) (e : _) →
-        ⟦<Plain<C> as Member>⟧.shape.refuses d old n w bs e new ↔ RefusesAlone C.reading (λ v. v) d old n w bs e new }
+    ensures refuses { RefusesAs ⟦<Plain<C> as Member>⟧.shape (RefusesAlone C.reading (λ v. v)) }
     ensures need { ⟦<Plain<C> as Member>⟧.shape.need ≡ free }
     ensures records { (n : ℕ) (v : _) → ⟦<Plain<C> as Member>⟧.shape.records n v
         ≡ plain_records C.is_blank C.datum n v }
@@ -100,9 +99,7 @@ pub fn optional_members_are_these<C: ProtoType>()
     ensures checks { (n : ℕ) (w : _) → ⟦<Optional<C> as Member>⟧.shape.checks n w ≡ check_wire n C.WIRE_TYPE w }
     ensures asks { (d n : ℕ) (w : _) (bs : List ℕ) → ⟦<Optional<C> as Member>⟧.shape.asks d n w bs
         ↔ (ValueTakesMemory C.reading d n w bs) }
-    ensures refuses { (d n : ℕ) (old new : _) (w : _) (b : List ℕ) (e : _) →
-        ⟦<Optional<C> as Member>⟧.shape.refuses d old n w b e new
-        ↔ RefusesAlone C.reading (λ _. C.reading.blank) d old n w b e new }
+    ensures refuses { RefusesAs ⟦<Optional<C> as Member>⟧.shape (RefusesAlone C.reading (λ _. C.reading.blank)) }
     ensures need { ⟦<Optional<C> as Member>⟧.shape.need ≡ free }
     ensures records { (n : ℕ) (v : _) → ⟦<Optional<C> as Member>⟧.shape.records n v ≡ optional_records C.datum n v }
     ensures slots { (v : _) → ⟦<Optional<C> as Member>⟧.shape.slots v ≡ [] }
@@ -225,7 +222,7 @@ where
         ≡ check_wire n WireType.LengthDelimited w }
     ensures asks { (d n : ℕ) (w : _) (bs : List ℕ) → ⟦<MapOf<KC, VC> as Member>⟧.shape.asks d n w bs
         ↔ (PairTakesMemory KC.reading VC.reading d n w bs) }
-    ensures refuses { RefusesAs ⟦<MapOf<KC, VC> as Member>⟧.shape
+    ensures refuses { RefusesUnder ⟦<MapOf<KC, VC> as Member>⟧.shape
         (RefusesPair KC.reading VC.reading (KC.COST + VC.COST)) }
     ensures need { ⟦<MapOf<KC, VC> as Member>⟧.shape.need ≡ pair_cost KC.reading VC.reading (KC.COST + VC.COST) }
     ensures records { (n : ℕ) (v : _) → ⟦<MapOf<KC, VC> as Member>⟧.shape.records n v
@@ -250,7 +247,7 @@ where
         ≡ check_wire n WireType.LengthDelimited w }
     ensures asks { (d n : ℕ) (w : _) (bs : List ℕ) → ⟦<MapOfNested<KC, N> as Member>⟧.shape.asks d n w bs
         ↔ (PairTakesMemory KC.reading (message_reading N.blank_is N.merged N.cost) d n w bs) }
-    ensures refuses { RefusesAs ⟦<MapOfNested<KC, N> as Member>⟧.shape
+    ensures refuses { RefusesUnder ⟦<MapOfNested<KC, N> as Member>⟧.shape
         (RefusesPair KC.reading (message_reading N.blank_is N.merged N.cost) (KC.COST + N.COST)) }
     ensures need { ⟦<MapOfNested<KC, N> as Member>⟧.shape.need
         ≡ pair_cost KC.reading (message_reading N.blank_is N.merged N.cost) (KC.COST + N.COST) }
@@ -278,7 +275,7 @@ where
         ≡ check_wire n WireType.LengthDelimited w }
     ensures asks { (d n : ℕ) (w : _) (bs : List ℕ) → ⟦<OrderedMapOf<KC, VC> as Member>⟧.shape.asks d n w bs
         ↔ (PairTakesMemory KC.reading VC.reading d n w bs) }
-    ensures refuses { RefusesAs ⟦<OrderedMapOf<KC, VC> as Member>⟧.shape
+    ensures refuses { RefusesUnder ⟦<OrderedMapOf<KC, VC> as Member>⟧.shape
         (RefusesPair KC.reading VC.reading (KC.COST + VC.COST)) }
     ensures need { ⟦<OrderedMapOf<KC, VC> as Member>⟧.shape.need ≡ pair_cost KC.reading VC.reading (KC.COST + VC.COST) }
     ensures records { (n : ℕ) (v : _) → ⟦<OrderedMapOf<KC, VC> as Member>⟧.shape.records n v
@@ -303,7 +300,7 @@ where
         ≡ check_wire n WireType.LengthDelimited w }
     ensures asks { (d n : ℕ) (w : _) (bs : List ℕ) → ⟦<OrderedMapOfNested<KC, N> as Member>⟧.shape.asks d n w bs
         ↔ (PairTakesMemory KC.reading (message_reading N.blank_is N.merged N.cost) d n w bs) }
-    ensures refuses { RefusesAs ⟦<OrderedMapOfNested<KC, N> as Member>⟧.shape
+    ensures refuses { RefusesUnder ⟦<OrderedMapOfNested<KC, N> as Member>⟧.shape
         (RefusesPair KC.reading (message_reading N.blank_is N.merged N.cost) (KC.COST + N.COST)) }
     ensures need { ⟦<OrderedMapOfNested<KC, N> as Member>⟧.shape.need
         ≡ pair_cost KC.reading (message_reading N.blank_is N.merged N.cost) (KC.COST + N.COST) }

@@ -59,8 +59,8 @@ where
     ensures wire { ChecksWire tag WireType.LengthDelimited result
         (means KC.Value.meaning VC.Value.meaning map.old.entries)
         (means KC.Value.meaning VC.Value.meaning map.new.entries) buf.old buf.new }
-    ensures refused { RefusesPairIn tag ctx.entry.depth map.old.entries map.new.entries buf.old result KC.Value.meaning
-        VC.Value.meaning KC.reading VC.reading (KC.COST + VC.COST) }
+    ensures refused { RefusesPairIn tag ctx.entry.depth ctx.entry.budget.now map.old.entries map.new.entries buf.old result
+        KC.Value.meaning VC.Value.meaning KC.reading VC.reading (KC.COST + VC.COST) }
 {
     limits_are_told_where_needs_are_not_left::<KC, VC>();
     match check_wire_type(tag, WireType::LengthDelimited) {

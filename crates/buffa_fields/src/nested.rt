@@ -14,7 +14,7 @@ ghost use Rattle.buffa_fields.specs.Calls.{ChecksWire, TakesIn};
 ghost use Rattle.buffa_fields.specs.MemberCalls.{WritesMessage};
 ghost use Rattle.buffa_fields.specs.Nested.{FitsInside, MessageTakesMemory, message_cost, message_merged, message_levels, message_records, message_slots, message_taken};
 ghost use Rattle.buffa_fields.specs.NestedFacts.{TellsLength, head, nested_back, message_stays};
-ghost use Rattle.buffa_fields.specs.Refusals.{RefusesTaggedField, RefusesInside, RefusesMessage};
+ghost use Rattle.buffa_fields.specs.Refusals.{RefusesInside, RefusesMessage, RefusesTaggedField, UnderAny};
 ghost use Rattle.buffa_fields.specs.Values.{IfThere};
 ghost use Rattle.buffa_fields.specs.LevelKindFacts.{message_numbers, nested_low};
 ghost use Rattle.buffa_fields.specs.Levels.{AreExactLevels};
@@ -138,7 +138,7 @@ impl<N: Message> Member for Nested<N> {
       blank = None;
       takes = message_taken N.blank_is N.merged;
       checks = λ n w. check_wire n LengthDelimited w;
-      refuses = RefusesMessage;
+      refuses = UnderAny RefusesMessage;
       asks = MessageTakesMemory;
       need = message_cost N.cost;
       records = message_records N.encoding;

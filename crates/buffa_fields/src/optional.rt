@@ -3,6 +3,7 @@
 ghost use Rattle.std.specs.Prelude.{[], None, refl, not};
 ghost use Rattle.std.specs.Option.{option_map};
 ghost use Rattle.buffa_bytes.specs.Front.{check_wire};
+ghost use Rattle.buffa_fields.specs.Refusals.{UnderAny};
 ghost use Rattle.buffa_fields.specs.Values.{IfThere, RefusesAlone, ValueTakesMemory, free, some_taken};
 ghost use Rattle.buffa_fields.specs.ValueFacts.{some_back};
 ghost use Rattle.buffa_fields.specs.MemberRecords.{optional_records};
@@ -35,7 +36,7 @@ impl<C: ProtoType> Member for Optional<C> {
       blank = None;
       takes = some_taken C.reading;
       checks = λ n w. check_wire n C.WIRE_TYPE w;
-      refuses = RefusesAlone C.reading (λ _. C.reading.blank);
+      refuses = UnderAny (RefusesAlone C.reading (λ _. C.reading.blank));
       asks = ValueTakesMemory C.reading;
       need = free;
       records = optional_records C.datum;

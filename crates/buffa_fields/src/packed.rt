@@ -11,7 +11,7 @@ ghost use Rattle.buffa_bytes.specs.Written.{Writes};
 ghost use Rattle.buffa_map.specs.Encoding.{saturated};
 ghost use Rattle.buffa_fields.specs.Lists.{ElementsTakeMemory, check_list_wire, elements_taken, packed_records};
 ghost use Rattle.buffa_fields.specs.ListFacts.{packed_field_back};
-ghost use Rattle.buffa_fields.specs.Refusals.{RefusesElements};
+ghost use Rattle.buffa_fields.specs.Refusals.{RefusesElements, UnderAny};
 ghost use Rattle.buffa_fields.specs.Values.{free};
 ghost use Rattle.buffa_fields.specs.LevelKindFacts.{exact_flat, packed_numbers};
 
@@ -171,7 +171,7 @@ impl<C: Packable> Member for Packed<C> {
       blank = [];
       takes = elements_taken C.reading;
       checks = λ n w. check_list_wire n C.WIRE_TYPE w;
-      refuses = RefusesElements C.reading;
+      refuses = UnderAny (RefusesElements C.reading);
       asks = ElementsTakeMemory C.reading;
       need = free;
       records = packed_records C.writing.encoding;

@@ -2,6 +2,7 @@
 
 ghost use Rattle.std.specs.Prelude.{[], refl, not};
 ghost use Rattle.buffa_bytes.specs.Front.{check_wire};
+ghost use Rattle.buffa_fields.specs.Refusals.{UnderAny};
 ghost use Rattle.buffa_fields.specs.Values.{RefusesAlone, ValueTakesMemory, free, value_taken};
 ghost use Rattle.buffa_fields.specs.ValueFacts.{plain_back};
 ghost use Rattle.buffa_fields.specs.MemberRecords.{plain_records};
@@ -34,7 +35,7 @@ impl<C: ProtoType> Member for Plain<C> {
       blank = C.Value.blank_is;
       takes = value_taken C.reading;
       checks = λ n w. check_wire n C.WIRE_TYPE w;
-      refuses = RefusesAlone C.reading (λ v. v);
+      refuses = UnderAny (RefusesAlone C.reading (λ v. v));
       asks = ValueTakesMemory C.reading;
       need = free;
       records = plain_records C.is_blank C.datum;

@@ -4,7 +4,7 @@ ghost use Rattle.std.specs.Prelude.{[], map, refl, not};
 ghost use Rattle.std.specs.List.{AllByRecursion};
 ghost use Rattle.buffa_fields.specs.Lists.{ElementsTakeMemory, check_list_wire, element_records, elements_taken};
 ghost use Rattle.buffa_fields.specs.ListFacts.{elements_back};
-ghost use Rattle.buffa_fields.specs.Refusals.{RefusesElements};
+ghost use Rattle.buffa_fields.specs.Refusals.{RefusesElements, UnderAny};
 ghost use Rattle.buffa_fields.specs.Values.{free};
 ghost use Rattle.buffa_fields.specs.LevelKindFacts.{element_numbers, exact_flat};
 
@@ -36,7 +36,7 @@ impl<C: ProtoType> Member for Repeated<C> {
       blank = [];
       takes = elements_taken C.reading;
       checks = λ n w. check_list_wire n C.WIRE_TYPE w;
-      refuses = RefusesElements C.reading;
+      refuses = UnderAny (RefusesElements C.reading);
       asks = ElementsTakeMemory C.reading;
       need = free;
       records = element_records C.datum;

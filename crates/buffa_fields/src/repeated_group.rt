@@ -16,9 +16,9 @@ ghost use Rattle.buffa_fields.specs.RepeatedGroups.{GroupsTakeMemory, groups_cos
 ghost use Rattle.buffa_fields.specs.RepeatedGroupFacts.{groups_back, groups_stay};
 ghost use Rattle.buffa_fields.specs.RepeatedNested.{messages_levels, messages_slots};
 ghost use Rattle.buffa_wire.proofs.ByPayloadLemmas.{by_payload, merged_fields};
-ghost use Rattle.buffa_fields.specs.Refusals.{RefusesTaggedField, RefusesNew};
 ghost use Rattle.buffa_fields.specs.LevelKindFacts.{groups_low, groups_numbers};
 ghost use Rattle.buffa_fields.specs.Levels.{AreExactLevels};
+ghost use Rattle.buffa_fields.specs.Refusals.{RefusesNew, RefusesTaggedField, UnderAny};
 
 use crate::group::{group_len, take_group, write_group};
 use crate::member::Member;
@@ -148,7 +148,7 @@ impl<N: Message> Member for RepeatedGroup<N> {
       takes = groups_taken N.blank_is N.merged;
       checks = λ n w. check_wire n StartGroup w;
       asks = GroupsTakeMemory;
-      refuses = RefusesNew;
+      refuses = UnderAny RefusesNew;
       need = groups_cost N.COST N.cost;
       records = element_records (group_datum N.records);
       slots = messages_slots N.encoding N.slots;

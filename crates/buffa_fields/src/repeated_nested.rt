@@ -13,9 +13,9 @@ ghost use Rattle.buffa_fields.specs.MemberCalls.{WritesMessageList};
 ghost use Rattle.buffa_fields.specs.Nested.{FitsInside, MessageTakesMemory, message_merged};
 ghost use Rattle.buffa_fields.specs.RepeatedNested.{MessagesTakeMemory, messages_cost, messages_levels, messages_records, messages_slots, messages_taken};
 ghost use Rattle.buffa_fields.specs.RepeatedNestedFacts.{messages_back, messages_stay};
-ghost use Rattle.buffa_fields.specs.Refusals.{RefusesTaggedField, RefusesNew};
 ghost use Rattle.buffa_fields.specs.LevelKindFacts.{messages_low, messages_numbers};
 ghost use Rattle.buffa_fields.specs.Levels.{AreExactLevels};
+ghost use Rattle.buffa_fields.specs.Refusals.{RefusesNew, RefusesTaggedField, UnderAny};
 
 use crate::member::Member;
 use crate::nested::{message_len, write_message};
@@ -142,7 +142,7 @@ impl<N: Message> Member for RepeatedNested<N> {
       blank = [];
       takes = messages_taken N.blank_is N.merged;
       checks = λ n w. check_wire n LengthDelimited w;
-      refuses = RefusesNew;
+      refuses = UnderAny RefusesNew;
       asks = MessagesTakeMemory;
       need = messages_cost N.COST N.cost;
       records = messages_records N.encoding;

@@ -26,7 +26,7 @@ returns-in-Err-merge_entry-clause-full g c = λ full.
 pub returns-in-Err-clause-refused : goal.returns-in-Err-clause-refused
 returns-in-Err-clause-refused g c = λ e same.
     other_refused g.KC.MapValueDecode.reading g.VC.MapValueDecode.reading g.KC.Value.MapKey.same true (put g.KC.Value.MapKey.same) (g.KC.MapValueDecode.COST + g.VC.MapValueDecode.COST) c.args.ctx.depth (means g.KC.Value.Blank.meaning g.VC.Value.Blank.meaning c.args.map.now.entries)
-    c.args.tag.number c.args.tag.wire_type c.args.buf.now.now c.in-Err.error e c.in-Err.ensures (err_same same)
+    c.args.tag.number c.args.tag.wire_type c.args.buf.now.now c.args.ctx.budget.now c.in-Err.error e c.in-Err.ensures (err_same same)
 
 pub returns-in-Err-merge_entry-clause-refused : goal.returns-in-Err-merge_entry-clause-refused
 returns-in-Err-merge_entry-clause-refused g c = λ e same.
