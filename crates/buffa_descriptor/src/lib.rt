@@ -2,7 +2,10 @@
 //!
 //! `protoc --include_imports --descriptor_set_out=x.bin x.proto` writes a [`FileDescriptorSet`]. Each `..Options` is an
 //! `ExtensionSet` under its full name, of which a custom option is read as an extension. Fields that aren't declared are
-//! kept. All but [`nested`] was made of `descriptor.proto`, beside `src`, by `tools/protoc-gen-buffa`.
+//! kept. Message types, those of a file and those that stand in another one, are held as their encodings, byte for byte:
+//! [`message_types`] and [`nested_types`] read them, one level at a time.
+//!
+//! All but [`nested`] was made of `descriptor.proto`, beside `src`, by `tools/protoc-gen-buffa`.
 #![tactic(auto)]
 
 pub mod messages;
