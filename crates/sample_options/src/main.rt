@@ -1,0 +1,78 @@
+//! Judges a message by the custom options of its fields.
+//!
+//!     sample_options TYPE HEX < SET
+//!
+//! SET is what `protoc --include_imports --descriptor_set_out` writes, TYPE the full name of a message in it, HEX a message
+//! of this type. It prints each field of the type with its rules, and then which of them the message breaks. Options that
+//! are malformed, or that say nothing of a field's type, are an error, and never no rule.
+#![tactic(auto)]
+
+mod find;
+mod judge;
+mod lines;
+mod rules;
+#[cfg(test)]
+mod tests;
+
+use anyhow::{Error, anyhow};
+use buffa_descriptor::{DescriptorProto, FileDescriptorSet};
+use buffa_wire::{Blank, Message, UnknownFields};
+use find::message_type;
+use judge::judge;
+use lines::{fault_line, field_line};
+use rules::read_rules;
+use std::alloc::Global;
+use std::env;
+use std::io::Read;
+
+// The words of the call: the type's full name, and a message in hexadecimal.
+fn words_of(rt: &HostRuntime) -> Result<(String, Vec<u8>), Error> {
+    let mut words = env::args(rt)?.skip(1);
+    let (Some(name), Some(hex)) = (words.next(), words.next()) else {
+        return Err(anyhow!("usage: sample_options TYPE HEX < SET"));
+    };
+    Ok((name, hex::decode(rt.alloc(), hex.as_str())?))
+}
+
+fn set_of(alloc: Global, bytes: &[u8]) -> Result<FileDescriptorSet, Error> {
+    let mut set = FileDescriptorSet::blank(alloc);
+    set.merge_from_slice(alloc, bytes)?;
+    let again = set.try_encode_to_vec(alloc)?;
+    if again.as_slice() != bytes {
+        return Err(anyhow!("the set isn't written as protoc writes it"));
+    }
+    Ok(set)
+}
+
+fn judge_all(
+    rt: &HostRuntime,
+    message: &DescriptorProto,
+    fields: &UnknownFields,
+) -> Result<usize, Error> {
+    let alloc = rt.alloc();
+    let mut faults = 0usize;
+    for field in &message.field {
+        let rules = read_rules(alloc, field)?;
+        println!(rt; "{}", field_line(alloc, field, &rules)?)?;
+        if let Err(fault) = judge(alloc, field, &rules, fields)? {
+            println!(rt; "  {}", fault_line(fault))?;
+            faults = faults.saturating_add(1);
+        }
+    }
+    Ok(faults)
+}
+
+fn main(rt: HostRuntime) -> Result<(), Error> {
+    let alloc = rt.alloc();
+    let (name, bytes) = words_of(&rt)?;
+    let mut input = Vec::new(alloc);
+    rt.stdin().read_to_end(&mut input)?;
+    let set = set_of(alloc, &input)?;
+    let Some(message) = message_type(alloc, &set, name.as_str())? else {
+        return Err(anyhow!("no message is called {name}"));
+    };
+    let fields = UnknownFields::decode_from_slice(alloc, &bytes)?;
+    let faults = judge_all(&rt, &message, &fields)?;
+    println!(rt; "{faults} rules are broken")?;
+    Ok(())
+}
