@@ -1,7 +1,7 @@
 //! The rules that the options of a field set.
 
 use anyhow::{Error, anyhow};
-use buffa_codec::ExtensionCodec;
+use buffa_codec::{ExtensionCodec, StrictCodec};
 use buffa_descriptor::{FieldDescriptorProto, FieldOptions};
 use buffa_ext::{Extension, ExtensionSet};
 use buffa_wire::scalars::{Bool, Sint64, Uint32};
@@ -21,17 +21,16 @@ pub struct Rules {
 }
 
 // The option of this number, none where it isn't there.
-fn read_option<V: Drop, C: ExtensionCodec<Output = Option<V>>>(
+fn read_option<V: Drop, C: StrictCodec + ExtensionCodec<Output = Option<V>>>(
     alloc: Global,
     options: &FieldOptions,
     number: u32,
 ) -> Result<Option<V>, Error> {
     let ext = Extension::<C>::new(number, FieldOptions::PROTO_FQN);
-    let value = options.extension(alloc, &ext)?;
-    if value.is_none() && options.has_extension(&ext) {
-        return Err(anyhow!("the option {number} is malformed"));
+    match options.read_extension(alloc, &ext) {
+        Ok(value) => Ok(value),
+        Err(error) => Err(anyhow!("the option {number} is malformed: {error}")),
     }
-    Ok(value)
 }
 
 /// The rules of `shop.proto` that a field's options set: `max_len` 50001, `least` 50002, `most` 50003, `required` 50004.

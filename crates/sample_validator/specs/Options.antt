@@ -26,8 +26,8 @@ abbrev pub varint_fault : ℕ → Datum → Option DecodeError
 varint_fault n d = unless_found (varint_in d) Varint n d
 
 -- each record of the option is read, or this is the fault of the first that isn't
-abbrev pub IsWhole : ℕ → List (ℕ × Datum) → Type 0
-IsWhole n rs = Faultless (varint_fault n) (sub n rs)
+abbrev pub IsReadWhole : ℕ → List (ℕ × Datum) → Type 0
+IsReadWhole n rs = Faultless (varint_fault n) (sub n rs)
 
 abbrev pub IsMalformed : ℕ → List (ℕ × Datum) → DecodeError → Type 0
 IsMalformed n rs e = FirstFault (varint_fault n) (sub n rs) e

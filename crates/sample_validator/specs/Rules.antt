@@ -3,7 +3,7 @@ use Rattle.std.specs.Prelude.{ℕ, ℤ, ◌⊎◌, ◌≡◌, true, false, Optio
 use Rattle.std.specs.Int.Signed.{◌≤ℤ◌, ◌<ℤ◌}
 use Rattle.buffa_wire.specs.Records.{Datum}
 use Rattle.buffa_bytes.specs.declared.error.DecodeError.{DecodeError}
-use Rattle.sample_validator.specs.Options.{IsMalformed, IsWhole, int32_option, bool_option}
+use Rattle.sample_validator.specs.Options.{IsMalformed, IsReadWhole, int32_option, bool_option}
 use Rattle.sample_validator.specs.declared.rules.Rules.{Rules}
 use Rattle.sample_validator.specs.declared.rules.Violation.{Violation}
 use Rattle.sample_validator.specs.declared.rules.Violation.TheVariants.{Missing, TooSmall, TooGreat}
@@ -24,10 +24,10 @@ BreaksRule rules o TooGreat =
 -- each record of a rule is read; or this is the fault of the first that isn't, of the least value, the greatest, and whether one
 -- is asked for, in this order
 abbrev pub AreRead : List (ℕ × Datum) → Type 0
-AreRead rs = IsWhole 50011 rs × IsWhole 50012 rs × IsWhole 50013 rs
+AreRead rs = IsReadWhole 50011 rs × IsReadWhole 50012 rs × IsReadWhole 50013 rs
 
 abbrev pub AreMalformed : List (ℕ × Datum) → DecodeError → Type 0
-AreMalformed rs e = IsMalformed 50011 rs e ⊎ ((IsWhole 50011 rs × IsMalformed 50012 rs e) ⊎ (IsWhole 50011 rs × IsWhole 50012 rs × IsMalformed 50013 rs e))
+AreMalformed rs e = IsMalformed 50011 rs e ⊎ ((IsReadWhole 50011 rs × IsMalformed 50012 rs e) ⊎ (IsReadWhole 50011 rs × IsReadWhole 50012 rs × IsMalformed 50013 rs e))
 
 -- the rules that options set, at numbers 50011 to 50013
 abbrev pub rules_in : List (ℕ × Datum) → Rules

@@ -5,7 +5,7 @@ ghost use Rattle.std.proofs.Common.{lit<};
 ghost use Rattle.std.specs.Prelude.{IfErr, IfOk, IsOk, OnErr, OnOk, option_map, string_bytes};
 ghost use Rattle.buffa_codec.specs.Decoded.{HasByte};
 ghost use Rattle.buffa_fields.specs.Members.{field, keep};
-ghost use Rattle.sample_validator.specs.Options.{IsMalformed, IsWhole, bool_option, int32_list};
+ghost use Rattle.sample_validator.specs.Options.{IsMalformed, IsReadWhole, bool_option, int32_list};
 ghost use Rattle.sample_validator.specs.Options.{int32_option, string_option};
 
 use buffa_codec::{Repeated, StringCodec};
@@ -176,7 +176,7 @@ pub fn read_int32_strictly(
     number: u32,
 ) -> Result<Option<i32>, DecodeError>
     ensures value { IfOk result (λ o. o ≡ int32_option number options.now.fields.records) }
-    ensures whole { OnOk result (IsWhole number options.now.fields.records) }
+    ensures whole { OnOk result (IsReadWhole number options.now.fields.records) }
     ensures fault { IfErr result (IsMalformed number options.now.fields.records) }
 {
     let strict = Extension::<Int32>::new(number, FieldOptions::PROTO_FQN);
@@ -197,7 +197,7 @@ pub fn read_bool_strictly(
     number: u32,
 ) -> Result<Option<bool>, DecodeError>
     ensures value { IfOk result (λ o. o ≡ bool_option number options.now.fields.records) }
-    ensures whole { OnOk result (IsWhole number options.now.fields.records) }
+    ensures whole { OnOk result (IsReadWhole number options.now.fields.records) }
     ensures fault { IfErr result (IsMalformed number options.now.fields.records) }
 {
     let strict = Extension::<Bool>::new(number, FieldOptions::PROTO_FQN);

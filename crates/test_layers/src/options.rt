@@ -1,11 +1,11 @@
 //! Options by their bytes.
 
 use buffa_ext::codecs::{Int32, MessageCodec, PackedRepeated, Repeated, StringCodec};
-use buffa_ext::{Extension, ExtensionSet};
+use buffa_ext::{Extension, ExtensionSet, StrictCodec};
 use buffa_wire::{DecodeError, UnknownFields, WireType};
 use sample_types::flat::FlatMsg;
 use sample_validator::options::{
-    FieldOptions, max_length_or_default, read_choices, read_int32, read_label,
+    FieldOptions, max_length_or_default, read_bool, read_choices, read_int32, read_label,
 };
 use sample_validator::price::{Price, PriceCodec, store_price};
 use sample_validator::rules::{Violation, validate};
@@ -234,5 +234,22 @@ fn malformed_messages_are_read_as_faults(rt: HostRuntime) -> Result<(), Fail> {
     for (bytes, fault) in rows {
         assert!(rt; faults_of(rt.alloc(), bytes)? == [fault, fault]);
     }
+    Ok(())
+}
+
+// Whether a value has to be there.
+fn is_required(alloc: Global, options: &FieldOptions) -> Result<bool, Fail> {
+    let required = read_bool(alloc, options, 50013)?;
+    Ok(required == Some(true))
+}
+
+#[test]
+fn values_may_be_required(rt: HostRuntime) -> Result<(), Fail> {
+    let alloc = rt.alloc();
+    let options = options_of(alloc, &[0xE8, 0xB5, 0x18, 0x01])?;
+    assert!(rt; is_required(alloc, &options)?);
+    let fields = UnknownFields::decode_from_slice(alloc, &[0x38, 0x05])?;
+    let value = Int32::decode_strictly(alloc, 7, &fields)?;
+    assert!(rt; value == Some(5));
     Ok(())
 }
