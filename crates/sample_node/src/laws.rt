@@ -26,8 +26,8 @@ pub fn node_is_this()
     ensures slots { (⟦<Node as MessageSpec>⟧.slots ≡ node_slots) × (⟦<Node as MessageSpec>⟧.COST ≡ 96) }
     ensures levels { ⟦<Node as MessageSpec>⟧.levels ≡ node_levels }
     ensures normal { (v : Branch) → ⟦<Node as MessageSpec>⟧.normal v ↔ IsNormalNode v }
-    ensures refused { (d : ℕ) (v : Branch) (n : ℕ) (w : _) (bs : List ℕ) (u : Branch) →
-        ⟦<Node as MessageSpec>⟧.Refused d v n w bs u ↔ (u ≡ v) }
+    ensures refused { (d : ℕ) (v : Branch) (n : ℕ) (w : _) (bs : List ℕ) (l : _) (e : _) (u : Branch) →
+        ⟦<Node as MessageSpec>⟧.Refused d v n w bs l e u ↔ (u ≡ v) }
     ensures blank { ⟦<Node as Blank>⟧.blank_is ≡ blank_node }
     ensures meaning { (m : Node) → ⟦<Node as Blank>⟧.meaning m ≡ m }
 {}

@@ -1,6 +1,7 @@
 -- One field of a MessageSet, as a call reads it with a budget of its own.
 use Rattle.std.proofs.Common.{◌≡◌, ◌≢◌, ◌⊎◌, inl, inr, ℕ, zero, suc, ◌+◌, ◌-◌, ◌==◌, Bool, true, false, List, [], ◌∷◌, ◌++◌, Result, Ok, Err, refl, sym, ap, subst, ◌∙◌, arith}
 use Rattle.std.proofs.lemmas.Bool.{eqb-false, eqb-true}
+use Rattle.std.specs.Prelude.{IfErr}
 use Rattle.buffa_bytes.proofs.StepLemmas.{agree_err}
 use Rattle.buffa_bytes.specs.declared.wire_type.WireType.{WireType}
 use Rattle.buffa_bytes.specs.declared.wire_type.WireType.TheVariants.{EndGroup, StartGroup}
@@ -24,7 +25,7 @@ use Rattle.buffa_wire.proofs.TakesLemmas.{framed_at, framed_err}
 use Rattle.buffa_wire.proofs.LoopLemmas.{field_end}
 use Rattle.buffa_wire.specs.Kept.{keep_need}
 use Rattle.buffa_bytes.specs.Front.{skip_at}
-use Rattle.sample_set_msg.specs.Set.{IsSetFieldRefused, TakesSetField, item_field, item_of, record_of_field, set_cost, set_field, set_merged, set_need, starts}
+use Rattle.sample_set_msg.specs.Set.{IsSetFieldRefused, IsSetRefused, TakesSetField, item_field, item_of, record_of_field, set_cost, set_field, set_merged, set_need, starts}
 use Rattle.sample_set_msg.specs.SetFacts.{set_same, set_sound, set_stays}
 
 start_no_end : (n : ℕ) (w : WireType) → starts n w ≡ true → w ≢ EndGroup
@@ -154,6 +155,11 @@ module _ (d n : ℕ) (w : WireType) (bs rest : List ℕ) (v : List (ℕ × Datum
       let merged : IsFieldMerged set_merged set_cost d v n w bs left bad v left rest =
       paid (set_need d) d (set_stays d) (set_field d) (set_sound d) (set_same d) bad v v n w bs rest left left ((omega arith, omega arith, omega arith, omega arith), why) in
       subst (λ z. IsMergedField z v left left) (sym (is ∙ ap (λ x. Err x) same)) (merged, (refl, refl, λ ne. refusal d n w bs v left e (why ne) (subst (λ k. record_of_field d k n w bs ≡ Err e) all (h ne))))
+
+  -- what stands of a refused one
+  pub set_refused : (new : List (ℕ × Datum)) (before after : BudgetLeft) (r : Result (Unit {0}) DecodeError) → TakesSetField d v n w bs before r new after rest → IfErr r (λ e. IsSetRefused d v n w bs before e new)
+  set_refused new before after (Ok x) h = tt
+  set_refused new before after (Err e) h = (h.0, h.2)
 
   pub set_ok : (r : ℕ × Datum) (unknown_left : ℕ) (new : List (ℕ × Datum)) (before after : BudgetLeft) (s : ℕ) → s ≡ before.unknown → record_of_field d s n w bs ≡ Ok (r, unknown_left, rest) → new ≡ v ++ r ∷ [] →
       after.unknown ≡ unknown_left → after.memory ≡ before.memory → IsMergedField well new before after

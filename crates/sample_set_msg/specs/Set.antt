@@ -9,7 +9,7 @@ use Rattle.buffa_bytes.specs.declared.error.DecodeError.{DecodeError}
 use Rattle.buffa_bytes.specs.declared.error.DecodeError.TheVariants.{OutOfMemory, RecursionLimitExceeded}
 use Rattle.buffa_wire.specs.BudgetLeft.{BudgetLeft, Pays, unknown_fields}
 use Rattle.buffa_bytes.specs.Gives.{◌>>=◌}
-use Rattle.buffa_wire.specs.Message.{BeginsField, MergeFault}
+use Rattle.buffa_wire.specs.Message.{BeginsField, FieldRefused, MergeFault}
 use Rattle.buffa_bytes.specs.Front.{tag_at}
 use Rattle.buffa_wire.specs.RecordReading.{field_at}
 use Rattle.buffa_wire.specs.Records.{Datum, bytes, group, height, no_records, one, varint}
@@ -105,6 +105,10 @@ record_of_field d s n w bs = if starts n w then item_of d s bs else (field_at d 
 abbrev pub IsSetFieldRefused : ℕ → List (ℕ × Datum) → ℕ → WireType → List ℕ → BudgetLeft → DecodeError → Type 0
 IsSetFieldRefused d v n w bs left e =
     MergeFault (value_of (set_field d v n w bs)) (set_need d n w bs) left e × (record_of_field d left.unknown n w bs ≡ Err e)
+
+-- so it leaves the records as they were, and tells that fault, unless memory ran out
+abbrev pub IsSetRefused : FieldRefused (List (ℕ × Datum))
+IsSetRefused d old n w bs left e new = (new ≡ old) × (e ≢ OutOfMemory → IsSetFieldRefused d old n w bs left e)
 
 -- that field is merged, and exactly its cost is spent; or it is refused, and nothing is changed or spent
 abbrev pub TakesSetField : {T : Type 0} → ℕ → List (ℕ × Datum) → ℕ → WireType → List ℕ → BudgetLeft → Result T DecodeError → List (ℕ × Datum) → BudgetLeft → List ℕ → Type 0

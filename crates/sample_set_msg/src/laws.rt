@@ -2,7 +2,7 @@
 
 ghost use Rattle.std.specs.Prelude.{◌≡◌, ◌↔◌, ℕ, List, [], codes};
 ghost use Rattle.buffa_wire.specs.Records.{Datum};
-ghost use Rattle.sample_set_msg.specs.Set.{AreItems, NestOneDeep, set_cost, set_levels, set_merged, set_records};
+ghost use Rattle.sample_set_msg.specs.Set.{AreItems, IsSetRefused, NestOneDeep, set_cost, set_levels, set_merged, set_records};
 ghost use Rattle.sample_set_msg.specs.Set.{StopIsPinned, set_encoding};
 
 use crate::set_msg::SetMsg;
@@ -16,8 +16,8 @@ pub fn sets_are_these()
     ensures encoding { ⟦<SetMsg as MessageSpec>⟧.encoding ≡ set_encoding }
     ensures records { ⟦<SetMsg as MessageSpec>⟧.records ≡ set_records }
     ensures slots { ⟦<SetMsg as MessageSpec>⟧.slots ≡ (λ _. []) }
-    ensures refused { (d : ℕ) (v : List (ℕ × Datum)) (n : ℕ) (w : _) (bs : List ℕ) (u : List (ℕ × Datum)) →
-        ⟦<SetMsg as MessageSpec>⟧.Refused d v n w bs u ↔ (u ≡ v) }
+    ensures refused { (d : ℕ) (v : List (ℕ × Datum)) (n : ℕ) (w : _) (bs : List ℕ) (l : _) (e : _)
+        (u : List (ℕ × Datum)) → ⟦<SetMsg as MessageSpec>⟧.Refused d v n w bs l e u ↔ IsSetRefused d v n w bs l e u }
     ensures element { ⟦<SetMsg as MessageSpec>⟧.COST ≡ 24 }
     ensures meaning { (m : SetMsg) → ⟦<SetMsg as Blank>⟧.meaning m ≡ m.fields.records }
     ensures blank { ⟦<SetMsg as Blank>⟧.blank_is ≡ [] }

@@ -1,16 +1,16 @@
 //! A MessageSet whose Items are extensions.
 
-ghost use Rattle.std.specs.Prelude.{◌≡◌, ◌≢◌, [], codes, length, min, refl, IfErr, IsOk, OnErr, OnOk};
+ghost use Rattle.std.specs.Prelude.{◌≡◌, ◌≢◌, [], codes, length, min, refl, IfErr, IsOk, OnOk};
 ghost use Rattle.buffa_bytes.specs.declared.wire_type.WireType.TheVariants.{EndGroup};
 ghost use Rattle.buffa_wire.specs.BudgetLeft.{budget_left};
 ghost use Rattle.buffa_bytes.specs.Gives.{FullOnlyIf};
 ghost use Rattle.buffa_bytes.specs.Unread.{IsTailOf};
-ghost use Rattle.buffa_wire.specs.Message.{BeginsField, MergesBytes, MergesField, Stands, Unchanged};
+ghost use Rattle.buffa_wire.specs.Message.{BeginsField, MergesBytes, MergesField, Stands};
 ghost use Rattle.buffa_wire.specs.Passes.{IsSized, IsWritten};
 ghost use Rattle.buffa_bytes.specs.Written.{UsesRoom, Writes};
 ghost use Rattle.buffa_wire.specs.Takes.{taken_by};
 ghost use Rattle.buffa_wire.proofs.TakesLemmas.{cost_by_is, merged_by_is};
-ghost use Rattle.sample_set_msg.specs.Set.{AreItems, StopsBehind, TakesSetField, set_cost, set_levels, set_merged, set_records, set_encoding};
+ghost use Rattle.sample_set_msg.specs.Set.{AreItems, IsSetRefused, StopsBehind, TakesSetField, set_cost, set_levels, set_merged, set_records, set_encoding};
 ghost use Rattle.sample_set_msg.specs.Set.{set_field, set_need};
 ghost use Rattle.sample_set_msg.specs.SetFacts.{set_back, set_cost_some, set_encoding_records, set_same, set_sound, set_stays};
 
@@ -94,7 +94,7 @@ impl MessageSpec for SetMsg {
 
     ghost cost = { set_cost };
 
-    ghost Refused = { Unchanged };
+    ghost Refused = { IsSetRefused };
 
     ghost encoding = { set_encoding };
 
@@ -172,7 +172,8 @@ impl Message for SetMsg {
     ) -> Result<(), DecodeError>
         ensures merged { MergesField set_merged set_cost ctx.entry self.old.fields.records tag.number tag.wire_type
             buf.old.now result self.new.fields.records (budget_left ctx.exit) buf.new.now }
-        ensures refused { OnErr result (self.new.fields.records ≡ self.old.fields.records) }
+        ensures refused { IfErr result (λ e. IsSetRefused ctx.entry.depth self.old.fields.records tag.number tag.wire_type
+            buf.old.now ctx.entry.budget.now e self.new.fields.records) }
         ensures full { FullOnlyIf result (tag.wire_type ≢ EndGroup) }
         ensures takes { TakesSetField ctx.entry.depth self.old.fields.records tag.number tag.wire_type buf.old.now
             ctx.entry.budget.now result self.new.fields.records (budget_left ctx.exit) buf.new.now }
@@ -194,7 +195,7 @@ impl Message for SetMsg {
     ) -> Result<(), DecodeError>
         ensures merged { MergesBytes set_merged set_cost ctx.entry.depth self.old.fields.records buf.old.now
             ctx.entry.budget.now result self.new.fields.records (budget_left ctx.exit) }
-        ensures stands { IfErr result (λ e. Stands set_merged set_cost Unchanged ctx.entry.depth
+        ensures stands { IfErr result (λ e. Stands set_merged set_cost IsSetRefused ctx.entry.depth
             self.old.fields.records buf.old.now ctx.entry.budget.now e self.new.fields.records) }
         ensures full { FullOnlyIf result (BeginsField buf.old.now) }
         ensures read { OnOk result (buf.new.now ≡ []) }

@@ -40,7 +40,7 @@ merge_node-returns-in_err-merge_node_field-clause-full t c =
 pub merge_node-returns-in_err-merge_node_field-clause-stops : goal.merge_node-returns-in_err-merge_node_field-clause-stops
 merge_node-returns-in_err-merge_node_field-clause-stops t c =
     let p = err_from_is_err_and c.from_residual-in_err-merge_node_field.result c.from_residual-in_err-merge_node_field.ensures.1 in
-    rw (p.1, p.2) (stops_at c.loop-rest.invariant c.merge_node_field.new.node c.in_ok-tag.tag.number c.in_ok-tag.tag.wire_type c.decode.new.buf.now c.in_ok-tag.ensures.reads c.merge_node_field.new.buf.now c.merge_node_field.new.budget c.in_err-merge_node_field.field-0.0 c.in_err-merge_node_field.ensures.stays c.in_err-merge_node_field.ensures.merged)
+    rw (p.1, p.2) (stops_at c.loop-rest.invariant c.merge_node_field.new.node c.in_ok-tag.tag.number c.in_ok-tag.tag.wire_type c.decode.new.buf.now c.in_ok-tag.ensures.reads c.merge_node_field.new.buf.now c.merge_node_field.new.budget c.in_err-merge_node_field.field-0.0 c.in_err-merge_node_field.ensures.stays c.in_err-merge_node_field.ensures.merged c.in_err-merge_node_field.ensures.full)
 
 pub merge_node-loop-rest-init : goal.merge_node-loop-rest-init
 merge_node-loop-rest-init t c = begins node_by_payloads c.args.depth c.args.node.now c.args.bytes.now c.args.budget.now

@@ -1,7 +1,7 @@
 use Rattle.std.proofs.Common.{◌∙◌, ap}
 use Rattle.std.proofs.lemmas.Result.{err_from_is_err_and}
 use Rattle.buffa_wire.specs.View.{record_of}
-use Rattle.sample_set_msg.proofs.FieldLemmas.{record_no_end, set_err, set_ok}
+use Rattle.sample_set_msg.proofs.FieldLemmas.{record_no_end, set_err, set_ok, set_refused}
 use Rattle.sample_set_msg.proofs.set_msg.SetMsgMessage.merge_field.Goals as goal
 
 pub returns-in_err-field-clause-merged : goal.returns-in_err-field-clause-merged
@@ -13,6 +13,13 @@ returns-in_err-field-clause-merged c =
 pub returns-in_err-field-clause-takes : goal.returns-in_err-field-clause-takes
 returns-in_err-field-clause-takes c =
     let p = err_from_is_err_and c.from_residual.result c.from_residual.ensures.1 in
+    (set_err c.args.ctx.depth c.args.tag.number c.args.tag.wire_type c.args.buf.now.now c.read_record.new.buf.now c.args.self.now.fields.records c.from_residual.result _ _ p.1 p.2 c.args.ctx.budget.now
+    c.unknown_left.result c.unknown_left.ensures c.in_err-field.ensures.reads).1
+
+pub returns-in_err-field-clause-refused : goal.returns-in_err-field-clause-refused
+returns-in_err-field-clause-refused c =
+    let p = err_from_is_err_and c.from_residual.result c.from_residual.ensures.1 in
+    set_refused c.args.ctx.depth c.args.tag.number c.args.tag.wire_type c.args.buf.now.now c.read_record.new.buf.now c.args.self.now.fields.records c.args.self.now.fields.records c.args.ctx.budget.now c.args.ctx.budget.now c.from_residual.result
     (set_err c.args.ctx.depth c.args.tag.number c.args.tag.wire_type c.args.buf.now.now c.read_record.new.buf.now c.args.self.now.fields.records c.from_residual.result _ _ p.1 p.2 c.args.ctx.budget.now
     c.unknown_left.result c.unknown_left.ensures c.in_err-field.ensures.reads).1
 
