@@ -1,10 +1,15 @@
-//! Laws: which enum a state is.
+//! Laws: which enum a state is, and how deep trains nest.
 
 ghost use Rattle.std.specs.Prelude.{◌≡◌, ◌∷◌, [], None, Some, map, pos};
 ghost use Rattle.buffa_bytes.specs.Pinned.{IsCopied, SameIsOne};
+ghost use Rattle.buffa_fields.specs.Levels.{AreExactLevels};
 
+use crate::load::Load;
 use crate::state::State;
-use buffa_wire::{Blank, Enumeration};
+use crate::train::Train;
+use crate::wagon::Wagon;
+use buffa_fields::laws::levels_of_fields_are_exact;
+use buffa_wire::{Blank, Enumeration, MessageSpec};
 
 /// Which of the first three numbers states declare, by which values, and their default; `==` and `clone` of them.
 pub fn states_are_these()
@@ -14,3 +19,29 @@ pub fn states_are_these()
     ensures equal { SameIsOne ⟦<State as PartialEq>⟧.eq }
     ensures copied { IsCopied ⟦<State as Clone>⟧.is_clone ⟦<State as Clone>⟧.is_infallible }
 {}
+
+/// A load nests exactly as deep as it says: at no lesser depth is its encoding merged, whatever it is merged into.
+pub fn load_levels_are_exact()
+    ensures { AreExactLevels ⟦<Load as MessageSpec>⟧.merged ⟦<Load as MessageSpec>⟧.encoding
+        ⟦<Load as MessageSpec>⟧.records ⟦<Load as MessageSpec>⟧.normal ⟦<Load as MessageSpec>⟧.levels }
+{
+    levels_of_fields_are_exact::<Load>();
+}
+
+/// So does a wagon, which has loads in each kind of member that has messages.
+pub fn wagon_levels_are_exact()
+    ensures { AreExactLevels ⟦<Wagon as MessageSpec>⟧.merged ⟦<Wagon as MessageSpec>⟧.encoding
+        ⟦<Wagon as MessageSpec>⟧.records ⟦<Wagon as MessageSpec>⟧.normal ⟦<Wagon as MessageSpec>⟧.levels }
+{
+    load_levels_are_exact();
+    levels_of_fields_are_exact::<Wagon>();
+}
+
+/// So does a train, which has wagons.
+pub fn train_levels_are_exact()
+    ensures { AreExactLevels ⟦<Train as MessageSpec>⟧.merged ⟦<Train as MessageSpec>⟧.encoding
+        ⟦<Train as MessageSpec>⟧.records ⟦<Train as MessageSpec>⟧.normal ⟦<Train as MessageSpec>⟧.levels }
+{
+    wagon_levels_are_exact();
+    levels_of_fields_are_exact::<Train>();
+}
