@@ -200,7 +200,7 @@ pub fn held_encodings_are_these()
 
 /// A default that is declared is what its function makes, and no other; where none is declared there is none.
 /// It may be asked for wherever its function may always be called.
-pub fn derecord_faults_are_these<V, F: Fn(Global) -> Result<V, AllocError>>()
+pub fn defaults_are_these<V, F: Fn(Global) -> Result<V, AllocError>>()
     ensures none_callable { (s : NoDefault) → ⟦<NoDefault as Declared<V>>⟧.can_declare s }
     ensures none { (s : NoDefault) (o : Option V) → ⟦<NoDefault as Declared<V>>⟧.may_declare s o ↔ (o ≡ None) }
     ensures none_refused { (s : NoDefault) → ⟦<NoDefault as Declared<V>>⟧.may_refuse s → ⊥ }
