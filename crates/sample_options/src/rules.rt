@@ -1,9 +1,9 @@
 //! The rules that the options of a field set.
 
-use anyhow::{Error, anyhow};
-use buffa_codec::{ExtensionCodec, StrictCodec};
+use buffa_codec::StrictCodec;
 use buffa_descriptor::{FieldDescriptorProto, FieldOptions};
 use buffa_ext::{Extension, ExtensionSet};
+use buffa_wire::DecodeError;
 use buffa_wire::scalars::{Bool, Sint64, Uint32};
 use std::alloc::Global;
 
@@ -20,24 +20,21 @@ pub struct Rules {
     pub required: bool,
 }
 
-// The option of this number, none where it isn't there.
-fn read_option<V: Drop, C: StrictCodec + ExtensionCodec<Output = Option<V>>>(
+// The option of this number, none where it isn't there; each of its records has to be read.
+fn read_option<C: StrictCodec>(
     alloc: Global,
     options: &FieldOptions,
     number: u32,
-) -> Result<Option<V>, Error> {
+) -> Result<C::Output, DecodeError> {
     let ext = Extension::<C>::new(number, FieldOptions::PROTO_FQN);
-    match options.read_extension(alloc, &ext) {
-        Ok(value) => Ok(value),
-        Err(error) => Err(anyhow!("the option {number} is malformed: {error}")),
-    }
+    options.read_extension(alloc, &ext)
 }
 
 /// The rules of `shop.proto` that a field's options set: `max_len` 50001, `least` 50002, `most` 50003, `required` 50004.
 ///
 /// # Errors
 /// Where an option is malformed, or memory runs out.
-pub fn read_rules(alloc: Global, field: &FieldDescriptorProto) -> Result<Rules, Error> {
+pub fn read_rules(alloc: Global, field: &FieldDescriptorProto) -> Result<Rules, DecodeError> {
     let Some(options) = &field.options else {
         return Ok(Rules {
             max_len: None,
@@ -47,9 +44,9 @@ pub fn read_rules(alloc: Global, field: &FieldDescriptorProto) -> Result<Rules, 
         });
     };
     Ok(Rules {
-        max_len: read_option::<u32, Uint32>(alloc, options, 50001)?,
-        least: read_option::<i64, Sint64>(alloc, options, 50002)?,
-        most: read_option::<i64, Sint64>(alloc, options, 50003)?,
-        required: read_option::<bool, Bool>(alloc, options, 50004)?.unwrap_or(false),
+        max_len: read_option::<Uint32>(alloc, options, 50001)?,
+        least: read_option::<Sint64>(alloc, options, 50002)?,
+        most: read_option::<Sint64>(alloc, options, 50003)?,
+        required: read_option::<Bool>(alloc, options, 50004)?.unwrap_or(false),
     })
 }

@@ -53,5 +53,8 @@ fn a_malformed_option_is_an_error(rt: HostRuntime) -> Result<(), Fail> {
     let options: [u8; 5] = [0x92, 0xB5, 0x18, 0x01, 0x03]; // least, as a text
     let field = field_with(alloc, FieldDescriptorProtoType::Sint32, &options)?;
     assert!(rt; read_rules(alloc, &field).is_err());
+    let both: [u8; 9] = [0x92, 0xB5, 0x18, 0x01, 0x03, 0x90, 0xB5, 0x18, 0x03]; // the same, and then -2
+    let field = field_with(alloc, FieldDescriptorProtoType::Sint32, &both)?;
+    assert!(rt; read_rules(alloc, &field).is_err());
     Ok(())
 }
