@@ -18,7 +18,7 @@ and the checker refuses nothing but that law's own text: it speaks of a type as 
 unclear, and fails, where the edited text is not read, or
 where only names that its proof file cites went away: change a value and keep the names. It is unclear too where only an
 answer of its proof file is refused, since a right body may trip that as well: add a path that is wrong, which has no
-answer, or say in a line 'why: ..' of the edit why its goal is false.
+answer. A law has no paths: an edit of what it speaks of says in a line 'why: ..' why the law is false then.
 
 The crate as it stands is checked first, in its own folder, which leaves its work in out/; that costs little where out/
 holds the work of an earlier check. `today` goes without, for use behind `rt ci`, whose libraries it takes: it checks a

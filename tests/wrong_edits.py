@@ -57,6 +57,8 @@ class Edit:
             return "it has no pair of an old and a new text"
         if not self.target and not self.is_wide:
             return f"it doesn't change a function {self.name}"
+        if self.target and self.why:
+            return "a line 'why: ..' is for laws: a function has paths, on one of which the edit can stand alone"
         return None
 
 
