@@ -3,8 +3,9 @@
 //!     sample_options TYPE HEX < SET
 //!
 //! SET is what `protoc --include_imports --descriptor_set_out` writes, TYPE the full name of a message in it, HEX a message
-//! of this type. It prints each field of the type with its rules, and then which of them the message breaks. Options that
-//! are malformed, or that say nothing of a field's type, are an error, and never no rule.
+//! of this type. It prints each field of the type with its rules, and below it the rule that the message breaks. A malformed
+//! option is an error, and never no rule. A value that isn't spelled as the field's type is, as one of a packed list, breaks the
+//! rules; a length is judged of whatever has one, a text, bytes or a message.
 #![tactic(auto)]
 
 mod find;
