@@ -1,4 +1,4 @@
-//! Two messages that name the layers below alone: a node that holds itself, and a MessageSet.
+//! Two messages that are written by hand over the crates below this one: a node that holds itself, and a MessageSet.
 //!
 //! Which messages they are is said by [`crate::laws::nodes`] and [`crate::laws::sets`]. What they cite is handed on in
 //! `specs/` under the names `Children`, `Branch`, `NodeMeaning`, `NodeEncoding` and `Set`.

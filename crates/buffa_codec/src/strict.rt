@@ -1,4 +1,4 @@
-//! Strict readings: a record that a codec passes over is an error, the first one's.
+//! Strict readings: a record that a codec can't read is an error, and the fault of the first such record is returned.
 
 ghost use Rattle.std.specs.Prelude.{◌≡◌, ℕ, List, None, Option, Some, IfErr, IfOk, OnErr, OnOk, refl};
 ghost use Rattle.std.proofs.Common.{ap, sym, ◌∙◌};
@@ -59,7 +59,7 @@ pub trait StrictCodec: ExtensionCodec {
     ghost not_both: { (n : ℕ) (ds : List Datum) (e : DecodeError) → IsFaultless n ds → HasFault n ds e → ⊥ };
 }
 
-/// A codec of one value that tells why a record is none.
+/// A codec of one value that says why a record can't be read as a value.
 ///
 /// ```ignore
 /// let fault = C::fault(number, &field.payload); // Some(DecodeError::InvalidUtf8)
@@ -85,7 +85,7 @@ pub trait StrictSingularCodec: SingularCodec {
         fault n d ≡ None };
 }
 
-/// A codec of the elements of a list that tells why a record is none.
+/// A codec of the elements of a list that says why a record can't be read as elements.
 ///
 /// ```ignore
 /// C::check_element(alloc, number, &field.payload, &mut budget)?;
@@ -97,10 +97,11 @@ pub trait StrictElementCodec: SingularCodec {
     /// Why it is not.
     ghost ElementFault: { ℕ → BudgetLeft → Datum → DecodeError → Type 0 };
 
-    /// Whether a record of the number is an element, or packed ones to its end; it spends what reading it spends.
+    /// Checks that a record of the number is an element, or packed elements to its end, and spends what reading it
+    /// spends.
     ///
     /// # Errors
-    /// Why it is not; or out of memory.
+    /// Why the record is neither; or out of memory.
     ///
     /// ```ignore
     /// C::check_element(alloc, number, &field.payload, &mut budget)?;

@@ -1,11 +1,11 @@
 //! Descriptors: the messages of `google/protobuf/descriptor.proto`, by which a program knows what `.proto` files declare.
 //!
 //! `protoc --include_imports --descriptor_set_out=x.bin x.proto` writes a [`FileDescriptorSet`]. Each `..Options` is an
-//! `ExtensionSet` under its full name, of which a custom option is read as an extension. Fields that aren't declared are
-//! kept. Message types, those of a file and those that stand in another one, are held as their encodings, byte for byte:
-//! [`message_types`] and [`nested_types`] read them, one level at a time.
+//! `ExtensionSet`, and each option, declared by `descriptor.proto` or custom, is read from it as an extension. Fields that
+//! aren't declared are kept. The message types of a file, and those inside another message type, are held as their
+//! encodings, byte for byte: [`message_types`] and [`nested_types`] read them, one level at a time.
 //!
-//! All but [`nested`] was made of `descriptor.proto`, beside `src`, by `tools/protoc-gen-buffa`.
+//! [`messages`] was made of `descriptor.proto`, beside `src`, by `tools/protoc-gen-buffa`; the rest is by hand.
 #![tactic(auto)]
 
 pub mod messages;

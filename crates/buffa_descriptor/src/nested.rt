@@ -1,4 +1,4 @@
-//! The message types of a file, and those that stand in another one.
+//! The message types of a file, and those inside another message type.
 
 ghost use Rattle.std.specs.Prelude.{◌≡◌, IfOk, Some, map, vec_items};
 
@@ -21,10 +21,10 @@ fn read_each<M: Message>(alloc: Global, encodings: &[Vec<u8>]) -> Result<Vec<M>,
     Ok(read)
 }
 
-/// Reads the message types of a file, without those that stand in another one: each is held there as its encoding.
+/// Reads the message types of a file, without those inside another message type: the file holds each as its encoding.
 ///
 /// # Errors
-/// Those of [`Message::merge_from_slice`], of the first encoding that is none of a message type.
+/// That of [`Message::merge_from_slice`] for the first encoding that it refuses.
 ///
 /// ```ignore
 /// let types = message_types(alloc, file)?;
@@ -40,11 +40,11 @@ pub fn message_types(
     read_each(alloc, file.message_type.as_slice())
 }
 
-/// Reads the message types that stand in a message type, one level of them: each is held there as its encoding, since a
-/// message from its fields can't hold messages of its own type. Called for each of them again, it reads those at any depth.
+/// Reads the message types directly inside a message type, which holds each as its encoding, since a message from its
+/// fields can't hold messages of its own type. To read deeper ones, call it for each result.
 ///
 /// # Errors
-/// Those of [`Message::merge_from_slice`], of the first encoding that is none of a message type.
+/// That of [`Message::merge_from_slice`] for the first encoding that it refuses.
 ///
 /// ```ignore
 /// let types = nested_types(alloc, message)?;

@@ -93,12 +93,12 @@ pub trait ExtensionSet {
         C::decode(alloc, ext.number(), self.unknown_fields())
     }
 
-    /// What the records of the number are read as, where each of them is read: what [`ExtensionSet::extension`]
-    /// answers then. `ext` has to extend this message.
+    /// Reads an extension strictly: where each record of the number can be read, the result is that of
+    /// [`ExtensionSet::extension`]. `ext` has to extend this message.
     ///
     /// # Errors
-    /// The fault of the first record of the number that the codec doesn't read: another wire type, a malformed payload,
-    /// or a limit of a budget; or out of memory, only where a request may be refused.
+    /// The fault of the first record of the number that can't be read: another wire type, a malformed payload, or a
+    /// limit of a budget. Or out of memory, only where reading may ask for memory.
     ///
     /// ```ignore
     /// let limit = options.read_extension(alloc, &ext)?; // of 38 02 and 3A 00: Err(WireTypeMismatch 7 0 2)
@@ -204,8 +204,8 @@ pub trait ExtensionSet {
         ext.extendee() == Self::extendee_name() && has_number(self.unknown_fields(), ext.number())
     }
 
-    /// The value that is read; or else the declared default, made anew; or else the type's. `ext` has to extend
-    /// this message.
+    /// The value that [`ExtensionSet::extension`] returns; where it returns none, the declared default, made anew; and
+    /// where none is declared, the default of the type. `ext` has to extend this message.
     ///
     /// # Errors
     /// Where memory runs out for the reading, or for the declared default, which is asked for only where no

@@ -38,7 +38,7 @@ pub trait Fields: Drop {
     /// Its members, one after the other.
     ghost layout: { Layout Self Self.Meaning };
 
-    /// Each number may be a field's, and no two are one.
+    /// Each number is valid for a field, no two members have the same one, and what closed enums don't declare is kept.
     ghost sound: { layout.sound ≡ true };
 
     /// Visits each member.
@@ -51,10 +51,10 @@ pub trait Fields: Drop {
         ensures seen { (z : Seen) → V.IsAt z visitor.old → V.IsAt (layout.seen self.now z) visitor.new }
         ensures back { layout.Owes };
 
-    /// The member of the number takes the field whose tag was read.
+    /// Merges the field whose tag was read into the member of its number.
     ///
     /// # Errors
-    /// The member's own. Of a field that isn't declared, that of keeping it, or of passing over it.
+    /// That of the member. For a field that isn't declared, that of keeping it or of passing over it.
     ///
     /// ```ignore
     /// 1 => Plain::<Int32>::merge(&mut self.total, alloc, tag, buf, ctx),

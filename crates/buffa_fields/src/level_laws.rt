@@ -28,15 +28,15 @@ use buffa_map::map_codec::MapCodec;
 use buffa_wire::{MapKey, Message, MessageForm};
 use std::hash::Hash;
 
-/// A message from its fields nests exactly as deep as it says, where the messages in it do: at no lesser depth is the
-/// encoding of a value that fits merged, whatever it is merged into.
+/// The `levels` of a message from its fields are exact, where those of the messages in it are: at a lesser depth, the
+/// encoding of a normal value whose records fit is refused, whatever it is merged into.
 pub fn levels_of_fields_are_exact<M: Listing>()
     ensures { M.layout.Exact → AreExactLevels ⟦<Listed as MessageForm<M>>⟧.merged
         (λ v. records_encoding (⟦<Listed as MessageForm<M>>⟧.records v)) ⟦<Listed as MessageForm<M>>⟧.records
         ⟦<Listed as MessageForm<M>>⟧.normal ⟦<Listed as MessageForm<M>>⟧.levels }
 {}
 
-/// The messages in a list of members are those in each; where fields are kept or passed over there is none.
+/// The levels of a list of members are exact where those of each member are; `keep` and `skip` have no messages.
 pub fn messages_in_lists_are_these<M: Fields, N: Keeping>()
     ensures field { (k : ℕ) (get : M → N.Part) → (field k get N.shape M.layout).Exact ↔ (N.shape.Exact × M.layout.Exact) }
     ensures field_kept { (k : ℕ) (get : M → N.Part) →
@@ -45,7 +45,7 @@ pub fn messages_in_lists_are_these<M: Fields, N: Keeping>()
     ensures skip { (skip {M = M}).Exact }
 {}
 
-/// There is none in a member of values.
+/// A member of plain values, or a list or a map of them, has no messages in it: its levels are always exact.
 pub fn values_have_no_messages<
     C: ProtoType,
     P: Packable,
@@ -61,7 +61,8 @@ where
     ensures maps { ⟦<MapOf<KC, VC> as Member>⟧.shape.Exact × ⟦<OrderedMapOf<OC, VC> as Member>⟧.shape.Exact }
 {}
 
-/// In a member that is a message, or has some, they are of its type, whose levels have to be exact.
+/// The levels of a member that is a message or a group, or a list or a map of messages, are exact where those of the
+/// message's type are.
 pub fn messages_in_members_are_these<N: Message, KC: MapCodec, OC: MapCodec>()
 where
     KC::Value: MapKey + Hash,

@@ -20,7 +20,7 @@ pub enum Fault {
     TooSmall,
     /// A number is above the greatest.
     TooGreat,
-    /// A value isn't of the kind that the rules are for, or is written in another way than its type's.
+    /// The rules can't judge the value: they are for values of another type, or its wire type isn't its type's.
     OfAnotherKind,
 }
 
@@ -110,7 +110,7 @@ fn values_of<'a>(
     Ok(values)
 }
 
-/// Judges the values of a field in a message, whose fields these are: the first rule that one of them breaks.
+/// Judges the values that a field has among the `fields` of a message, and says which rule the first bad one breaks.
 ///
 /// # Errors
 /// Where memory runs out.
