@@ -30,8 +30,8 @@ use crate::message::{GroupCodec, MessageCodec, MessageIn};
 use crate::record::{Delimited, Grouped, MessageRecord};
 use crate::steps::{ReplayFault, Step};
 pub use crate::strict_laws::{
-    record_faults_are_these, strict_lists_are_pinned, strict_messages_are_pinned,
-    strict_number_lists_are_pinned, strict_values_are_pinned,
+    packed_faults_are_these, record_faults_are_these, strict_lists_are_pinned,
+    strict_messages_are_pinned, strict_number_lists_are_pinned, strict_values_are_pinned,
 };
 use buffa_codec::{ExtensionCodec, LastWins, Repeated, SingularCodec};
 use buffa_wire::{Message, MessageSpec};

@@ -2,14 +2,16 @@
 //! is the law.
 
 ghost use Rattle.std.specs.Prelude.{◌≡◌, ◌↔◌, ℕ, List, [], ◌∷◌, None, Some};
+ghost use Rattle.buffa_bytes.specs.Content.{Content};
 ghost use Rattle.buffa_bytes.specs.declared.error.DecodeError.{DecodeError};
+ghost use Rattle.buffa_bytes.specs.declared.wire_type.WireType.{WireType};
 ghost use Rattle.buffa_wire.specs.BudgetLeft.{BudgetLeft, defaults};
 ghost use Rattle.buffa_wire.specs.Records.{Datum};
 ghost use Rattle.buffa_codec.specs.Strict.{AreElements, FirstElementFault, FirstFault};
-ghost use Rattle.buffa_codec.specs.Strict.{bytes_fault, number_list_fault, string_fault, unless_found};
+ghost use Rattle.buffa_codec.specs.Strict.{bytes_fault, number_list_fault, packed_fault, string_fault, unless_found};
 ghost use Rattle.buffa_ext.specs.Messages.{encodings_in, message_of};
-ghost use Rattle.buffa_ext.specs.Strict.{AreMessages, FaultlessOrFault, FirstRecordFault, MessageRecordFault};
-ghost use Rattle.buffa_ext.specs.Strict.{NoneIsAbsent, OneFault};
+ghost use Rattle.buffa_ext.specs.Strict.{AreMessages, FaultBehind, FaultlessOrFault, FirstRecordFault};
+ghost use Rattle.buffa_ext.specs.Strict.{MessageRecordFault, NoneIsAbsent, OneFault};
 
 use crate::message::MessageIn;
 use crate::record::MessageRecord;
@@ -91,4 +93,10 @@ pub fn record_faults_are_these<N: Numbered, K: MessageRecord, M: Message>()
         ↔ MessageRecordFault (M.merged 100) (M.cost 100) K.held K.WIRE_TYPE n d M.blank_is b e }
     ensures message_element { (n : ℕ) (b : BudgetLeft) (d : Datum) → ⟦<MessageIn<K, M> as StrictElementCodec>⟧.IsElement n b d
         ↔ ((v : M.Meaning) × (message_of (M.merged 100) (M.cost 100) M.blank_is b (encodings_in K.held (d ∷ [])) ≡ Some v)) }
+{}
+
+/// The fault of packed bytes: whole payloads begin them, more follows these, and the fault is why no payload begins that.
+pub fn packed_faults_are_these()
+    ensures { (w : WireType) (bs : List ℕ) (e : DecodeError) → (packed_fault w bs ≡ Some e)
+        ↔ ((cs : List Content) × FaultBehind w cs bs e) }
 {}
