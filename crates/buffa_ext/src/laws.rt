@@ -187,8 +187,8 @@ pub fn messages_mean_these<K: MessageRecord, M: Message>(value: &M, output: &Opt
     ensures held { ⟦<Delimited as MessageRecord>⟧.never_fails }
 {}
 
-/// A record of bytes holds its bytes, and a group the encoding of its records; their wire types; which of them take memory
-/// to be merged, at any depth; and which encodings have no group.
+/// A record of bytes holds its bytes, and a group the encoding of its records; their wire types; which of them take
+/// memory to be merged, at any depth; and which encodings have no group.
 pub fn held_encodings_are_these()
     ensures wire_type { (⟦<Delimited as MessageRecord>⟧.WIRE_TYPE ≡ LengthDelimited)
         × (⟦<Grouped as MessageRecord>⟧.WIRE_TYPE ≡ StartGroup) }

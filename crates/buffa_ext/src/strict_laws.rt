@@ -33,12 +33,14 @@ pub fn strict_values_are_pinned<C: LastWins + StrictSingularCodec>()
         ↔ FirstFault (C.fault n) ds e }
 {}
 
-/// A strict reading of a message reads records of the kind whose encodings are merged in order, and none only where there is
-/// no record; or there is a fault, that of the first record that is of another kind, or whose encoding isn't merged.
+/// A strict reading of a message reads records of the kind whose encodings are merged in order, and none only where
+/// there is no record; or there is a fault, that of the first record that is of another kind, or whose encoding isn't
+/// merged.
 ///
 /// Left open: which fault is told of that encoding; it is not want of memory.
 pub fn strict_messages_are_pinned<K: MessageRecord, M: Message>()
-    ensures either { FaultlessOrFault ⟦<MessageIn<K, M> as StrictCodec>⟧.IsFaultless ⟦<MessageIn<K, M> as StrictCodec>⟧.HasFault }
+    ensures either { FaultlessOrFault ⟦<MessageIn<K, M> as StrictCodec>⟧.IsFaultless
+        ⟦<MessageIn<K, M> as StrictCodec>⟧.HasFault }
     ensures whole { (n : ℕ) (ds : List Datum) → ⟦<MessageIn<K, M> as StrictCodec>⟧.IsFaultless n ds
         ↔ AreMessages (M.merged 100) (M.cost 100) K.held K.WIRE_TYPE n M.blank_is defaults ds }
     ensures absent { NoneIsAbsent ⟦<MessageIn<K, M> as StrictCodec>⟧.IsFaultless ⟦<MessageIn<K, M> as ExtensionCodec>⟧.reads }
@@ -46,8 +48,8 @@ pub fn strict_messages_are_pinned<K: MessageRecord, M: Message>()
         ↔ FirstRecordFault (M.merged 100) (M.cost 100) K.held K.WIRE_TYPE n M.blank_is defaults ds e }
 {}
 
-/// A strict reading of a list, packed or not, reads records that are elements, or packed ones, each by what those before it
-/// leave of the default budget; and its fault is that of the first record that is no element.
+/// A strict reading of a list, packed or not, reads records that are elements, or packed ones, each by what those before
+/// it leave of the default budget; and its fault is that of the first record that is no element.
 pub fn strict_lists_are_pinned<C: StrictElementCodec, P: PackableCodec + StrictElementCodec>()
     ensures whole { (n : ℕ) (ds : List Datum) → ⟦<Repeated<C> as StrictCodec>⟧.IsFaultless n ds
         ↔ ((left : BudgetLeft) × AreElements (C.IsElement n) (C.leaves 100) defaults ds left) }
@@ -55,22 +57,24 @@ pub fn strict_lists_are_pinned<C: StrictElementCodec, P: PackableCodec + StrictE
         ↔ FirstElementFault (C.IsElement n) (C.ElementFault n) (C.leaves 100) defaults ds e }
     ensures packed_whole { (n : ℕ) (ds : List Datum) → ⟦<PackedRepeated<P> as StrictCodec>⟧.IsFaultless n ds
         ↔ ((left : BudgetLeft) × AreElements (P.IsElement n) (P.leaves 100) defaults ds left) }
-    ensures packed_first { (n : ℕ) (ds : List Datum) (e : DecodeError) → ⟦<PackedRepeated<P> as StrictCodec>⟧.HasFault n ds e
+    ensures packed_first { (n : ℕ) (ds : List Datum) (e : DecodeError) →
+        ⟦<PackedRepeated<P> as StrictCodec>⟧.HasFault n ds e
         ↔ FirstElementFault (P.IsElement n) (P.ElementFault n) (P.leaves 100) defaults ds e }
 {}
 
 /// A strict reading of a list of numbers, packed or not, reads each record of the number, or there is one fault.
 pub fn strict_number_lists_are_pinned<N: Numbered>()
-    ensures either { FaultlessOrFault ⟦<Repeated<N> as StrictCodec>⟧.IsFaultless ⟦<Repeated<N> as StrictCodec>⟧.HasFault }
+    ensures either { FaultlessOrFault ⟦<Repeated<N> as StrictCodec>⟧.IsFaultless
+        ⟦<Repeated<N> as StrictCodec>⟧.HasFault }
     ensures told { OneFault ⟦<Repeated<N> as StrictCodec>⟧.HasFault }
     ensures packed_either { FaultlessOrFault ⟦<PackedRepeated<N> as StrictCodec>⟧.IsFaultless
         ⟦<PackedRepeated<N> as StrictCodec>⟧.HasFault }
     ensures packed_told { OneFault ⟦<PackedRepeated<N> as StrictCodec>⟧.HasFault }
 {}
 
-/// The fault of a record: it has another wire type; or, of a string, its bytes are no UTF-8; or, in a list of numbers, it
-/// is that of the first payload of packed bytes that is none; or, in a list of messages, its encoding isn't merged into a
-/// blank. An element is a record without a fault.
+/// The fault of a record: it has another wire type; or, of a string, its bytes are no UTF-8; or, in a list of numbers,
+/// it is that of the first payload of packed bytes that is none; or, in a list of messages, its encoding isn't merged
+/// into a blank. An element is a record without a fault.
 pub fn record_faults_are_these<N: Numbered, K: MessageRecord, M: Message>()
     ensures number { (n : ℕ) (d : Datum) → ⟦<N as StrictSingularCodec>⟧.fault n d
         ≡ unless_found (N.Form.found d) N.Form.WIRE_TYPE n d }
@@ -91,11 +95,13 @@ pub fn record_faults_are_these<N: Numbered, K: MessageRecord, M: Message>()
     ensures message_listed { (n : ℕ) (b : BudgetLeft) (d : Datum) (e : DecodeError) →
         ⟦<MessageIn<K, M> as StrictElementCodec>⟧.ElementFault n b d e
         ↔ MessageRecordFault (M.merged 100) (M.cost 100) K.held K.WIRE_TYPE n d M.blank_is b e }
-    ensures message_element { (n : ℕ) (b : BudgetLeft) (d : Datum) → ⟦<MessageIn<K, M> as StrictElementCodec>⟧.IsElement n b d
-        ↔ ((v : M.Meaning) × (message_of (M.merged 100) (M.cost 100) M.blank_is b (encodings_in K.held (d ∷ [])) ≡ Some v)) }
+    ensures message_element { (n : ℕ) (b : BudgetLeft) (d : Datum) →
+        ⟦<MessageIn<K, M> as StrictElementCodec>⟧.IsElement n b d ↔ ((v : M.Meaning)
+        × (message_of (M.merged 100) (M.cost 100) M.blank_is b (encodings_in K.held (d ∷ [])) ≡ Some v)) }
 {}
 
-/// The fault of packed bytes: whole payloads begin them, more follows these, and the fault is why no payload begins that.
+/// The fault of packed bytes: whole payloads begin them, more follows these, and the fault is why no payload begins
+/// that.
 pub fn packed_faults_are_these()
     ensures { (w : WireType) (bs : List ℕ) (e : DecodeError) → (packed_fault w bs ≡ Some e)
         ↔ ((cs : List Content) × FaultBehind w cs bs e) }
