@@ -13,7 +13,7 @@ use Rattle.buffa_codec.specs.StrictFacts.{no_two}
 use Rattle.buffa_ext.specs.Messages.{AreMerged, encodings_in, is_left, merged_all, message_of, some_there}
 use Rattle.buffa_ext.specs.MessageFacts.{left_true, message_some}
 use Rattle.buffa_ext.specs.Strict.{AreMessages, FirstRecordFault, MessageRecordFault}
-use Rattle.buffa_wire.specs.BudgetLeft.{BudgetLeft, Covers, Lacks, Pays, defaults, minus, nothing}
+use Rattle.buffa_wire.specs.BudgetLeft.{BudgetLeft, Covers, Lacks, Pays, defaults, minus}
 use Rattle.buffa_wire.specs.Encoding.{wire_of}
 use Rattle.buffa_wire.specs.Records.{Datum}
 
