@@ -6,3 +6,4 @@ pub mod PinLemmas
 pub mod EqualStepLemmas
 pub mod StrictLemmas
 pub mod StrictPinLemmas
+pub mod PackedFaultLemmas

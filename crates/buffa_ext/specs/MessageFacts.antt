@@ -28,7 +28,7 @@ left_no : (b need : BudgetLeft) → Lacks b need → is_left b need ≡ false
 left_no b need (inl h) = rw (lt-leb need.unknown b.unknown h) refl
 left_no b need (inr h) = rw (lt-leb need.memory b.memory h) (and_right (nat_le need.unknown b.unknown) false refl)
 
-left_true : (b need : BudgetLeft) → is_left b need ≡ true → Covers b need
+pub left_true : (b need : BudgetLeft) → is_left b need ≡ true → Covers b need
 left_true b need h =
     let t = and_parts (nat_le need.unknown b.unknown) (nat_le need.memory b.memory) h in
     (leb-true need.unknown b.unknown t.0, leb-true need.memory b.memory t.1)

@@ -1,7 +1,9 @@
 -- Strict readings of messages: a record of another kind is a fault, and so is one whose encoding isn't merged.
 -- Source: the protobuf encoding guide, "Message Structure" and "Last One Wins".
-use Rattle.std.specs.Prelude.{◌≡◌, ◌↔◌, ◌⊎◌, ℕ, List, [], ◌∷◌, ◌++◌, Option, Some, None}
+use Rattle.std.specs.Prelude.{◌≡◌, ◌≢◌, ◌↔◌, ◌⊎◌, ℕ, List, [], ◌∷◌, ◌++◌, Option, Some, None}
+use Rattle.buffa_bytes.specs.Content.{Content, ContentFault, TakesContent}
 use Rattle.buffa_bytes.specs.declared.error.DecodeError.{DecodeError}
+use Rattle.buffa_bytes.specs.declared.error.DecodeError.TheVariants.{OutOfMemory}
 use Rattle.buffa_bytes.specs.declared.wire_type.WireType.{WireType}
 use Rattle.buffa_codec.specs.Strict.{Faultless, unless_found}
 use Rattle.buffa_ext.specs.Messages.{AreMerged, encodings_in}
@@ -19,9 +21,9 @@ module _ {X : Type 0} (merged : X → List ℕ → Option X) (cost : List ℕ �
   AreMessages old before ds =
       Faultless (kind_fault held w n) ds × (new : X) × (left : BudgetLeft) × AreMerged merged cost (encodings_in held ds) old before new left
 
-  -- a record holds no encoding, or its encoding isn't merged
+  -- a record holds no encoding, or its encoding isn't merged; want of memory is no fault
   abbrev pub MessageRecordFault : Datum → X → BudgetLeft → DecodeError → Type 0
-  MessageRecordFault d old left e = (kind_fault held w n d ≡ Some e) ⊎ ((t : List ℕ) × (held d ≡ Some t) × MergeFault (merged old t) (cost t) left e)
+  MessageRecordFault d old left e = (kind_fault held w n d ≡ Some e) ⊎ ((e ≢ OutOfMemory) × (t : List ℕ) × (held d ≡ Some t) × MergeFault (merged old t) (cost t) left e)
 
   -- the records before one hold encodings, which are merged; and of that one such is true, by what they made and left
   abbrev pub ReachesStrictly : (Datum → X → BudgetLeft → Type 0) → X → BudgetLeft → List Datum → Type 0
@@ -32,6 +34,14 @@ module _ {X : Type 0} (merged : X → List ℕ → Option X) (cost : List ℕ �
   -- the first fault of records
   abbrev pub FirstRecordFault : X → BudgetLeft → List Datum → DecodeError → Type 0
   FirstRecordFault old before ds e = ReachesStrictly (λ d mid left. MessageRecordFault d mid left e) old before ds
+
+-- ---- packed numbers
+
+-- payloads of wire type w that hold these begin the bytes, one after the other; more follows them, and this is why no payload
+-- begins that
+abbrev pub FaultBehind : WireType → List Content → List ℕ → DecodeError → Type 0
+FaultBehind w [] bs e = (bs ≢ []) × ContentFault w bs e
+FaultBehind w (c ∷ cs) bs e = (rest : List ℕ) × TakesContent w bs c rest × FaultBehind w cs rest e
 
 -- ---- what a strict reading leaves open
 

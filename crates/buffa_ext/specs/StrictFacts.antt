@@ -52,7 +52,7 @@ module _ {X : Type 0} (merged : X → List ℕ → Option X) (cost : List ℕ �
   told_by : (asks : Datum → Type 0) (d : Datum) (t : List ℕ) (old : X) (left : BudgetLeft) (e : DecodeError) → held d ≡ Some t → (e ≡ OutOfMemory → asks d) → (e ≢ OutOfMemory → MergeFault (merged old t) (cost t) left e)
       → (e ≡ OutOfMemory) ⊎ (e ≢ OutOfMemory) → IsFaultOrFull (MessageRecordFault merged cost held w n d old left) (asks d) e
   told_by asks d t old left e h full fault (inl k) = inr (k, full k)
-  told_by asks d t old left e h full fault (inr k) = inl (inr (t, h, fault k))
+  told_by asks d t old left e h full fault (inr k) = inl (inr (k, t, h, fault k))
 
   -- a record whose encoding is refused has a fault, or takes memory
   pub refused_record : (asks : Datum → Type 0) (d : Datum) (old new : X) (before after : BudgetLeft) (e : DecodeError) → encodings_in held (d ∷ []) ≢ [] → (e ≡ OutOfMemory → asks d)
@@ -87,7 +87,7 @@ module _ {X : Type 0} (merged : X → List ℕ → Option X) (cost : List ℕ �
   -- an element has no fault
   pub no_fault : (blank v : X) (b : BudgetLeft) (d : Datum) (e : DecodeError) → message_of merged cost blank b (encodings_in held (d ∷ [])) ≡ Some v → MessageRecordFault merged cost held w n d blank b e → ⊥
   no_fault blank v b d e h (inl k) = none_held (held d) d e blank v b k h
-  no_fault blank v b d e h (inr (t, same, k)) =
+  no_fault blank v b d e h (inr (other, t, same, k)) =
       let one : encodings_in held (d ∷ []) ≡ t ∷ [] = ap (λ z. cons_option z []) same in
       no_two (message_of merged cost blank b (t ∷ [])) v (message_none merged cost blank b (t ∷ []) e (fault_of_one merged cost t blank b e k)) (sym (ap (message_of merged cost blank b) one) ∙ h)
 
@@ -104,7 +104,7 @@ module _ {X : Type 0} (merged : X → List ℕ → Option X) (cost : List ℕ �
   -- records that are all merged have no first fault
   pub no_first_fault : (old : X) (before : BudgetLeft) (ds : List Datum) (e : DecodeError) → AreMessages merged cost held w n old before ds → FirstRecordFault merged cost held w n old before ds e → ⊥
   no_first_fault old before ds e h (front, d, back, mid, left, cut, kinds, done, inl k) = not_both (kind_fault held w n) front d back e (subst (Faultless (kind_fault held w n)) cut h.0) k
-  no_first_fault old before ds e h (front, d, back, mid, left, cut, kinds, done, inr (t, same, k)) =
+  no_first_fault old before ds e h (front, d, back, mid, left, cut, kinds, done, inr (other, t, same, k)) =
       no_fault_behind (encodings_in held front) (encodings_in held back) t old mid h.1 before left h.2 e
       (subst (λ l. AreMerged merged cost l old before h.1 h.2)
       (ap (encodings_in held) cut ∙ filter_map-append held front (d ∷ back) ∙ ap (λ o. encodings_in held front ++ cons_option o (encodings_in held back)) same) h.3)

@@ -8,6 +8,7 @@ ghost use Rattle.buffa_ext.specs.declared.descriptor.Make.{Make};
 ghost use Rattle.buffa_ext.specs.declared.descriptor.NoDefault.{NoDefault};
 ghost use Rattle.buffa_bytes.specs.Pinned.{IsCopied, SameIsOne};
 ghost use Rattle.buffa_bytes.specs.declared.error.EncodeError.TheVariants.{MessageTooLarge};
+ghost use Rattle.buffa_bytes.specs.declared.wire_type.WireType.TheVariants.{LengthDelimited, StartGroup};
 ghost use Rattle.buffa_wire.specs.BudgetLeft.{BudgetLeft, Covers, defaults};
 ghost use Rattle.buffa_wire.specs.Parse.{Fits};
 ghost use Rattle.buffa_wire.specs.Records.{Datum, bytes as held_bytes, records_of};
@@ -29,7 +30,8 @@ use crate::message::{GroupCodec, MessageCodec, MessageIn};
 use crate::record::{Delimited, Grouped, MessageRecord};
 use crate::steps::{ReplayFault, Step};
 pub use crate::strict_laws::{
-    record_faults_are_these, strict_messages_are_pinned, strict_values_are_pinned,
+    packed_faults_are_these, record_faults_are_these, strict_lists_are_pinned,
+    strict_messages_are_pinned, strict_number_lists_are_pinned, strict_values_are_pinned,
 };
 use buffa_codec::{ExtensionCodec, LastWins, Repeated, SingularCodec};
 use buffa_wire::{Message, MessageSpec};
@@ -185,9 +187,11 @@ pub fn messages_mean_these<K: MessageRecord, M: Message>(value: &M, output: &Opt
     ensures held { ⟦<Delimited as MessageRecord>⟧.never_fails }
 {}
 
-/// A record of bytes holds its bytes, and a group the encoding of its records; which of them take memory to
-/// be merged, at any depth; and which encodings have no group.
+/// A record of bytes holds its bytes, and a group the encoding of its records; their wire types; which of them take
+/// memory to be merged, at any depth; and which encodings have no group.
 pub fn held_encodings_are_these()
+    ensures wire_type { (⟦<Delimited as MessageRecord>⟧.WIRE_TYPE ≡ LengthDelimited)
+        × (⟦<Grouped as MessageRecord>⟧.WIRE_TYPE ≡ StartGroup) }
     ensures held { (d : Datum) → (⟦<Delimited as MessageRecord>⟧.held d ≡ bytes_held d)
         × (⟦<Grouped as MessageRecord>⟧.held d ≡ group_held d) }
     ensures holder { (t : List ℕ) → (⟦<Delimited as MessageRecord>⟧.holder t ≡ held_bytes t)

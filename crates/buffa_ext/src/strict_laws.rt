@@ -1,18 +1,23 @@
 //! What strict readings are, and what their contracts leave open: each law is a function with nothing to do, whose contract
 //! is the law.
 
-ghost use Rattle.std.specs.Prelude.{◌≡◌, ◌↔◌, ℕ, List, Some};
+ghost use Rattle.std.specs.Prelude.{◌≡◌, ◌↔◌, ℕ, List, [], ◌∷◌, None, Some};
+ghost use Rattle.buffa_bytes.specs.Content.{Content};
 ghost use Rattle.buffa_bytes.specs.declared.error.DecodeError.{DecodeError};
+ghost use Rattle.buffa_bytes.specs.declared.wire_type.WireType.{WireType};
 ghost use Rattle.buffa_wire.specs.BudgetLeft.{BudgetLeft, defaults};
 ghost use Rattle.buffa_wire.specs.Records.{Datum};
-ghost use Rattle.buffa_codec.specs.Strict.{FirstFault, bytes_fault, number_list_fault, string_fault, unless_found};
-ghost use Rattle.buffa_ext.specs.Strict.{FaultlessOrFault, FirstRecordFault, NoneIsAbsent, OneFault};
+ghost use Rattle.buffa_codec.specs.Strict.{AreElements, FirstElementFault, FirstFault};
+ghost use Rattle.buffa_codec.specs.Strict.{bytes_fault, number_list_fault, packed_fault, string_fault, unless_found};
+ghost use Rattle.buffa_ext.specs.Messages.{encodings_in, message_of};
+ghost use Rattle.buffa_ext.specs.Strict.{AreMessages, FaultBehind, FaultlessOrFault, FirstRecordFault};
+ghost use Rattle.buffa_ext.specs.Strict.{MessageRecordFault, NoneIsAbsent, OneFault};
 
 use crate::message::MessageIn;
 use crate::record::MessageRecord;
 use buffa_codec::{
-    BytesCodec, ExtensionCodec, LastWins, Numbered, StrictCodec, StrictElementCodec,
-    StrictSingularCodec, StringCodec,
+    BytesCodec, ExtensionCodec, LastWins, Numbered, PackableCodec, PackedRepeated, Repeated,
+    StrictCodec, StrictElementCodec, StrictSingularCodec, StringCodec,
 };
 use buffa_wire::Message;
 
@@ -28,23 +33,76 @@ pub fn strict_values_are_pinned<C: LastWins + StrictSingularCodec>()
         ↔ FirstFault (C.fault n) ds e }
 {}
 
-/// A strict reading of a message reads none only where there is no record; and its fault is that of the first record that
-/// is of another kind, or whose encoding isn't merged.
+/// A strict reading of a message reads records of the kind whose encodings are merged in order, and none only where
+/// there is no record; or there is a fault, that of the first record that is of another kind, or whose encoding isn't
+/// merged.
 ///
-/// Left open: which fault is told of that encoding.
+/// Left open: which fault is told of that encoding; it is not want of memory.
 pub fn strict_messages_are_pinned<K: MessageRecord, M: Message>()
+    ensures either { FaultlessOrFault ⟦<MessageIn<K, M> as StrictCodec>⟧.IsFaultless
+        ⟦<MessageIn<K, M> as StrictCodec>⟧.HasFault }
+    ensures whole { (n : ℕ) (ds : List Datum) → ⟦<MessageIn<K, M> as StrictCodec>⟧.IsFaultless n ds
+        ↔ AreMessages (M.merged 100) (M.cost 100) K.held K.WIRE_TYPE n M.blank_is defaults ds }
     ensures absent { NoneIsAbsent ⟦<MessageIn<K, M> as StrictCodec>⟧.IsFaultless ⟦<MessageIn<K, M> as ExtensionCodec>⟧.reads }
     ensures first { (n : ℕ) (ds : List Datum) (e : DecodeError) → ⟦<MessageIn<K, M> as StrictCodec>⟧.HasFault n ds e
         ↔ FirstRecordFault (M.merged 100) (M.cost 100) K.held K.WIRE_TYPE n M.blank_is defaults ds e }
 {}
 
-/// The fault of a record: it has another wire type; or, of a string, its bytes are no UTF-8; or, in a list of numbers, it
-/// is that of the first payload of packed bytes that is none.
-pub fn record_faults_are_these<N: Numbered>()
+/// A strict reading of a list, packed or not, reads records that are elements, or packed ones, each by what those before
+/// it leave of the default budget; and its fault is that of the first record that is no element.
+pub fn strict_lists_are_pinned<C: StrictElementCodec, P: PackableCodec + StrictElementCodec>()
+    ensures whole { (n : ℕ) (ds : List Datum) → ⟦<Repeated<C> as StrictCodec>⟧.IsFaultless n ds
+        ↔ ((left : BudgetLeft) × AreElements (C.IsElement n) (C.leaves 100) defaults ds left) }
+    ensures first { (n : ℕ) (ds : List Datum) (e : DecodeError) → ⟦<Repeated<C> as StrictCodec>⟧.HasFault n ds e
+        ↔ FirstElementFault (C.IsElement n) (C.ElementFault n) (C.leaves 100) defaults ds e }
+    ensures packed_whole { (n : ℕ) (ds : List Datum) → ⟦<PackedRepeated<P> as StrictCodec>⟧.IsFaultless n ds
+        ↔ ((left : BudgetLeft) × AreElements (P.IsElement n) (P.leaves 100) defaults ds left) }
+    ensures packed_first { (n : ℕ) (ds : List Datum) (e : DecodeError) →
+        ⟦<PackedRepeated<P> as StrictCodec>⟧.HasFault n ds e
+        ↔ FirstElementFault (P.IsElement n) (P.ElementFault n) (P.leaves 100) defaults ds e }
+{}
+
+/// A strict reading of a list of numbers, packed or not, reads each record of the number, or there is one fault.
+pub fn strict_number_lists_are_pinned<N: Numbered>()
+    ensures either { FaultlessOrFault ⟦<Repeated<N> as StrictCodec>⟧.IsFaultless
+        ⟦<Repeated<N> as StrictCodec>⟧.HasFault }
+    ensures told { OneFault ⟦<Repeated<N> as StrictCodec>⟧.HasFault }
+    ensures packed_either { FaultlessOrFault ⟦<PackedRepeated<N> as StrictCodec>⟧.IsFaultless
+        ⟦<PackedRepeated<N> as StrictCodec>⟧.HasFault }
+    ensures packed_told { OneFault ⟦<PackedRepeated<N> as StrictCodec>⟧.HasFault }
+{}
+
+/// The fault of a record: it has another wire type; or, of a string, its bytes are no UTF-8; or, in a list of numbers,
+/// it is that of the first payload of packed bytes that is none; or, in a list of messages, its encoding isn't merged
+/// into a blank. An element is a record without a fault.
+pub fn record_faults_are_these<N: Numbered, K: MessageRecord, M: Message>()
     ensures number { (n : ℕ) (d : Datum) → ⟦<N as StrictSingularCodec>⟧.fault n d
         ≡ unless_found (N.Form.found d) N.Form.WIRE_TYPE n d }
     ensures string { (n : ℕ) (d : Datum) → ⟦<StringCodec as StrictSingularCodec>⟧.fault n d ≡ string_fault n d }
     ensures bytes { (n : ℕ) (d : Datum) → ⟦<BytesCodec as StrictSingularCodec>⟧.fault n d ≡ bytes_fault n d }
     ensures listed { (n : ℕ) (b : BudgetLeft) (d : Datum) (e : DecodeError) →
         ⟦<N as StrictElementCodec>⟧.ElementFault n b d e ↔ (number_list_fault N.Form.found N.Form.WIRE_TYPE n d ≡ Some e) }
+    ensures number_element { (n : ℕ) (b : BudgetLeft) (d : Datum) →
+        ⟦<N as StrictElementCodec>⟧.IsElement n b d ↔ (number_list_fault N.Form.found N.Form.WIRE_TYPE n d ≡ None) }
+    ensures string_listed { (n : ℕ) (b : BudgetLeft) (d : Datum) (e : DecodeError) →
+        ⟦<StringCodec as StrictElementCodec>⟧.ElementFault n b d e ↔ (string_fault n d ≡ Some e) }
+    ensures string_element { (n : ℕ) (b : BudgetLeft) (d : Datum) →
+        ⟦<StringCodec as StrictElementCodec>⟧.IsElement n b d ↔ (string_fault n d ≡ None) }
+    ensures bytes_listed { (n : ℕ) (b : BudgetLeft) (d : Datum) (e : DecodeError) →
+        ⟦<BytesCodec as StrictElementCodec>⟧.ElementFault n b d e ↔ (bytes_fault n d ≡ Some e) }
+    ensures bytes_element { (n : ℕ) (b : BudgetLeft) (d : Datum) →
+        ⟦<BytesCodec as StrictElementCodec>⟧.IsElement n b d ↔ (bytes_fault n d ≡ None) }
+    ensures message_listed { (n : ℕ) (b : BudgetLeft) (d : Datum) (e : DecodeError) →
+        ⟦<MessageIn<K, M> as StrictElementCodec>⟧.ElementFault n b d e
+        ↔ MessageRecordFault (M.merged 100) (M.cost 100) K.held K.WIRE_TYPE n d M.blank_is b e }
+    ensures message_element { (n : ℕ) (b : BudgetLeft) (d : Datum) →
+        ⟦<MessageIn<K, M> as StrictElementCodec>⟧.IsElement n b d ↔ ((v : M.Meaning)
+        × (message_of (M.merged 100) (M.cost 100) M.blank_is b (encodings_in K.held (d ∷ [])) ≡ Some v)) }
+{}
+
+/// The fault of packed bytes: whole payloads begin them, more follows these, and the fault is why no payload begins
+/// that.
+pub fn packed_faults_are_these()
+    ensures { (w : WireType) (bs : List ℕ) (e : DecodeError) → (packed_fault w bs ≡ Some e)
+        ↔ ((cs : List Content) × FaultBehind w cs bs e) }
 {}
