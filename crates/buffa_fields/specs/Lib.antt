@@ -48,3 +48,6 @@ pub mod Pinned
 pub mod Levels
 pub mod LevelFacts
 pub mod LevelKindFacts
+pub mod Nests
+pub mod Held
+pub mod HeldFacts
