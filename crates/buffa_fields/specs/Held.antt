@@ -17,7 +17,7 @@ use Rattle.buffa_fields.specs.Layout.{Layout, Shape, both_need, both_take, is_nu
 use Rattle.buffa_fields.specs.Members.{field}
 use Rattle.buffa_fields.specs.Nested.{FitsInside}
 use Rattle.buffa_fields.specs.Nests.{Nest, Nests, nest, no_nest, first, inside_of, nest_list, nest_means, nest_of, own_of, parts_of}
-use Rattle.buffa_fields.specs.Refusals.{RefusesNew}
+use Rattle.buffa_fields.specs.Refusals.{RefusesNew, UnderAny}
 use Rattle.buffa_fields.specs.RepeatedNested.{MessagesTakeMemory, messages_cost, messages_levels, messages_records, messages_slots, messages_taken}
 use Rattle.buffa_fields.specs.RepeatedNestedFacts.{messages_stay}
 
@@ -62,6 +62,9 @@ through get l = record {
   Owes = l.Owes;
   back = l.back;
   again = l.again;
+  Exact = l.Exact;
+  numbers = l.numbers;
+  least = l.least;
 }
 
 -- the same members, which read back where a fact holds; with it their numbers are sound
@@ -105,6 +108,9 @@ owing l sound Fact so = record {
   Owes = Fact × l.Owes;
   back = λ owes ok d v fits normal low. l.back owes.1 (so owes.0 ok) d v fits normal low;
   again = λ owes ok d v normal low. l.again owes.1 (so owes.0 ok) d v normal low;
+  Exact = l.Exact;
+  numbers = λ owes exact v. l.numbers owes.1 exact v;
+  least = λ owes exact ok d v normal high own kept. l.least owes.1 exact (so owes.0 ok) d v normal high own kept;
 }
 
 module _ {M X : Type 0} (l : Layout M X) (k each : ℕ) where
@@ -172,26 +178,27 @@ module _ {M X : Type 0} (l : Layout M X) (k each : ℕ) where
 
   -- ---- the messages inside are a member
   module _ {P : Type 0} (says : P → List (Nest X)) where
-    -- with what a level below means and costs, and those that read back
-    abbrev pub inside_shape : (ℕ → Nest X → List ℕ → Option (Nest X)) → (ℕ → List ℕ → BudgetLeft) → (Nest X → Type 0) → Shape P (List (Nest X))
-    inside_shape merged cost Normal = record {
+    -- with what a level below means and costs, those that read back, and what their levels are exact by
+    abbrev pub inside_shape : (ℕ → Nest X → List ℕ → Option (Nest X)) → (ℕ → List ℕ → BudgetLeft) → (Nest X → Type 0) → Type 0 → Shape P (List (Nest X))
+    inside_shape merged cost Normal Exact = record {
       whole = true;
       meaning = says;
       blank = [];
       takes = messages_taken blank_nest merged;
       checks = λ n w. check_wire n LengthDelimited w;
-      refuses = RefusesNew;
+      refuses = UnderAny RefusesNew;
       asks = MessagesTakeMemory;
       need = messages_cost each cost;
       records = messages_records nest_encoding;
       slots = messages_slots nest_encoding nest_slots;
       levels = messages_levels nest_levels;
+      Exact = Exact;
       normal = λ vs. AllByRecursion Normal vs;
       stays = messages_stay each cost;
     }
 
     abbrev pub held_shape : Shape P (List (Nest X))
-    held_shape = inside_shape nest_merged nest_cost (FitsInside IsNormalNest nest_records)
+    held_shape = inside_shape nest_merged nest_cost (FitsInside IsNormalNest nest_records) l.Exact
 
   abbrev pub inside_means : Nest M → List (Nest X)
   inside_means t = map (nest_means l.meaning) (nest_list (inside_of t))

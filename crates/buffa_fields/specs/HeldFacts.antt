@@ -1,9 +1,11 @@
 -- What is proved of messages that hold a list of their own type.
-use Rattle.std.proofs.Common.{◌≡◌, inl, inr, ℕ, zero, suc, max, ◌==◌, ◌≤◌, ◌&&◌, Bool, true, false, not, List, [], ◌∷◌, ◌++◌, length, map, Option, Some, None, Result, Ok, Err, refl, sym, ap, subst, ◌∙◌, arith, if◌then◌else◌}
+use Rattle.std.proofs.Common.{◌≡◌, inl, inr, ℕ, zero, suc, max, ◌==◌, ◌<◌, ◌≤◌, ◌&&◌, ◌||◌, Bool, true, false, not, List, [], ◌∷◌, ◌++◌, length, map, Option, Some, None, Result, Ok, Err, refl, sym, ap, subst, ◌∙◌, arith, if◌then◌else◌}
+use Rattle.std.proofs.lemmas.Bool.{eq-eqb}
 use Rattle.std.specs.List.{AllByRecursion}
 use Rattle.std.specs.Option.{option_map}
 use Rattle.buffa_bytes.specs.Front.{delimited_at, skip_at}
 use Rattle.buffa_bytes.specs.Gives.{◌>>=◌}
+use Rattle.buffa_bytes.specs.Values.{delimited_encoding}
 use Rattle.buffa_bytes.specs.WireType.{same_wire}
 use Rattle.buffa_bytes.specs.declared.error.DecodeError.{DecodeError}
 use Rattle.buffa_bytes.specs.declared.wire_type.WireType.{WireType}
@@ -11,7 +13,7 @@ use Rattle.buffa_bytes.specs.declared.wire_type.WireType.TheVariants.{LengthDeli
 use Rattle.buffa_wire.specs.BudgetLeft.{BudgetLeft, Lacks, Pays, PaysAtMost, nothing, plus, units}
 use Rattle.buffa_wire.specs.ByField.{cost_by, merged_by}
 use Rattle.buffa_wire.specs.Encoding.{records_encoding}
-use Rattle.buffa_wire.specs.Message.{IsMerged, MergesBytes, cost_of_payload}
+use Rattle.buffa_wire.specs.Message.{IsMerged, MergesBytes, cost_of_payload, merged_in}
 use Rattle.buffa_wire.specs.Passes.{cap}
 use Rattle.buffa_wire.specs.Parse.{Fits}
 use Rattle.buffa_wire.specs.Records.{Datum, bytes, records_of}
@@ -20,12 +22,18 @@ use Rattle.buffa_fields.specs.Keep.{AllNumbers}
 use Rattle.buffa_fields.specs.Layout.{Layout, ReadsBackTo, Shape, both_need, both_take}
 use Rattle.buffa_fields.specs.LayoutFacts.{reads_back}
 use Rattle.buffa_fields.specs.Held.{blank_nest, held_shape, inside_levels, AreNormalInside, inside_records, inside_shape, inside_slots, is_sound, nest_cost, nest_encoding, nest_layout, nest_levels, nest_merged, nest_need, IsNormalNest, nest_records, nest_slots, nest_takes, through}
+use Rattle.buffa_fields.specs.LevelFacts.{back_holds, firsts, front_holds, others_low, some_mapped}
+use Rattle.buffa_fields.specs.LevelKindFacts.{messages_low, messages_numbers}
+use Rattle.buffa_fields.specs.Levels.{AreExactLevels, IsTakenWritten}
 use Rattle.buffa_fields.specs.Lists.{element_records}
 use Rattle.buffa_fields.specs.Members.{field}
 use Rattle.buffa_fields.specs.Nested.{FitsInside, inside, message_merged}
 use Rattle.buffa_fields.specs.Nests.{Nest, Nests, nest, no_nest, first, nest_list, nest_means, nest_of, nests_in, nests_in-nest_list, nests_mean, inside_of, own_of, parts_of}
+use Rattle.buffa_fields.specs.PairFacts.{sound_parts}
 use Rattle.buffa_fields.specs.RepeatedNested.{messages_cost, messages_levels, messages_records, messages_slots, messages_taken}
 use Rattle.buffa_fields.specs.RepeatedNestedFacts.{messages_back}
+use Rattle.buffa_fields.specs.ValueFacts.{delimited_whole}
+use Rattle.buffa_fields.specs.WrittenFacts.{height_low, of_any_number, taken_written}
 
 -- ---- a level down
 -- takers that are the same at a depth make the same of bytes there
@@ -118,13 +126,16 @@ module _ {M X : Type 0} (l : Layout M X) (k each : ℕ) where
     -- at a level, where those inside read back a level below
     module _ (d : ℕ) (m : Nest X → List ℕ → Option (Nest X)) (c : ℕ → List ℕ → BudgetLeft) (below : (t : Nest X) → IsBelow d t → m (blank_nest l k each) (nest_encoding l k each t) ≡ Some t) where
       abbrev level_shape : Shape (List (Nest M)) (List (Nest X))
-      level_shape = inside_shape l k each (λ ts. map (nest_means l.meaning) ts) (λ _. m) c (IsBelow d)
+      level_shape = inside_shape l k each (λ ts. map (nest_means l.meaning) ts) (λ _. m) c (IsBelow d) ⊥
 
       abbrev level_layout : Layout (Nest M) (List (Nest X) × X)
       level_layout = field k (λ t. nest_list (inside_of t)) level_shape (through own_of l)
 
       level_back : ReadsBackTo level_shape
-      level_back = record { back = λ n number e vs fits normal low. messages_back (λ _. m) (blank_nest l k each) (nest_encoding l k each) (nest_levels l k each) (IsBelow d) (λ e v ok _. below v ok) n number e vs fits normal low }
+      level_back = record {
+        back = λ n number e vs fits normal low. messages_back (λ _. m) (blank_nest l k each) (nest_encoding l k each) (nest_levels l k each) (IsBelow d) (λ e v ok _. below v ok) n number e vs fits normal low;
+        exact = λ none. absurd none;
+      }
 
       at_level : (t : Nest X) → Fits (records_of (nest_records l k each t)) → IsNormalNest l k each t → nest_levels l k each t ≤ d →
           option_map nest_of (merged_of (nest_takes l k each m) d (parts_of (blank_nest l k each)) (nest_encoding l k each t)) ≡ Some t
@@ -139,11 +150,72 @@ module _ {M X : Type 0} (l : Layout M X) (k each : ℕ) where
     nest_back zero t fits normal low = at_level zero (λ _ _. None) (λ _ _. nothing) (λ u h. absurd (omega (arith, h.1))) t fits normal low
     nest_back (suc d) t fits normal low = at_level (suc d) (nest_merged l k each d) (λ _ _. nothing) (λ u h. nest_back d u h.0.1 h.0.0 (omega (arith, h.1))) t fits normal low
 
-    pub held_back : {P : Type 0} (says : P → List (Nest X)) → ReadsBackTo (held_shape l k each says)
-    held_back says = record {
-      back = λ n number d vs fits normal low.
-          messages_back (nest_merged l k each) (blank_nest l k each) (nest_encoding l k each) (nest_levels l k each) (FitsInside (IsNormalNest l k each) (nest_records l k each)) (λ d v ok low. nest_back d v ok.1 ok.0 low) n number d vs fits normal low;
-    }
+  -- ---- levels
+  -- what takes the messages inside
+  abbrev inside_takes : Taker (List (Nest X))
+  inside_takes = messages_taken (blank_nest l k each) (nest_merged l k each)
+
+  inside_numbers : (ns : Nests X) → AllNumbers (λ n. n == k) (inside_records l k each ns)
+  inside_numbers no_nest = tt
+  inside_numbers (first t ns) = (eq-eqb k k refl, inside_numbers ns)
+
+  -- one of them is taken only at a depth of one more than its levels, where it is merged only at a depth of these
+  module _ (t : Nest X) (least : (d : ℕ) (u : Nest X) → nest_merged l k each d (blank_nest l k each) (nest_encoding l k each t) ≡ Some u → nest_levels l k each t ≤ d) where
+    level_down : (d : ℕ) (u : Nest X) → merged_in (nest_merged l k each) d (blank_nest l k each) (nest_encoding l k each t) ≡ Some u → suc (nest_levels l k each t) ≤ d
+    level_down zero u h = cc
+    level_down (suc d) u h = omega (arith, least d u h)
+
+    one_low : (d : ℕ) → IsTakenWritten inside_takes d (k, bytes (nest_encoding l k each t)) → suc (nest_levels l k each t) ≤ d
+    unfolding message_merged
+    one_low d (number, fits, small, old, u, h) =
+        let e = nest_encoding l k each t in
+        let put : List (Nest X) → Nest X → List (Nest X) = λ old x. old ++ x ∷ [] in
+        let one = some_mapped (put old) (message_merged (nest_merged l k each) d (blank_nest l k each) k LengthDelimited (delimited_encoding e)) u h in
+        let is : message_merged (nest_merged l k each) d (blank_nest l k each) k LengthDelimited (delimited_encoding e) ≡ merged_in (nest_merged l k each) d (blank_nest l k each) e = rw (delimited_whole e fits) refl in
+        level_down d one.0 (sym is ∙ one.1)
+
+  module _ (sound : l.sound ≡ true) (exact : l.Exact) where
+    -- a message's own members
+    own_low : (d : ℕ) (v : X) (ns : Nests X) → IsNormalNest l k each (nest v ns) → AllByRecursion (IsTakenWritten all_takes d) (nest_records l k each (nest v ns)) → l.levels v ≤ d
+    own_low d v ns normal all =
+        let records = subst (λ z. AllByRecursion (IsTakenWritten all_takes d) z) (l.in_two v) (back_holds (IsTakenWritten all_takes d) (inside_records l k each ns) (l.records v) all) in
+        let own = front_holds (IsTakenWritten all_takes d) (l.own v) (l.kept v) records in
+        let kept = back_holds (IsTakenWritten all_takes d) (l.own v) (l.kept v) records in
+        let other = (sound_parts k (l.declares k) (true && l.sound) (is_sound l k each normal.0.0 sound)).1 in
+        others_low k all_takes l normal.0.1 exact other (λ d v n w p off. rw off refl) d [] v sound normal.2 (height_low all_takes d (l.kept v) kept) own
+        (of_any_number all_takes d (λ n. n == k || l.declares n) (l.kept v) kept)
+
+    mutual
+      nest_low : (t : Nest X) (d : ℕ) (old u : Nest X) → Fits (records_of (nest_records l k each t)) → IsNormalNest l k each t → nest_merged l k each d old (nest_encoding l k each t) ≡ Some u → nest_levels l k each t ≤ d
+      nest_low (nest v ns) d old u fits normal h =
+          let e = nest_encoding l k each (nest v ns) in
+          let parts = some_mapped nest_of (merged_of all_takes d (parts_of old) e) u (sym (nest_merged_is d old e) ∙ h) in
+          let all = taken_written all_takes d (nest_records l k each (nest v ns)) (parts_of old) parts.0 fits parts.1 in
+          let below = firsts k all_takes inside_takes (λ a. a) d (λ v n w p is. (λ x. (x, v.1), rw is refl)) (inside_records l k each ns) (l.records v) (inside_numbers ns) all in
+          omega (arith, all_low ns d normal.1 below, own_low d v ns normal all)
+
+      all_low : (ns : Nests X) (d : ℕ) → AreNormalInside l k each ns → AllByRecursion (IsTakenWritten inside_takes d) (inside_records l k each ns) → inside_levels l k each ns ≤ d
+      all_low no_nest d normal h = omega arith
+      all_low (first t ns) d normal h = omega (arith, one_low t (λ e u is. nest_low t e (blank_nest l k each) u normal.0.1 normal.0.0 is) d h.0, all_low ns d normal.1 h.1)
+
+    by_answer : (d : ℕ) (old t : Nest X) → Fits (records_of (nest_records l k each t)) → IsNormalNest l k each t → d < nest_levels l k each t →
+        (o : Option (Nest X)) → nest_merged l k each d old (nest_encoding l k each t) ≡ o → o ≡ None
+    by_answer d old t fits normal less None is = refl
+    by_answer d old t fits normal less (Some u) is = absurd (omega (arith, less, nest_low t d old u fits normal is))
+
+    pub nests_exact : AreExactLevels (nest_merged l k each) (nest_encoding l k each) (nest_records l k each) (IsNormalNest l k each) (nest_levels l k each)
+    nests_exact d old t fits normal less = by_answer d old t fits normal less (nest_merged l k each d old (nest_encoding l k each t)) refl
+
+  -- ---- the member
+  pub held_back : (sound : l.sound ≡ true) {P : Type 0} (says : P → List (Nest X)) → ReadsBackTo (held_shape l k each says)
+  held_back sound says = record {
+    back = λ n number d vs fits normal low.
+        messages_back (nest_merged l k each) (blank_nest l k each) (nest_encoding l k each) (nest_levels l k each) (FitsInside (IsNormalNest l k each) (nest_records l k each)) (λ d v ok low. nest_back sound d v ok.1 ok.0 low) n number d vs fits normal low;
+    exact = λ exact. record {
+      numbers = messages_numbers (nest_encoding l k each);
+      least = messages_low (nest_merged l k each) (blank_nest l k each) (nest_encoding l k each) (nest_records l k each) (IsNormalNest l k each) (nest_levels l k each) (nests_exact sound exact);
+    };
+  }
 
   -- ---- what the message means
   pub listed_mean : (ns : Nests M) → nest_list (nests_mean l.meaning ns) ≡ map (nest_means l.meaning) (nest_list ns)
