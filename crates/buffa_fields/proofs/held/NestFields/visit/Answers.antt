@@ -1,6 +1,7 @@
 use Rattle.std.proofs.Common.{map, subst, sym}
 use Rattle.buffa_fields.proofs.HeldLemmas.{both_seen, both_wait}
 use Rattle.buffa_fields.specs.Held.{nest_encoding, nest_layout, nest_slots}
+use Rattle.buffa_fields.specs.HeldFacts.{held_back}
 use Rattle.buffa_fields.specs.Layout.{more}
 use Rattle.buffa_fields.specs.Nests.{nest_means}
 use Rattle.buffa_fields.specs.RepeatedNested.{messages_records, messages_slots}
@@ -41,3 +42,8 @@ returns-clause-seen g c = λ z seen.
     let two = c.visit-2.ensures.seen (more (messages_records (nest_encoding l k each) k inside) slots z) one in
     subst (λ m. g.V.Visitor.IsAt ((nest_layout l k each).seen m z) c.visit-2.new.visitor) c.self.view_is
     (subst (λ y. g.V.Visitor.IsAt y c.visit-2.new.visitor) (both_seen l k each own items z) two)
+
+pub returns-clause-back : goal.returns-clause-back
+returns-clause-back g c =
+    let l = g.O.Fields.layout in
+    (g.met.O.Holds.other, (held_back l g.O.Holds.NUMBER g.O.Fields.COST g.O.Fields.sound (λ ts. map (nest_means l.meaning) ts), c.visit-2.ensures.back))
