@@ -1,5 +1,5 @@
 -- What is proved of the passes over messages that hold a list of their own type.
-use Rattle.std.proofs.Common.{◌≡◌, ◌≢◌, inl, inr, ℕ, zero, suc, ◌==◌, ◌&&◌, not, ◌+◌, ◌-◌, ◌<◌, ◌≤◌, Bool, true, false, List, [], ◌∷◌, ◌++◌, length, map, get_or, min, Option, Result, Ok, Err, IfErr, OnErr, OnOk, refl, sym, ap, subst, ◌∙◌, arith}
+use Rattle.std.proofs.Common.{◌≡◌, ◌≢◌, inr, ℕ, zero, suc, ◌==◌, ◌&&◌, not, ◌+◌, ◌-◌, ◌<◌, ◌≤◌, Bool, true, false, List, [], ◌∷◌, ◌++◌, length, map, get_or, min, Option, Result, Ok, Err, IfErr, OnErr, OnOk, refl, sym, ap, subst, ◌∙◌, arith}
 use Rattle.std.proofs.lemmas.Bool.{and_parts, eq-eqb, ne_eqb}
 use Rattle.buffa_bytes.specs.Front.{delimited_at}
 use Rattle.buffa_bytes.specs.Number.{IsNumber}
@@ -15,13 +15,12 @@ use Rattle.buffa_wire.specs.Encoding.{records_encoding}
 use Rattle.buffa_wire.specs.Message.{IsInside, MergesBytes, MessageFault, cost_of_payload}
 use Rattle.buffa_wire.specs.Passes.{IsNext, IsSized, IsSmall, IsWritten}
 use Rattle.buffa_wire.specs.Pinned.{done, refusal}
-use Rattle.buffa_wire.specs.Records.{Datum}
 use Rattle.buffa_fields.specs.Layout.{Choice, Layout, Seen, Took, is_number, more}
 use Rattle.buffa_fields.specs.LayoutFacts.{failed, sized_more, small_both, sum}
 use Rattle.buffa_fields.specs.PairFacts.{number_of_test}
-use Rattle.buffa_fields.specs.Held.{held_shape, inside_means, nest_encoding, nest_layout, nest_slots}
+use Rattle.buffa_fields.specs.Held.{held_shape, nest_encoding, nest_layout, nest_slots}
 use Rattle.buffa_fields.specs.HeldFacts.{inside_records_are, inside_slots_are, listed_mean}
-use Rattle.buffa_fields.specs.Nests.{Nest, Nests, nest, first, nest_heights, nest_list, nest_list-nests_in, nest_height, nest_means, nests_in, nests_mean, own_of}
+use Rattle.buffa_fields.specs.Nests.{Nest, Nests, nest, nest_heights, nest_list, nest_list-nests_in, nest_height, nest_means, nests_in, nests_mean}
 use Rattle.buffa_fields.specs.RepeatedNested.{messages_records, messages_slots}
 
 -- ---- how deep

@@ -200,9 +200,6 @@ module _ {M X : Type 0} (l : Layout M X) (k each : ℕ) where
     abbrev pub held_shape : Shape P (List (Nest X))
     held_shape = inside_shape nest_merged nest_cost (FitsInside IsNormalNest nest_records) l.Exact
 
-  abbrev pub inside_means : Nest M → List (Nest X)
-  inside_means t = map (nest_means l.meaning) (nest_list (inside_of t))
-
   -- the message: the member of those inside, and its own
   abbrev pub nest_layout : Layout (Nest M) (List (Nest X) × X)
   nest_layout = owing (field k (λ t. nest_list (inside_of t)) (held_shape (λ ts. map (nest_means l.meaning) ts)) (through own_of l)) l.sound IsInsideNumber is_sound

@@ -1,5 +1,5 @@
 -- What is proved of messages that hold a list of their own type.
-use Rattle.std.proofs.Common.{◌≡◌, inl, inr, ℕ, zero, suc, max, ◌==◌, ◌<◌, ◌≤◌, ◌&&◌, ◌||◌, Bool, true, false, not, List, [], ◌∷◌, ◌++◌, length, map, Option, Some, None, Result, Ok, Err, refl, sym, ap, subst, ◌∙◌, arith, if◌then◌else◌}
+use Rattle.std.proofs.Common.{◌≡◌, inl, inr, ℕ, zero, suc, max, ◌==◌, ◌<◌, ◌≤◌, ◌&&◌, ◌||◌, true, List, [], ◌∷◌, ◌++◌, length, map, Option, Some, None, Result, Ok, Err, refl, sym, ap, subst, ◌∙◌, arith, if◌then◌else◌}
 use Rattle.std.proofs.lemmas.Bool.{eq-eqb}
 use Rattle.std.specs.List.{AllByRecursion}
 use Rattle.std.specs.Option.{option_map}
@@ -28,7 +28,7 @@ use Rattle.buffa_fields.specs.Levels.{AreExactLevels, IsTakenWritten}
 use Rattle.buffa_fields.specs.Lists.{element_records}
 use Rattle.buffa_fields.specs.Members.{field}
 use Rattle.buffa_fields.specs.Nested.{FitsInside, inside, message_merged}
-use Rattle.buffa_fields.specs.Nests.{Nest, Nests, nest, no_nest, first, nest_list, nest_means, nest_of, nests_in, nests_in-nest_list, nests_mean, inside_of, own_of, parts_of}
+use Rattle.buffa_fields.specs.Nests.{Nest, Nests, nest, no_nest, first, nest_list, nest_means, nest_of, nests_in-nest_list, nests_mean, inside_of, own_of, parts_of}
 use Rattle.buffa_fields.specs.PairFacts.{sound_parts}
 use Rattle.buffa_fields.specs.RepeatedNested.{messages_cost, messages_levels, messages_records, messages_slots, messages_taken}
 use Rattle.buffa_fields.specs.RepeatedNestedFacts.{messages_back}

@@ -1,5 +1,5 @@
 -- Messages that hold a list of their own type: a nest is what a message has of its own, and the messages inside it.
-use Rattle.std.specs.Prelude.{◌≡◌, ℕ, suc, ◌+◌, ◌≤◌, max, List, [], ◌∷◌, refl}
+use Rattle.std.specs.Prelude.{◌≡◌, ℕ, ◌+◌, ◌≤◌, max, List, [], ◌∷◌, refl}
 use Rattle.std.proofs.Common.{ap, arith}
 use Rattle.std.specs.Coded.{Coded}
 use Rattle.buffa_wire.specs.Code.{stored_head, stored_tail}

@@ -1,4 +1,4 @@
-use Rattle.std.proofs.Common.{◌≢◌, ◌∙◌, [], ◌∷◌, map, ap, Ok, Err, arith, refl, subst, sym}
+use Rattle.std.proofs.Common.{◌∙◌, [], ◌∷◌, map, ap, Ok, Err, arith, subst, sym}
 use Rattle.std.proofs.lemmas.List.{map-append}
 use Rattle.std.proofs.lemmas.Result.{err_from_is_err_and}
 use Rattle.buffa_bytes.specs.declared.wire_type.WireType.TheVariants.{LengthDelimited}
@@ -6,9 +6,8 @@ use Rattle.buffa_bytes.specs.Front.{delimited_at}
 use Rattle.buffa_bytes.proofs.FullLemmas.{delimited_full}
 use Rattle.buffa_bytes.proofs.WireLemmas.{other_not_full}
 use Rattle.buffa_wire.proofs.MergeLoopLemmas.{begins, ended, goes_on, no_tag, refused_next, shorter}
-use Rattle.buffa_wire.proofs.SpentLemmas.{is_there}
 use Rattle.buffa_wire.specs.Message.{cost_of_payload}
-use Rattle.buffa_fields.proofs.HeldLemmas.{field_inside, field_own, kid_merged}
+use Rattle.buffa_fields.proofs.HeldLemmas.{field_inside, kid_merged}
 use Rattle.buffa_fields.proofs.InsideLemmas.{charged, put_behind, uncharged}
 use Rattle.buffa_fields.proofs.NestedLemmas.{inside_taken, message_there, message_wire_err}
 use Rattle.buffa_fields.proofs.StandsLemmas.{by_members}
