@@ -15,3 +15,4 @@ pub mod PackedLemmas
 pub mod KeptMapLemmas
 pub mod KeptLawLemmas
 pub mod LevelLemmas
+pub mod HeldLemmas

@@ -1,5 +1,4 @@
 -- What a call leaves of a context that it was passed: its depth, and the loan of a budget.
-use Rattle.std.specs.Prelude.{ℕ}
 use Rattle.buffa_wire.specs.BudgetLeft.{BudgetLeft}
 use denote.Ref.{MutBor}
 

@@ -47,4 +47,8 @@ pub mod EntryDepthFacts
 pub mod Pinned
 pub mod Levels
 pub mod LevelFacts
+pub mod WrittenFacts
 pub mod LevelKindFacts
+pub mod Nests
+pub mod Held
+pub mod HeldFacts

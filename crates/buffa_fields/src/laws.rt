@@ -48,7 +48,8 @@ use crate::fields::Fields;
 use crate::group::Group;
 use crate::keeping::Keeping;
 pub use crate::level_laws::{
-    levels_of_fields_are_exact, messages_in_lists_are_these, messages_in_members_are_these,
+    levels_of_fields_are_exact, messages_in_lists_are_these,
+    messages_in_lists_of_themselves_are_these, messages_in_members_are_these,
     values_have_no_messages,
 };
 use crate::map_member::MapOf;

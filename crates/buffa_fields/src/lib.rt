@@ -3,6 +3,7 @@
 
 pub mod fields;
 pub mod group;
+pub mod held;
 pub mod keeping;
 pub mod kept;
 pub mod kept_list;

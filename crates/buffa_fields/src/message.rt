@@ -35,7 +35,7 @@ fn size_members<M: Fields>(message: &M, sizer: &mut Sizer<'_>)
 
 // The size pass of a message by its members.
 #[inline(always)]
-fn size<M: Fields>(message: &M, cache: &mut SizeCache) -> Result<u32, EncodeError>
+pub(crate) fn size<M: Fields>(message: &M, cache: &mut SizeCache) -> Result<u32, EncodeError>
     ensures sized { IsSized (records_encoding (M.layout.records (M.layout.meaning message.now)))
         (M.layout.slots (M.layout.meaning message.now)) cache.old result cache.new }
     ensures always { M.layout.slots (M.layout.meaning message.now) ≡ [] → IsOk result }
@@ -60,7 +60,7 @@ fn write_members<M: Fields, S: EncodeSink>(message: &M, writer: &mut Writer<'_, 
 
 // The write pass.
 #[inline(always)]
-fn write<M: Fields, S: EncodeSink>(
+pub(crate) fn write<M: Fields, S: EncodeSink>(
     message: &M,
     cache: &mut SizeCache,
     sink: &mut S,

@@ -1,0 +1,143 @@
+-- What is proved of the passes over messages that hold a list of their own type.
+use Rattle.std.proofs.Common.{◌≡◌, ◌≢◌, inr, ℕ, zero, suc, ◌==◌, ◌&&◌, not, ◌+◌, ◌-◌, ◌<◌, ◌≤◌, Bool, true, false, List, [], ◌∷◌, ◌++◌, length, map, get_or, min, Option, Result, Ok, Err, IfErr, OnErr, OnOk, refl, sym, ap, subst, ◌∙◌, arith}
+use Rattle.std.proofs.lemmas.Bool.{and_parts, eq-eqb, ne_eqb}
+use Rattle.buffa_bytes.specs.Front.{delimited_at}
+use Rattle.buffa_bytes.specs.Number.{IsNumber}
+use Rattle.buffa_bytes.specs.declared.error.DecodeError.{DecodeError}
+use Rattle.buffa_bytes.specs.declared.error.DecodeError.TheVariants.{OutOfMemory}
+use Rattle.buffa_bytes.specs.declared.error.EncodeError.{EncodeError}
+use Rattle.buffa_bytes.specs.declared.wire_type.WireType.{WireType}
+use Rattle.buffa_wire.proofs.EncodingLemmas.{records_encoding-append}
+use Rattle.buffa_wire.proofs.PassLemmas.{appended_twice, next_front, next_past, written_short, written_then}
+use Rattle.buffa_wire.specs.BudgetLeft.{BudgetLeft, PaysAtMost}
+use Rattle.buffa_wire.specs.Cache.{Cache}
+use Rattle.buffa_wire.specs.Encoding.{records_encoding}
+use Rattle.buffa_wire.specs.Message.{IsInside, MergesBytes, MessageFault, cost_of_payload}
+use Rattle.buffa_wire.specs.Passes.{IsNext, IsSized, IsSmall, IsWritten}
+use Rattle.buffa_wire.specs.Pinned.{done, refusal}
+use Rattle.buffa_fields.specs.Layout.{Choice, Layout, Seen, Took, is_number, more}
+use Rattle.buffa_fields.specs.LayoutFacts.{failed, sized_more, small_both, sum}
+use Rattle.buffa_fields.specs.PairFacts.{number_of_test}
+use Rattle.buffa_fields.specs.Held.{held_shape, nest_encoding, nest_layout, nest_slots}
+use Rattle.buffa_fields.specs.HeldFacts.{inside_records_are, inside_slots_are, listed_mean}
+use Rattle.buffa_fields.specs.Nests.{Nest, Nests, nest, nest_heights, nest_list, nest_list-nests_in, nest_height, nest_means, nests_in, nests_mean}
+use Rattle.buffa_fields.specs.RepeatedNested.{messages_records, messages_slots}
+
+-- ---- how deep
+pub low_kid : {O : Type 0} (ts : List (Nest O)) (i : ℕ) (x : Nest O) → i < length ts → nest_height (get_or ts i x) ≤ nest_heights (nests_in ts)
+low_kid [] i x lt = absurd (omega (arith, lt))
+low_kid (t ∷ ts) zero x lt = omega arith
+low_kid (t ∷ ts) (suc i) x lt = omega (arith, low_kid ts i x (omega (arith, lt)))
+
+-- ---- the message of a length and so many bytes
+module _ {X : Type 0} (merged : ℕ → X → List ℕ → Option X) (cost : ℕ → List ℕ → BudgetLeft) where
+  pub kid_merged : (d : ℕ) → d ≢ 0 → (old new : X) (bs b rest : List ℕ) (before after : BudgetLeft) (r : Result (Unit {0}) DecodeError) → delimited_at bs ≡ Ok (b, rest) →
+      MergesBytes merged cost (d - 1) old b before r new after →
+      OnOk r (IsInside merged cost d old bs before new after rest)
+      × IfErr r (λ e. e ≢ OutOfMemory → MessageFault merged cost d old bs before e)
+      × OnErr r (PaysAtMost before (cost_of_payload cost d (delimited_at bs)) after)
+  kid_merged zero deep old new bs b rest before after r is h = absurd (deep refl)
+  kid_merged (suc d) deep old new bs b rest before after (Ok x) is h =
+      let k : suc d - 1 ≡ d = omega arith in
+      let m = rw k at h in
+      ((b, is, m.0, m.1), tt, tt)
+  kid_merged (suc d) deep old new bs b rest before after (Err e) is h =
+      let k : suc d - 1 ≡ d = omega arith in
+      let m = rw k at h in
+      (tt, (λ ne. inr (b, rest, is, m.1 ne)), rw is (m.0))
+
+-- ---- one field
+first_of : (A B : Type 0) (t : Bool) → t ≡ true → A → Choice t A B
+first_of A B true is a = a
+first_of A B false is a = cc
+
+second_of : (A B : Type 0) (t : Bool) → t ≡ false → B → Choice t A B
+second_of A B true is b = cc
+second_of A B false is b = b
+
+module _ {M X : Type 0} (l : Layout M X) (k each : ℕ) where
+  pub held_number : (is_number k && not (l.declares k)) ≡ true → IsNumber k
+  held_number other = number_of_test k (and_parts (is_number k) (not (l.declares k)) other).0
+
+  module _ (d n : ℕ) (w : WireType) (bs rest : List ℕ) (before after : BudgetLeft) (r : Result (Unit {0}) DecodeError) where
+    -- a message inside takes it
+    pub field_inside : (own : M) (old new : List (Nest M)) → n ≡ k → Took (held_shape l k each (λ ts. map (nest_means l.meaning) ts)) d old n w bs before r new after rest →
+        (nest_layout l k each).Taken d (nest own (nests_in old)) n w bs before r (nest own (nests_in new)) after rest
+    field_inside own old new is took =
+        first_of _ _ (n == k) (eq-eqb n k is) (
+          subst (λ xs. Took (held_shape l k each (λ ts. map (nest_means l.meaning) ts)) d xs n w bs before r (nest_list (nests_in new)) after rest) (sym (nest_list-nests_in old))
+              (subst (λ ys. Took (held_shape l k each (λ ts. map (nest_means l.meaning) ts)) d old n w bs before r ys after rest) (sym (nest_list-nests_in new)) took),
+          refl,
+        )
+
+    -- a member of its own does
+    pub field_own : (old new : M) (ns : Nests M) → n ≢ k → l.Taken d old n w bs before r new after rest → (nest_layout l k each).Taken d (nest old ns) n w bs before r (nest new ns) after rest
+    field_own old new ns other taken = second_of _ _ (n == k) (ne_eqb n k other) (refl, taken)
+
+  -- ---- the passes: those inside, and then its own
+  module _ (own : M) (ts : List (Nest M)) where
+    abbrev v : Nest X
+    v = nest_means l.meaning (nest own (nests_in ts))
+
+    abbrev inside_written : List ℕ
+    inside_written = records_encoding (messages_records (nest_encoding l k each) k (map (nest_means l.meaning) ts))
+
+    abbrev inside_slotted : List ℕ
+    inside_slotted = messages_slots (nest_encoding l k each) (nest_slots l k each) (map (nest_means l.meaning) ts)
+
+    abbrev own_written : List ℕ
+    own_written = records_encoding (l.records (l.meaning own))
+
+    abbrev own_slotted : List ℕ
+    own_slotted = l.slots (l.meaning own)
+
+    means_are : map (nest_means l.meaning) ts ≡ nest_list (nests_mean l.meaning (nests_in ts))
+    means_are = ap (map (nest_means l.meaning)) (sym (nest_list-nests_in ts)) ∙ sym (listed_mean l k each (nests_in ts))
+
+    encoding_is : inside_written ++ own_written ≡ nest_encoding l k each v
+    encoding_is =
+        ap (λ z. records_encoding z ++ own_written) (ap (messages_records (nest_encoding l k each) k) means_are ∙ inside_records_are l k each (nests_mean l.meaning (nests_in ts)))
+        ∙ sym (records_encoding-append _ (l.records (l.meaning own)))
+
+    slots_are : inside_slotted ++ own_slotted ≡ nest_slots l k each v
+    slots_are = ap (λ z. z ++ own_slotted) (ap (messages_slots (nest_encoding l k each) (nest_slots l k each)) means_are ∙ inside_slots_are l k each (nests_mean l.meaning (nests_in ts)))
+
+    -- sizes
+    as_sized : (c0 c2 : Cache) (r : Result ℕ EncodeError) → IsSized (inside_written ++ own_written) (inside_slotted ++ own_slotted) c0 r c2 → IsSized (nest_encoding l k each v) (nest_slots l k each v) c0 r c2
+    as_sized c0 c2 r h = subst (λ (e : List ℕ). IsSized e (nest_slots l k each v) c0 r c2) encoding_is (subst (λ (s : List ℕ). IsSized (inside_written ++ own_written) s c0 r c2) slots_are h)
+
+    pub nest_sized : (c0 c1 c2 : Cache) (below mine new : ℕ) → IsSized inside_written inside_slotted c0 (sum below) c1 → IsSized own_written own_slotted c1 (sum mine) c2 → new ≡ min (below + mine) 4294967295 →
+        IsSized (nest_encoding l k each v) (nest_slots l k each v) c0 (sum new) c2
+    nest_sized c0 c1 c2 below mine new h j e = as_sized c0 c2 (sum new) (sized_more inside_written own_written inside_slotted own_slotted c0 c1 c2 below mine new h j e)
+
+    pub inside_fails : (c0 c1 : Cache) (e : EncodeError) → IsSized inside_written inside_slotted c0 (failed e) c1 → IsSized (nest_encoding l k each v) (nest_slots l k each v) c0 (failed e) c1
+    inside_fails c0 c1 e h = h
+
+    pub own_fails : (c0 c1 c2 : Cache) (below : ℕ) (e : EncodeError) → IsSized inside_written inside_slotted c0 (sum below) c1 → IsSized own_written own_slotted c1 (failed e) c2 → IsSized (nest_encoding l k each v) (nest_slots l k each v) c0 (failed e) c2
+    own_fails c0 c1 c2 below e h (which, longer) = (which, (inside_slotted ++ longer.0, longer.1 ∙ appended_twice inside_slotted longer.0 c0 c1 h.1))
+
+    -- encodings
+    pub next_inside : (c : Cache) → IsNext (nest_slots l k each v) c → IsNext inside_slotted c
+    next_inside c h = next_front inside_slotted own_slotted c (subst (λ (s : List ℕ). IsNext s c) (sym slots_are) h)
+
+    pub next_own : (c0 c1 : Cache) (b0 b1 : List ℕ) → IsNext (nest_slots l k each v) c0 → IsWritten inside_written inside_slotted c0 b0 done c1 b1 → IsNext own_slotted c1
+    next_own c0 c1 b0 b1 h w = subst (λ z. IsNext own_slotted z) (sym w.2.0) (next_past inside_slotted own_slotted c0 (subst (λ (s : List ℕ). IsNext s c0) (sym slots_are) h))
+
+    as_written : (c0 c2 : Cache) (b0 b2 : List ℕ) (r : Result (Unit {0}) EncodeError) → IsWritten (inside_written ++ own_written) (inside_slotted ++ own_slotted) c0 b0 r c2 b2 → IsWritten (nest_encoding l k each v) (nest_slots l k each v) c0 b0 r c2 b2
+    as_written c0 c2 b0 b2 r h = subst (λ (e : List ℕ). IsWritten e (nest_slots l k each v) c0 b0 r c2 b2) encoding_is (subst (λ (s : List ℕ). IsWritten (inside_written ++ own_written) s c0 b0 r c2 b2) slots_are h)
+
+    pub nest_written : (c0 c1 c2 : Cache) (b0 b1 b2 : List ℕ) (r : Result (Unit {0}) EncodeError) → IsWritten inside_written inside_slotted c0 b0 done c1 b1 → IsWritten own_written own_slotted c1 b1 r c2 b2 →
+        IsWritten (nest_encoding l k each v) (nest_slots l k each v) c0 b0 r c2 b2
+    nest_written c0 c1 c2 b0 b1 b2 r h w =
+        as_written c0 c2 b0 b2 r (written_then (IsSmall inside_written) (IsSmall own_written) (IsSmall (inside_written ++ own_written)) inside_written own_written inside_slotted own_slotted c0 c1 c2 b0 b1 b2 (small_both inside_written own_written) r h w)
+
+    pub inside_cut : (c0 c1 : Cache) (b0 b1 : List ℕ) (e : EncodeError) → IsWritten inside_written inside_slotted c0 b0 (refusal e) c1 b1 → IsWritten (nest_encoding l k each v) (nest_slots l k each v) c0 b0 (refusal e) c1 b1
+    inside_cut c0 c1 b0 b1 e h =
+        as_written c0 c1 b0 b1 (refusal e) (written_short (IsSmall inside_written) (IsSmall own_written) (IsSmall (inside_written ++ own_written)) inside_written own_written inside_slotted own_slotted c0 c1 c1 b0 b1 b1 (λ s. (small_both inside_written own_written s).0) e h)
+
+    -- a visitor: what waits for both waits for those inside and its own, and those are seen first
+    pub both_wait : {V : Type 0} (Waits : List ℕ → V → Type 0) (v : V) → Waits ((nest_layout l k each).slots ((nest_layout l k each).meaning (nest own (nests_in ts)))) v → Waits (inside_slotted ++ own_slotted) v
+    both_wait Waits v h = subst (λ xs. Waits (messages_slots (nest_encoding l k each) (nest_slots l k each) (map (nest_means l.meaning) xs) ++ own_slotted) v) (nest_list-nests_in ts) h
+
+    pub both_seen : (z : Seen) → l.seen own (more (messages_records (nest_encoding l k each) k (map (nest_means l.meaning) ts)) inside_slotted z) ≡ (nest_layout l k each).seen (nest own (nests_in ts)) z
+    both_seen z = ap (λ xs. l.seen own (more (messages_records (nest_encoding l k each) k (map (nest_means l.meaning) xs)) (messages_slots (nest_encoding l k each) (nest_slots l k each) (map (nest_means l.meaning) xs)) z)) (sym (nest_list-nests_in ts))

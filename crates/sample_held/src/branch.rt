@@ -1,0 +1,108 @@
+//! A branch, and the branches on it.
+
+ghost use Rattle.std.proofs.Common.{lit<, refl};
+ghost use Rattle.buffa_fields.specs.Members.{field, keep};
+
+use buffa_fields::fields::Fields;
+use buffa_fields::held::{Holds, Nest};
+use buffa_fields::kept::{self, KeptFields};
+use buffa_fields::meaning::And3;
+use buffa_fields::member::Member;
+use buffa_fields::message::Listing;
+use buffa_fields::plain::Plain;
+use buffa_fields::repeated::Repeated;
+use buffa_fields::visitor::Visitor;
+use buffa_map::map_codec::{Int32, Str};
+use buffa_wire::{Blank, DecodeContext, DecodeError, Tag, UnknownFields};
+use std::alloc::Global;
+
+/// What a branch has of its own:
+///
+/// message Branch {
+///     string name = 1;
+///     repeated int32 leaves = 2 [packed = false];
+///     repeated Branch branches = 3;
+/// }
+///
+/// ```ignore
+/// impl Holds for Own { .. }
+/// ```
+#[derive(Drop)]
+pub struct Own {
+    pub name: String,
+    pub leaves: Vec<i32>,
+    pub rest: UnknownFields,
+}
+
+/// A branch, with the branches on it.
+///
+/// ```ignore
+/// let mut branch: Branch = Blank::blank(alloc);
+/// ```
+pub type Branch = Nest<Own>;
+
+impl Fields for Own {
+    type Meaning = And3<[u8; 0], [i32; 0], KeptFields>;
+
+    const COST: usize = 96;
+
+    ghost COST = { 96 };
+
+    ghost positive = { lit< tt };
+
+    ghost layout = { field 1 (λ m. m.name) ⟦<Plain<Str> as Member>⟧.shape (
+        field 2 (λ m. m.leaves) ⟦<Repeated<Int32> as Member>⟧.shape (
+        keep (λ m. m.rest.records))) };
+
+    ghost sound = { refl };
+
+    fn visit<V: Visitor>(&self, visitor: &mut V) {
+        visitor.visit::<Plain<Str>>(1, &self.name);
+        visitor.visit::<Repeated<Int32>>(2, &self.leaves);
+        visitor.visit_kept(&self.rest);
+    }
+
+    fn take(
+        &mut self,
+        alloc: Global,
+        tag: Tag,
+        buf: &mut &[u8],
+        ctx: DecodeContext<'_>,
+    ) -> Result<(), DecodeError> {
+        match tag.field_number() {
+            1 => Plain::<Str>::merge(&mut self.name, alloc, tag, buf, ctx),
+            2 => Repeated::<Int32>::merge(&mut self.leaves, alloc, tag, buf, ctx),
+            _ => kept::keep(alloc, &mut self.rest, tag, buf, ctx),
+        }
+    }
+}
+
+impl Blank for Own {
+    type Meaning = <Own as Fields>::Meaning;
+
+    ghost meaning = { ⟦<Own as Fields>⟧.layout.meaning };
+
+    ghost blank_is = { ⟦<Own as Fields>⟧.layout.blank };
+
+    fn blank(alloc: Global) -> Own {
+        Own {
+            name: String::new(alloc),
+            leaves: Vec::new(alloc),
+            rest: UnknownFields::new(alloc),
+        }
+    }
+}
+
+impl Listing for Own {
+    ghost means = { λ m. refl };
+
+    ghost starts = { refl };
+}
+
+impl Holds for Own {
+    const NUMBER: u32 = 3;
+
+    ghost NUMBER = { 3 };
+
+    ghost other = { refl };
+}

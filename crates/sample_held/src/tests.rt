@@ -1,0 +1,45 @@
+//! Branches on branches. The bytes are worked out by hand, from the protobuf encoding guide.
+
+use crate::branch::Branch;
+use buffa_wire::{Blank, Budget, DecodeContext, DecodeError, Message, RECURSION_LIMIT};
+use std::test::Fail;
+
+#[test]
+fn branches_are_passed_on(rt: HostRuntime) -> Result<(), Fail> {
+    let alloc = rt.alloc();
+    let mut branch: Branch = Blank::blank(alloc);
+    let bytes: [u8; 22] = [
+        0x0A, 0x01, 0x61, // name is "a"
+        0x1A, 0x09, // a branch,
+        0x1A, 0x03, 0x0A, 0x01, 0x63, // on which there is "c",
+        0x0A, 0x02, 0x62, 0x62, // and which is "bb"
+        0x10, 0x05, // a leaf
+        0x20, 0x07, // field 4 isn't declared
+        0x1A, 0x02, 0x10, 0x06, // a second branch, with a leaf
+    ];
+    branch.merge_from_slice(alloc, &bytes)?;
+    assert!(rt;
+        branch.inside.len() == 2 && branch.own.leaves.len() == 1 && branch.own.rest.len() == 1
+    );
+    assert!(rt; branch.inside[0].own.name.as_str() == "bb" && branch.inside[0].inside.len() == 1);
+    let again: [u8; 22] = [
+        0x1A, 0x09, 0x1A, 0x03, 0x0A, 0x01, 0x63, 0x0A, 0x02, 0x62, 0x62, // the branches,
+        0x1A, 0x02, 0x10, 0x06, // one by one
+        0x0A, 0x01, 0x61, 0x10, 0x05, 0x20, 0x07, // and what is its own
+    ];
+    let encoding = branch.try_encode_to_vec(alloc)?;
+    assert!(rt; encoding.as_slice() == again.as_slice());
+    Ok(())
+}
+
+#[test]
+fn a_branch_too_deep_is_refused(rt: HostRuntime) -> Result<(), Fail> {
+    let alloc = rt.alloc();
+    let mut branch: Branch = Blank::blank(alloc);
+    let bytes: [u8; 4] = [0x1A, 0x02, 0x1A, 0x00];
+    let mut budget = Budget::new(10);
+    let mut buf: &[u8] = &bytes;
+    let answer = branch.merge(alloc, &mut buf, DecodeContext::new(1, &mut budget));
+    assert!(rt; answer == Err(DecodeError::RecursionLimitExceeded));
+    Ok(())
+}
