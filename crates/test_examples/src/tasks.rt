@@ -130,6 +130,23 @@ fn a_closed_enum_keeps_what_it_does_not_declare(rt: HostRuntime) -> Result<(), F
     Ok(())
 }
 
+// Sets a closed enum, so that no number that came and isn't declared is written behind it.
+fn set_shade(swatch: &mut Swatch, shade: Shade) {
+    swatch.rest.retain(|field| field.number != 1);
+    swatch.shade = Some(shade);
+}
+
+#[test]
+fn a_closed_enum_is_set_in_place_of_what_came(rt: HostRuntime) -> Result<(), Fail> {
+    let alloc = rt.alloc();
+    let mut swatch = swatch_of(alloc, &[0x08, 0x63])?;
+    set_shade(&mut swatch, Shade::B);
+    let encoding = swatch.try_encode_to_vec(alloc)?;
+    let written: &[u8] = &[0x08, 0x01];
+    assert!(rt; encoding.as_slice() == written);
+    Ok(())
+}
+
 #[test]
 fn an_extension_names_its_number(rt: HostRuntime) {
     let ext = Extension::<Int32>::new(7, "test.Carrier");
