@@ -35,11 +35,6 @@ use Rattle.sample_node.specs.NodeMeaning.{children_cost, children_take, node_cos
 abbrev Answer : Type 0
 Answer = Result (Unit {0}) DecodeError
 
--- what holds of a refused call
-pub if_refused : (r : Answer) (P : Type 0) → ((e : DecodeError) → r ≡ Err e → P) → OnErr r P
-if_refused (Ok x) P h = tt
-if_refused (Err e) P h = h e refl
-
 -- ---- a field of another wire type
 module _ {K V X : Type 0} (key : Reading K) (val : Reading V) (does : X → List ℕ → MapEntry K V → X) (costs : ℕ → List ℕ → BudgetLeft)
     (d n : ℕ) (w : WireType) (old : X) (bs rest : List ℕ) (before : BudgetLeft) where

@@ -4,5 +4,6 @@ pub mod NodeMeaning
 pub mod NodeEncoding
 pub mod NodeFacts
 pub mod NodeBackFacts
+pub mod Refused
 pub mod Stops
 pub mod Calls

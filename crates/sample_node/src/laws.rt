@@ -11,6 +11,7 @@ ghost use Rattle.buffa_map.specs.Pairs.{means};
 ghost use Rattle.buffa_map.specs.Children.{children_in};
 ghost use Rattle.sample_node.specs.Branch.{Branch, blank_node, branch, shade_number};
 ghost use Rattle.sample_node.specs.NodeMeaning.{node_cost, node_merged};
+ghost use Rattle.sample_node.specs.Refused.{IsNodeRefused};
 ghost use Rattle.sample_node.specs.NodeEncoding.{IsNormalNode, node_encoding, node_levels, node_records, node_slots};
 
 use crate::node::Node;
@@ -27,7 +28,7 @@ pub fn node_is_this()
     ensures levels { ⟦<Node as MessageSpec>⟧.levels ≡ node_levels }
     ensures normal { (v : Branch) → ⟦<Node as MessageSpec>⟧.normal v ↔ IsNormalNode v }
     ensures refused { (d : ℕ) (v : Branch) (n : ℕ) (w : _) (bs : List ℕ) (l : _) (e : _) (u : Branch) →
-        ⟦<Node as MessageSpec>⟧.Refused d v n w bs l e u ↔ (u ≡ v) }
+        ⟦<Node as MessageSpec>⟧.Refused d v n w bs l e u ↔ IsNodeRefused d v n w bs l e u }
     ensures blank { ⟦<Node as Blank>⟧.blank_is ≡ blank_node }
     ensures meaning { (m : Node) → ⟦<Node as Blank>⟧.meaning m ≡ m }
 {}

@@ -1,18 +1,21 @@
 //! A message that holds itself, keeps entries with undeclared values, and every field that it doesn't declare.
 
-ghost use Rattle.std.specs.Prelude.{OnErr, [], IfErr, ◌≡◌, ◌≢◌, ◌+◌};
+ghost use Rattle.std.specs.Prelude.{OnErr, [], Err, IfErr, ◌≡◌, ◌≢◌, ◌+◌};
 ghost use Rattle.buffa_wire.specs.Passes.{IsNext, IsSized};
 ghost use Rattle.std.specs.BTreeMap.{values};
 ghost use Rattle.std.specs.List.{Contains};
 ghost use Rattle.buffa_map.specs.MessageField.{IsFieldWritten, field_slots};
 ghost use Rattle.buffa_wire.specs.BudgetLeft.{budget_left};
 ghost use Rattle.buffa_bytes.specs.Gives.{FullOnlyIf};
-ghost use Rattle.buffa_wire.specs.Message.{BeginsField, IsFieldMerged, IsMerged};
+ghost use Rattle.buffa_wire.specs.Message.{BeginsField, IsFieldMerged, IsMerged, Stands};
+ghost use Rattle.buffa_bytes.specs.Front.{check_wire};
+ghost use Rattle.buffa_bytes.specs.declared.wire_type.WireType.TheVariants.{LengthDelimited};
 ghost use Rattle.sample_node.specs.Calls.{TakesChild};
 ghost use Rattle.buffa_map.specs.Scalars.{int32_writing};
 ghost use Rattle.buffa_map.specs.Children.{meant_children};
 ghost use Rattle.sample_node.specs.NodeMeaning.{node_cost, node_merged};
 ghost use Rattle.sample_node.specs.NodeEncoding.{IsNodeWritten, node_encoding, node_slots};
+ghost use Rattle.sample_node.specs.Refused.{IsNodeRefused};
 ghost use Rattle.sample_node.specs.Stops.{Stops};
 
 use crate::shade::Shade;
@@ -92,7 +95,6 @@ impl Blank for Node {
 
 impl MessageSpec for Node {
     ghost use Rattle.std.proofs.Common.{arith};
-    ghost use Rattle.buffa_wire.specs.Message.{Unchanged};
     ghost use Rattle.sample_node.specs.NodeEncoding.{IsNormalNode, node_levels, node_records};
     ghost use Rattle.sample_node.specs.NodeBackFacts.{node_back};
     ghost use Rattle.sample_node.specs.NodeFacts.{node_cost_is, node_encoding_records, node_merged_is, node_need_stays};
@@ -110,7 +112,7 @@ impl MessageSpec for Node {
 
     ghost cost = { node_cost };
 
-    ghost Refused = { Unchanged };
+    ghost Refused = { IsNodeRefused };
 
     ghost encoding = { node_encoding };
 
@@ -161,7 +163,8 @@ impl Message for Node {
         ensures merged { IsFieldMerged node_merged node_cost ctx.entry.depth self.old tag.number tag.wire_type buf.old.now
             ctx.entry.budget.now result self.new (budget_left ctx.exit) buf.new.now }
         ensures full { FullOnlyIf result (tag.wire_type ≢ WireType.EndGroup) }
-        ensures stays { OnErr result (self.new ≡ self.old) }
+        ensures refused { IfErr result (λ e. IsNodeRefused ctx.entry.depth self.old tag.number tag.wire_type buf.old.now
+            ctx.entry.budget.now e self.new) }
     {
         let DecodeContext { depth, budget } = ctx;
         merge_node_field(alloc, self, tag, buf, depth, budget)
@@ -268,6 +271,7 @@ where
     ensures taken { TakesChild tag depth children.old budget.old buf.old children.new budget.new buf.new result
         (λ m. m.entries) }
     ensures stays { OnErr result (children.new.entries ≡ children.old.entries) }
+    ensures wire { (e : _) → check_wire tag.number LengthDelimited tag.wire_type ≡ Err e → result ≡ Err e }
 {
     check_wire_type(tag, WireType::LengthDelimited)?;
     let _old = children.len();
@@ -282,7 +286,8 @@ where
     answer
 }
 
-// Merges the field whose tag was read. A refused one leaves the node as it was.
+// Merges the field whose tag was read. A refused one leaves the node as it was, and tells its own fault where it isn't
+// the entry of a child.
 #[cycle(merge)]
 fn merge_node_field(
     alloc: Global,
@@ -295,7 +300,8 @@ fn merge_node_field(
     ensures merged { IsFieldMerged node_merged node_cost depth node.old tag.number tag.wire_type buf.old.now budget.old result
         node.new budget.new buf.new.now }
     ensures full { FullOnlyIf result (tag.wire_type ≢ WireType.EndGroup) }
-    ensures stays { OnErr result (node.new ≡ node.old) }
+    ensures refused { IfErr result (λ e. IsNodeRefused depth node.old tag.number tag.wire_type buf.old.now budget.old e
+        node.new) }
 {
     let number = tag.field_number();
     if number == 1 {
@@ -354,6 +360,8 @@ pub fn merge_node(
     ensures merged { IsMerged (node_merged depth node.old bytes.now) (node_cost depth bytes.now) budget.old result node.new
         budget.new }
     ensures full { FullOnlyIf result (BeginsField bytes.now) }
+    ensures stands { IfErr result (λ e. Stands node_merged node_cost IsNodeRefused depth node.old bytes.now budget.old e
+        node.new) }
     ensures stops { IfErr result (Stops node_merged node_cost depth node.old bytes.now budget.old node.new budget.new) }
 {
     let mut rest = bytes;
