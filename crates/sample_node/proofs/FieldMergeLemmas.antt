@@ -1,5 +1,5 @@
 -- Merging one field of a node: what the calls for its maps promise, said of the node.
-use Rattle.std.proofs.Common.{◌≡◌, ◌≢◌, ℕ, ℤ, zero, suc, false, List, Result, Ok, Err, OnOk, OnErr, IfErr, refl, sym, ap, subst, ◌∙◌, arith}
+use Rattle.std.proofs.Common.{◌≡◌, ◌≢◌, inr, ℕ, ℤ, zero, suc, false, List, Result, Ok, Err, OnOk, OnErr, IfErr, refl, sym, ap, subst, ◌∙◌, arith}
 use Rattle.std.proofs.lemmas.Bool.{eq-eqb, ne_eqb}
 use Rattle.std.specs.BTreeMap.{insert_entry}
 use Rattle.std.specs.List.Sorted.{IsStrictlySortedBy}
@@ -28,6 +28,9 @@ use Rattle.buffa_fields.specs.Entries.{entry_cost, entry_taken}
 use Rattle.buffa_fields.proofs.EntriesLemmas.{entry_wire_err}
 use Rattle.buffa_fields.proofs.MapLemmas.{map_err, map_ok}
 use Rattle.sample_node.specs.Branch.{Branch, NodeKept, Scores, Shades, blank_node, branch}
+use Rattle.buffa_bytes.proofs.WireLemmas.{checked_same}
+use Rattle.buffa_bytes.specs.declared.error.DecodeError.TheVariants.{OutOfMemory}
+use Rattle.sample_node.specs.Refused.{HasEntryFault}
 use Rattle.sample_node.proofs.StopLemmas.{node_by_payloads}
 use Rattle.buffa_wire.specs.Pinned.{refusal, done}
 use Rattle.sample_node.specs.NodeMeaning.{children_cost, children_take, node_cost, node_field_need, node_field_takes, node_merged, scores_cost, scores_take, shades_cost, shades_take}
@@ -69,6 +72,11 @@ module _ (n : ℕ) (w : WireType) (es fs : List (ℤ × Branch)) (bs rest : List
   pub child_answer : (d : ℕ) (r : Answer) → IsStrictlySortedBy int_cmp (keys_of es) → IsStrictlySortedBy int_cmp (keys_of fs) → check_wire n LengthDelimited w ≡ Ok tt → OnOk r (NodePut d) → IfErr r (NodeRefused d) → ChildTaken d r
   child_answer d (Ok x) a b checked ok err = child_ok d a b checked ok
   child_answer d (Err e) a b checked ok err = child_err d e checked err
+
+  pub child_fault : (d : ℕ) (r : Answer) → check_wire n LengthDelimited w ≡ Ok tt → IfErr r (NodeRefused d) →
+      IfErr r (λ e. e ≢ OutOfMemory → HasEntryFault int32_reading (message_reading blank_node node_merged node_cost) 100 0 d n w bs before e)
+  child_fault d (Ok x) checked err = tt
+  child_fault d (Err e) checked err = λ ne. inr (checked_same n LengthDelimited w checked, err.fault ne)
 
   pub child_stays : (d : ℕ) (r : Answer) → IfErr r (NodeRefused d) → OnErr r (fs ≡ es)
   child_stays d (Ok x) err = tt

@@ -1,6 +1,6 @@
 //! A message that holds itself, keeps entries with undeclared values, and every field that it doesn't declare.
 
-ghost use Rattle.std.specs.Prelude.{OnErr, [], Err, IfErr, ◌≡◌, ◌≢◌, ◌+◌};
+ghost use Rattle.std.specs.Prelude.{OnErr, [], IfErr, ◌≡◌, ◌≢◌, ◌+◌};
 ghost use Rattle.buffa_wire.specs.Passes.{IsNext, IsSized};
 ghost use Rattle.std.specs.BTreeMap.{values};
 ghost use Rattle.std.specs.List.{Contains};
@@ -8,14 +8,15 @@ ghost use Rattle.buffa_map.specs.MessageField.{IsFieldWritten, field_slots};
 ghost use Rattle.buffa_wire.specs.BudgetLeft.{budget_left};
 ghost use Rattle.buffa_bytes.specs.Gives.{FullOnlyIf};
 ghost use Rattle.buffa_wire.specs.Message.{BeginsField, IsFieldMerged, IsMerged, Stands};
-ghost use Rattle.buffa_bytes.specs.Front.{check_wire};
-ghost use Rattle.buffa_bytes.specs.declared.wire_type.WireType.TheVariants.{LengthDelimited};
+ghost use Rattle.buffa_bytes.specs.declared.error.DecodeError.TheVariants.{OutOfMemory};
+ghost use Rattle.buffa_map.specs.Message.{message_reading};
 ghost use Rattle.sample_node.specs.Calls.{TakesChild};
-ghost use Rattle.buffa_map.specs.Scalars.{int32_writing};
+ghost use Rattle.buffa_map.specs.Scalars.{int32_reading, int32_writing};
 ghost use Rattle.buffa_map.specs.Children.{meant_children};
+ghost use Rattle.sample_node.specs.Branch.{blank_node};
 ghost use Rattle.sample_node.specs.NodeMeaning.{node_cost, node_merged};
 ghost use Rattle.sample_node.specs.NodeEncoding.{IsNodeWritten, node_encoding, node_slots};
-ghost use Rattle.sample_node.specs.Refused.{IsNodeRefused};
+ghost use Rattle.sample_node.specs.Refused.{HasEntryFault, IsNodeRefused};
 ghost use Rattle.sample_node.specs.Stops.{Stops};
 
 use crate::shade::Shade;
@@ -271,7 +272,9 @@ where
     ensures taken { TakesChild tag depth children.old budget.old buf.old children.new budget.new buf.new result
         (λ m. m.entries) }
     ensures stays { OnErr result (children.new.entries ≡ children.old.entries) }
-    ensures wire { (e : _) → check_wire tag.number LengthDelimited tag.wire_type ≡ Err e → result ≡ Err e }
+    ensures fault { IfErr result (λ e. e ≢ OutOfMemory →
+        HasEntryFault int32_reading (message_reading blank_node node_merged node_cost) 100 0 depth tag.number tag.wire_type
+        buf.old.now budget.old e) }
 {
     check_wire_type(tag, WireType::LengthDelimited)?;
     let _old = children.len();
@@ -286,8 +289,8 @@ where
     answer
 }
 
-// Merges the field whose tag was read. A refused one leaves the node as it was, and tells its own fault where it isn't
-// the entry of a child.
+// Merges the field whose tag was read. A refused one leaves the node as it was, and tells its own fault; what is inside a child
+// may tell any.
 #[cycle(merge)]
 fn merge_node_field(
     alloc: Global,

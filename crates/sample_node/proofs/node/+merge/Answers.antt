@@ -1,7 +1,6 @@
 use Rattle.std.proofs.Common.{◌≡◌, ◌≢◌, Err, ◌∙◌, arith, ap, sym}
 use Rattle.std.specs.Prelude.{string_bytes}
 use Rattle.std.proofs.lemmas.Result.{err_from_is_err_and}
-use Rattle.buffa_bytes.proofs.FieldLemmas.{err_same}
 use Rattle.buffa_bytes.proofs.FullLemmas.{tag_full}
 use Rattle.buffa_wire.specs.Message.{cost_in, merged_in}
 use Rattle.buffa_map.specs.Pairs.{means}
@@ -12,7 +11,7 @@ use Rattle.buffa_fields.specs.Layout.{IsFieldKept, Took}
 use Rattle.buffa_wire.proofs.TakesLemmas.{taken_full}
 use Rattle.sample_node.proofs.FieldMergeLemmas.{child_merged, kept_merged, score_merged, shade_merged}
 use Rattle.buffa_wire.proofs.MergeLoopLemmas.{begins, ended, goes_on, no_tag, reached, refused_next, shorter, stands_refused, stands_untagged}
-use Rattle.sample_node.proofs.RefusedLemmas.{child_refused, if_told, kept_refused, on_err_told, score_refused, shade_refused}
+use Rattle.sample_node.proofs.RefusedLemmas.{child_refused, if_err_told, if_told, kept_refused, on_err_told, score_refused, shade_refused}
 use Rattle.sample_node.specs.Refused.{IsNodeRefused}
 use Rattle.sample_node.proofs.StopLemmas.{node_by_payloads, stops_at, stops_untagged}
 use Rattle.buffa_map.specs.Children.{children_in}
@@ -103,7 +102,7 @@ merge_node_field-returns-then-number-eq2 t c =
       refused = if_told call.result _ (λ e told. let same = on_err_told call.result e told call.ensures.stays in
           child_refused c.args.depth c.args.node.now _ c.args.tag.number c.args.tag.wire_type c.args.buf.now.now c.args.budget.now e
           (ap (λ z. branch (means string_bytes (λ v. v) n.scores.entries) (children_in z) (means (λ k. k) shade_number n.shades.entries) n.rest.records) same ∙ c.node.view_is)
-          two (λ x h. err_same (sym told ∙ call.ensures.wire x h)));
+          two (if_err_told _ call.result e told call.ensures.fault));
     }
 
 pub merge_node_field-returns-then-number-eq3 : goal.merge_node_field-returns-then-number-eq3
