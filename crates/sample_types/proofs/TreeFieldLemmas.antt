@@ -25,7 +25,7 @@ use Rattle.sample_types.specs.Fields.{int32_field, skipped_field, value_field}
 use Rattle.sample_types.specs.FieldsFacts.{value_sound}
 use Rattle.sample_types.specs.Grown.{Grown, grown}
 use Rattle.sample_types.specs.TreeFacts.{tree_cost_is, tree_field_stays, tree_merged_is, tree_need_stays, tree_same, tree_sound}
-use Rattle.sample_types.specs.TreeMeaning.{IsChildMerged, IsTreeRefused, child_at, tree_cost, entry_need, tree_merged, tree_need, tree_takes, tree_field, tree_field_need, with_child, with_label}
+use Rattle.sample_types.specs.TreeMeaning.{HasChildFault, IsChildMerged, IsTreeRefused, child_at, tree_cost, entry_need, tree_merged, tree_need, tree_takes, tree_field, tree_field_need, with_child, with_label}
 
 -- ---- one field, at a level
 module _ (d : ℕ) (m : ChildMeaning Grown) (c : ChildCost) where
@@ -153,26 +153,26 @@ module _ (n : ℕ) (w : WireType) (bs rest : List ℕ) (left : BudgetLeft) (d : 
   wire_merged e two h = as_merged n w bs bs left left d (refusal e) old old (wire_paid d (merged_in tree_merged d) (cost_in tree_cost d) e old n w bs left two h)
 
 -- ---- a refused field
-tree_refused_as : (n : ℕ) (w : WireType) (bs : List ℕ) (left : BudgetLeft) (d : ℕ) (old now new : Grown) (e : DecodeError) → now ≡ old → new ≡ old → tree_field d (merged_in tree_merged d) now n w bs ≡ Err e →
+tree_refused_as : (n : ℕ) (w : WireType) (bs : List ℕ) (left : BudgetLeft) (d : ℕ) (old now new : Grown) (e : DecodeError) → now ≡ old → new ≡ old → tree_field d (merged_in tree_merged d) now n w bs ≡ Err e → (n ≡ 2 → w ≢ LengthDelimited) →
     IsTreeRefused d old n w bs left e new
-tree_refused_as n w bs left d old now new e is stays fault = (stays, λ other. subst (λ z. tree_field d (merged_in tree_merged d) z n w bs ≡ Err e) is fault)
+tree_refused_as n w bs left d old now new e is stays fault no_child = (stays, (λ other. subst (λ z. tree_field d (merged_in tree_merged d) z n w bs ≡ Err e) is fault), (λ two wire. absurd (no_child two wire)))
 
 pub label_refused : (n : ℕ) (w : WireType) (bs rest : List ℕ) (left : BudgetLeft) (d : ℕ) (old : Grown) (l : ℤ) (es : List (ℤ × Grown)) → grown l (children_in es) ≡ old → (r : Result (Unit {0}) DecodeError) (new : ℤ) → n ≢ 2 →
     Gives (λ _. (new, rest)) r (value_field d l n w bs) → OnErr r (new ≡ l) → IfErr r (λ e. IsTreeRefused d old n w bs left e (grown new (children_in es)))
 label_refused n w bs rest left d old l es is (Ok x) new other h stays = tt
 label_refused n w bs rest left d old l es is (Err e) new other h stays =
     tree_refused_as n w bs left d old (grown l (children_in es)) (grown new (children_in es)) e is (ap (λ z. grown z (children_in es)) stays ∙ is)
-    (as_label d (merged_in tree_merged d) (cost_in tree_cost d) l (children_in es) n w bs other ∙ rw h refl)
+    (as_label d (merged_in tree_merged d) (cost_in tree_cost d) l (children_in es) n w bs other ∙ rw h refl) (λ two. absurd (other two))
 
 pub wire_refused : (n : ℕ) (w : WireType) (bs : List ℕ) (left : BudgetLeft) (d : ℕ) (old : Grown) (e : DecodeError) → n ≡ 2 → check_wire n LengthDelimited w ≡ Err e → IsTreeRefused d old n w bs left e old
 wire_refused n w bs left d old e two h =
     let here : check_wire 2 LengthDelimited w ≡ Err e = subst (λ z. check_wire z LengthDelimited w ≡ Err e) two h in
-    tree_refused_as n w bs left d old old old e refl refl (rw (two, here) refl)
+    tree_refused_as n w bs left d old old old e refl refl (rw (two, here) refl) (λ _. (checked_other n LengthDelimited w e h).0)
 
 pub child_refused : (n : ℕ) (w : WireType) (bs : List ℕ) (left : BudgetLeft) (d : ℕ) (old : Grown) (l : ℤ) (es new : List (ℤ × Grown)) → grown l (children_in es) ≡ old → (r : Result (Unit {0}) DecodeError) → n ≡ 2 → check_wire n LengthDelimited w ≡ Ok tt →
-    OnErr r (new ≡ es) → IfErr r (λ e. IsTreeRefused d old n w bs left e (grown l (children_in new)))
-child_refused n w bs left d old l es new is (Ok x) two wire stays = tt
-child_refused n w bs left d old l es new is (Err e) two wire stays = (ap (λ z. grown l (children_in z)) stays ∙ is, λ other. absurd (other (two, checked_same n LengthDelimited w wire)))
+    OnErr r (new ≡ es) → IfErr r (λ e. e ≢ OutOfMemory → HasChildFault d bs left e) → IfErr r (λ e. IsTreeRefused d old n w bs left e (grown l (children_in new)))
+child_refused n w bs left d old l es new is (Ok x) two wire stays fault = tt
+child_refused n w bs left d old l es new is (Err e) two wire stays fault = (ap (λ z. grown l (children_in z)) stays ∙ is, (λ other. absurd (other (two, checked_same n LengthDelimited w wire))), (λ _ _. fault))
 
 -- ---- all fields
 pub tree_by_payloads : ByPayload tree_takes tree_need tree_merged tree_cost

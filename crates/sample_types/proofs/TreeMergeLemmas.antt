@@ -1,11 +1,12 @@
 -- Merging the entry of a child: what the call for any map of messages promises, said of trees.
-use Rattle.std.proofs.Common.{◌≡◌, ◌⊎◌, inl, inr, refl, sym, ap, subst, ◌∙◌, arith, ℕ, zero, suc, ℤ, ◌+◌, ◌≤◌, ◌++◌, true, cond, List, [], ◌∷◌, length, None, Result, Ok, Err, OnOk, OnErr, IfErr}
+use Rattle.std.proofs.Common.{◌≡◌, ◌≢◌, ◌⊎◌, inl, inr, refl, sym, ap, subst, ◌∙◌, arith, ℕ, zero, suc, ℤ, ◌+◌, ◌≤◌, ◌++◌, true, cond, List, [], ◌∷◌, length, None, Result, Ok, Err, OnOk, OnErr, IfErr}
 use Rattle.std.specs.List.Sorted.{IsStrictlySortedBy}
 use Rattle.std.specs.Map.{keys_of}
 use Rattle.std.specs.Ordering.{int_cmp, int_eq}
 use Rattle.std.specs.BTreeMap.{insert_entry}
 use Rattle.buffa_bytes.proofs.DelimitedLemmas.{delimited_faulty, delimited_taken}
 use Rattle.buffa_bytes.specs.declared.error.DecodeError.{DecodeError}
+use Rattle.buffa_bytes.specs.declared.error.DecodeError.TheVariants.{OutOfMemory}
 use Rattle.buffa_wire.proofs.MessageLemmas.{NoLimit, length_no_limit}
 use Rattle.buffa_wire.specs.BudgetLeft.{BudgetLeft, Lacks, Pays, PaysAtMost, nothing, plus, unknown_fields, units}
 use Rattle.buffa_bytes.specs.Content.{bytes_in}
@@ -25,7 +26,7 @@ use Rattle.buffa_map.specs.Run.{step}
 use Rattle.buffa_map.specs.declared.map_entry.MapEntry.{MapEntry}
 use Rattle.sample_types.specs.Grown.{Grown, blank_tree}
 use Rattle.sample_types.specs.TreeFacts.{entry_no_limit}
-use Rattle.sample_types.specs.TreeMeaning.{IsChildMerged, child_at, entry_need, tree_cost, tree_merged}
+use Rattle.sample_types.specs.TreeMeaning.{HasChildFault, IsChildMerged, child_at, entry_need, tree_cost, tree_merged}
 
 -- ---- the map, as a list in order
 is_put : (old new : List (ℤ × Grown)) (s : MapEntry ℤ Grown) → IsStrictlySortedBy int_cmp (keys_of old) → IsStrictlySortedBy int_cmp (keys_of new) → s.known ≡ true →
@@ -104,6 +105,10 @@ module _ (old new : List (ℤ × Grown)) (before after : BudgetLeft) (bs rest : 
   pub child_answer : (d : ℕ) (r : Result (Unit {0}) DecodeError) → IsStrictlySortedBy int_cmp (keys_of old) → IsStrictlySortedBy int_cmp (keys_of new) → OnOk r (TreePut d) → IfErr r (TreeRefused d) → IsChildMerged d old bs before r new after rest
   child_answer d (Ok x) s t ok err = child_merged d s t ok
   child_answer d (Err f) s t ok err = child_refused d f err
+
+  pub child_fault : (d : ℕ) (r : Result (Unit {0}) DecodeError) → IfErr r (TreeRefused d) → IfErr r (λ e. e ≢ OutOfMemory → HasChildFault d bs before e)
+  child_fault d (Ok x) err = tt
+  child_fault d (Err f) err = err.fault
 
   pub child_stays : (d : ℕ) (r : Result (Unit {0}) DecodeError) → IfErr r (TreeRefused d) → OnErr r (new ≡ old)
   child_stays d (Ok x) err = tt

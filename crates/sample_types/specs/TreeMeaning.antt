@@ -14,7 +14,8 @@ use Rattle.buffa_bytes.specs.Front.{check_wire, delimited_at}
 use Rattle.buffa_bytes.specs.WireType.{same_wire}
 use Rattle.buffa_map.specs.Scalars.{int32_reading}
 use Rattle.buffa_map.specs.Children.{ChildCost, ChildMeaning, child_reading, children_in, listed}
-use Rattle.buffa_map.specs.Entry.{entry_of, inner_need}
+use Rattle.buffa_map.specs.Entry.{EntryFault, entry_of, inner_need}
+use Rattle.buffa_map.specs.Message.{message_reading}
 use Rattle.buffa_map.specs.declared.map_entry.MapEntry.{MapEntry}
 use Rattle.buffa_wire.specs.ByField.{FieldNeed, FieldReader, cost_by, merged_by}
 use Rattle.buffa_wire.specs.Takes.{Need, Taker, taken_by}
@@ -67,10 +68,15 @@ tree_takes d = taken_by (tree_field d (merged_in tree_merged d))
 abbrev pub tree_need : Need
 tree_need d = tree_field_need d (merged_in tree_merged d) (cost_in tree_cost d)
 
--- a refused field leaves the tree as it was; and where it isn't the entry of a child, its own fault is told
+-- the fault that the entry of a child has under a budget; of what is inside the child it may be any
+abbrev pub HasChildFault : ℕ → List ℕ → BudgetLeft → DecodeError → Type 0
+HasChildFault d bs left e = EntryFault int32_reading (message_reading blank_tree tree_merged tree_cost) d 36 0 left bs e
+
+-- a refused field leaves the tree as it was, and its own fault is told; that of the entry of a child unless memory ran out
 abbrev pub IsTreeRefused : FieldRefused Grown
 IsTreeRefused d old n w bs before e new =
     (new ≡ old) × (((n ≡ 2) × (w ≡ LengthDelimited) → ⊥) → tree_field d (merged_in tree_merged d) old n w bs ≡ Err e)
+    × (n ≡ 2 → w ≡ LengthDelimited → e ≢ OutOfMemory → HasChildFault d bs before e)
 
 -- ---- what merging the entry of a child, at the front of bs, does
 

@@ -6,10 +6,11 @@ ghost use Rattle.std.specs.BTreeMap.{values};
 ghost use Rattle.std.specs.List.{Contains};
 ghost use Rattle.buffa_map.specs.MessageField.{IsFieldWritten, field_slots};
 ghost use Rattle.buffa_bytes.specs.Gives.{FullOnlyIf};
+ghost use Rattle.buffa_bytes.specs.declared.error.DecodeError.TheVariants.{OutOfMemory};
 ghost use Rattle.buffa_wire.specs.Message.{BeginsField, IsFieldMerged, IsMerged, Stands};
 ghost use Rattle.buffa_map.specs.Scalars.{int32_writing};
 ghost use Rattle.buffa_map.specs.Children.{meant_children};
-ghost use Rattle.sample_types.specs.TreeMeaning.{IsChildMerged, IsTreeRefused, tree_cost, tree_merged};
+ghost use Rattle.sample_types.specs.TreeMeaning.{HasChildFault, IsChildMerged, IsTreeRefused, tree_cost, tree_merged};
 ghost use Rattle.sample_types.specs.TreeEncoding.{IsTreeWritten, tree_encoding, tree_slots};
 
 use crate::int32_field::{merge_value, number_len, write_number};
@@ -236,6 +237,7 @@ where
     ensures merged { IsChildMerged depth children.old.entries buf.old.now budget.old result children.new.entries
         budget.new buf.new.now }
     ensures stays { OnErr result (children.new.entries ≡ children.old.entries) }
+    ensures fault { IfErr result (λ e. e ≢ OutOfMemory → HasChildFault depth buf.old.now budget.old e) }
 {
     let _old = children.len();
     let lent = DecodeContext {
@@ -249,8 +251,8 @@ where
     answer
 }
 
-// Merges the field whose tag was read. A refused one leaves the tree as it was, and tells its own fault where it isn't
-// a child.
+// Merges the field whose tag was read. A refused one leaves the tree as it was, and tells its own fault; what is
+// inside a child may tell any.
 #[cycle(merge)]
 fn merge_tree_field(
     alloc: Global,

@@ -84,5 +84,5 @@ merge_tree_field-returns t c =
           c.merge_child_by.result c.merge_child_by.new.children.entries two c.in_ok-check_wire_type.ensures c.merge_child_by.ensures.merged;
       full = child_full c.args.tag.number c.args.tag.wire_type c.merge_child_by.result c.in_ok-check_wire_type.ensures;
       refused = child_refused c.args.tag.number c.args.tag.wire_type c.args.buf.now.now c.args.budget.now c.args.depth c.args.tree.now c.tree.inside.label c.tree.inside.children.entries c.merge_child_by.new.children.entries c.tree.view_is
-          c.merge_child_by.result two c.in_ok-check_wire_type.ensures c.merge_child_by.ensures.stays;
+          c.merge_child_by.result two c.in_ok-check_wire_type.ensures c.merge_child_by.ensures.stays c.merge_child_by.ensures.fault;
     }
