@@ -15,11 +15,12 @@ ghost use Rattle.buffa_bytes.specs.declared.error.DecodeError.TheVariants.{OutOf
 ghost use Rattle.buffa_wire.specs.BudgetLeft.{budget_left};
 ghost use Rattle.buffa_bytes.specs.Gives.{FullOnlyIf, Gives, GivesUnlessFull};
 ghost use Rattle.buffa_bytes.specs.Front.{taken, varint_at};
+ghost use Rattle.buffa_bytes.specs.Varint.{varint_encoding};
 ghost use Rattle.buffa_bytes.specs.Unread.{IsTailOf};
-ghost use Rattle.buffa_bytes.specs.Values.{delimited_encoding, tag_encoding};
+ghost use Rattle.buffa_bytes.specs.Values.{tag_encoding};
 ghost use Rattle.buffa_bytes.specs.WireType.{same_wire};
 ghost use Rattle.buffa_bytes.specs.Written.{UsesRoom, Writes};
-ghost use Rattle.buffa_message_set.specs.Item.{HasMessage, IsTypeId, SpendsUnknown, item_field_at, item_at, item_in, item_size, item_encoding, BytesAt, IsMessageAt, appended_at, body_encoding, ended_by, id_then, said_by, type_id_at, unsaid};
+ghost use Rattle.buffa_message_set.specs.Item.{HasMessage, IsTypeId, SpendsUnknown, item_field_at, item_at, item_in, item_size, item_encoding, BytesAt, IsMessageAt, appended_at, ended_by, id_then, said_by, type_id_at, unsaid};
 
 use buffa_bytes::buf::{copy_bytes, front};
 use buffa_wire::{
@@ -93,37 +94,71 @@ pub fn write_item<S: EncodeSink>(
     ensures writes { Writes result (S.written sink.old) (item_encoding number payload.now) (S.written sink.new) }
     ensures room { UsesRoom result (S.room sink.old) (item_encoding number payload.now) (S.room sink.new) }
 {
-    encode_varint(ITEM_START_TAG, sink)?;
-    write_body(number, payload, sink)
+    write_head(number, payload.len() as u64, sink)?;
+    write_rest(payload, sink)
 }
 
-// Writes what follows the start tag.
-#[inline]
+// Writes the message's bytes and the end tag.
+#[inline(always)]
 #[tactic(auto, using(buffa_bytes::proofs::SinkLemmas::writes_then, buffa_bytes::proofs::SinkLemmas::front_first, buffa_bytes::proofs::SinkLemmas::room_then))]
-fn write_body<S: EncodeSink>(number: u32, payload: &[u8], sink: &mut S) -> Result<(), EncodeError>
-    requires { IsTypeId number }
-    ensures writes { Writes result (S.written sink.old) (body_encoding number payload.now) (S.written sink.new) }
-    ensures room { UsesRoom result (S.room sink.old) (body_encoding number payload.now) (S.room sink.new) }
+fn write_rest<S: EncodeSink>(payload: &[u8], sink: &mut S) -> Result<(), EncodeError>
+    ensures writes { Writes result (S.written sink.old) (payload.now ++ tag_encoding 1 WireType.EndGroup) (S.written sink.new) }
+    ensures room { UsesRoom result (S.room sink.old) (payload.now ++ tag_encoding 1 WireType.EndGroup) (S.room sink.new) }
 {
-    encode_varint(TYPE_ID_TAG, sink)?;
-    types::encode_uint32(number, sink)?;
-    write_message(payload, sink)
+    sink.put_slice(payload)?;
+    sink.put_byte(ITEM_END_TAG as u8)
 }
 
-// Writes the message and the end tag.
-#[inline]
-#[tactic(auto, using(buffa_bytes::proofs::SinkLemmas::writes_then, buffa_bytes::proofs::SinkLemmas::front_first, buffa_bytes::proofs::SinkLemmas::room_then))]
-fn write_message<S: EncodeSink>(payload: &[u8], sink: &mut S) -> Result<(), EncodeError>
-    ensures writes { Writes result (S.written sink.old)
-        (tag_encoding 3 WireType.LengthDelimited ++ (delimited_encoding payload.now ++ tag_encoding 1 WireType.EndGroup))
+// Writes what stands before the message's bytes: where the type id and the length are short, all of it at once.
+#[inline(always)]
+fn write_head<S: EncodeSink>(number: u32, len: u64, sink: &mut S) -> Result<(), EncodeError>
+    ensures writes { Writes result (S.written sink.old) (tag_encoding 1 WireType.StartGroup
+        ++ (tag_encoding 2 WireType.Varint ++ (varint_encoding number ++ (tag_encoding 3 WireType.LengthDelimited ++ varint_encoding len))))
         (S.written sink.new) }
-    ensures room { UsesRoom result (S.room sink.old)
-        (tag_encoding 3 WireType.LengthDelimited ++ (delimited_encoding payload.now ++ tag_encoding 1 WireType.EndGroup))
+    ensures room { UsesRoom result (S.room sink.old) (tag_encoding 1 WireType.StartGroup
+        ++ (tag_encoding 2 WireType.Varint ++ (varint_encoding number ++ (tag_encoding 3 WireType.LengthDelimited ++ varint_encoding len))))
         (S.room sink.new) }
 {
+    if number >= 16_384 || len >= 128 {
+        return write_long_head(number, len, sink);
+    }
+    let start = ITEM_START_TAG as u8;
+    let id = TYPE_ID_TAG as u8;
+    let message = MESSAGE_TAG as u8;
+    if number < 128 {
+        return sink.put_slice(&[start, id, number as u8, message, len as u8]);
+    }
+    let low = (number % 128) as u8 + 128;
+    sink.put_slice(&[start, id, low, (number / 128) as u8, message, len as u8])
+}
+
+// The same of any type id and length.
+#[inline(never)]
+#[tactic(auto, using(buffa_bytes::proofs::SinkLemmas::writes_then, buffa_bytes::proofs::SinkLemmas::front_first, buffa_bytes::proofs::SinkLemmas::room_then))]
+fn write_long_head<S: EncodeSink>(number: u32, len: u64, sink: &mut S) -> Result<(), EncodeError>
+    ensures writes { Writes result (S.written sink.old) (tag_encoding 1 WireType.StartGroup
+        ++ (tag_encoding 2 WireType.Varint ++ (varint_encoding number ++ (tag_encoding 3 WireType.LengthDelimited ++ varint_encoding len))))
+        (S.written sink.new) }
+    ensures room { UsesRoom result (S.room sink.old) (tag_encoding 1 WireType.StartGroup
+        ++ (tag_encoding 2 WireType.Varint ++ (varint_encoding number ++ (tag_encoding 3 WireType.LengthDelimited ++ varint_encoding len))))
+        (S.room sink.new) }
+{
+    sink.put_slice(&[ITEM_START_TAG as u8, TYPE_ID_TAG as u8])?;
+    write_id(number, len, sink)
+}
+
+// Writes the type id, the message's tag and its length.
+#[inline]
+#[tactic(auto, using(buffa_bytes::proofs::SinkLemmas::writes_then, buffa_bytes::proofs::SinkLemmas::front_first, buffa_bytes::proofs::SinkLemmas::room_then))]
+fn write_id<S: EncodeSink>(number: u32, len: u64, sink: &mut S) -> Result<(), EncodeError>
+    ensures writes { Writes result (S.written sink.old)
+        (varint_encoding number ++ (tag_encoding 3 WireType.LengthDelimited ++ varint_encoding len)) (S.written sink.new) }
+    ensures room { UsesRoom result (S.room sink.old)
+        (varint_encoding number ++ (tag_encoding 3 WireType.LengthDelimited ++ varint_encoding len)) (S.room sink.new) }
+{
+    types::encode_uint32(number, sink)?;
     encode_varint(MESSAGE_TAG, sink)?;
-    types::encode_bytes(payload, sink)?;
-    encode_varint(ITEM_END_TAG, sink)
+    encode_varint(len, sink)
 }
 
 /// Reads an Item whose start tag was read, up to its end tag, and answers the type id and the message bytes.

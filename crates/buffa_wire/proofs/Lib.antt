@@ -18,6 +18,6 @@ pub mod TakesLemmas
 pub mod ByPayloadLemmas
 pub mod MergeLoopLemmas
 pub mod KeepLemmas
-mod ShortLemmas
+pub mod ShortLemmas
 pub mod PinLemmas
 pub mod FaultLemmas

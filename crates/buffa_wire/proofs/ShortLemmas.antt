@@ -1,10 +1,11 @@
 -- Varints of one to three bytes.
-use Rattle.std.proofs.Common.{◌≡◌, ℕ, ◌+◌, ◌*◌, ◌/◌, ◌%◌, ◌<◌, ◌≤◌, List, [], ◌∷◌, ◌++◌, Ok, length, drop, refl, sym, ap, subst, ◌∙◌, arith}
+use Rattle.std.proofs.Common.{◌≡◌, ℕ, ◌+◌, ◌*◌, ◌/◌, ◌%◌, ◌<◌, ◌≤◌, List, [], ◌∷◌, ◌++◌, Ok, length, drop, get_or, refl, sym, ap, subst, ◌∙◌, arith}
 use Rattle.std.specs.Prelude.{Result}
 use Rattle.std.proofs.lemmas.Bool.{lt-ltb, le-ltb}
 use Rattle.std.proofs.lemmas.List.{take-append-drop, drop-append-le}
 use Rattle.buffa_bytes.specs.declared.error.EncodeError.{EncodeError}
 use Rattle.buffa_bytes.specs.Front.{varint_at, varint_within}
+use Rattle.buffa_bytes.specs.Scalars.{fixed32_encoding, fixed64_encoding}
 use Rattle.buffa_bytes.specs.Unread.{IsChunkOf}
 use Rattle.buffa_bytes.specs.Varint.{varint_encoding}
 use Rattle.buffa_bytes.specs.Written.{UsesRoom, Writes}
@@ -55,6 +56,18 @@ writes_same r old encoding same new e w = subst (λ t. Writes r old t new) e w
 pub room_same : {T : Type 0} (r : Result T EncodeError) (room left : ℕ) (encoding same : List ℕ) → encoding ≡ same → UsesRoom r room encoding left → UsesRoom r room same left
 room_same r room left encoding same e w = subst (λ t. UsesRoom r room t left) e w
 
+-- bytes behind a number below 128
+pub bytes_behind : (m : ℕ) (bytes : List ℕ) → m < 128 → m ∷ bytes ≡ varint_encoding m ++ bytes
+bytes_behind m bytes h = rw (varint_encoding-last m h) refl
+
+-- and where the bytes are told one by one
+pub four_behind : (m v : ℕ) (bytes : List ℕ) → m < 128 → bytes ≡ fixed32_encoding v → m ∷ get_or bytes 0 0 ∷ get_or bytes 1 0 ∷ get_or bytes 2 0 ∷ get_or bytes 3 0 ∷ [] ≡ varint_encoding m ++ fixed32_encoding v
+four_behind m v bytes h e = rw e (bytes_behind m (fixed32_encoding v) h)
+
+pub eight_behind : (m v : ℕ) (bytes : List ℕ) → m < 128 → bytes ≡ fixed64_encoding v →
+    m ∷ get_or bytes 0 0 ∷ get_or bytes 1 0 ∷ get_or bytes 2 0 ∷ get_or bytes 3 0 ∷ get_or bytes 4 0 ∷ get_or bytes 5 0 ∷ get_or bytes 6 0 ∷ get_or bytes 7 0 ∷ [] ≡ varint_encoding m ++ fixed64_encoding v
+eight_behind m v bytes h e = rw e (bytes_behind m (fixed64_encoding v) h)
+
 -- an encoding behind a number below 128
 pub encoding_behind : (m n : ℕ) (encoding : List ℕ) → m < 128 → encoding ≡ varint_encoding n → m ∷ encoding ≡ varint_encoding m ++ varint_encoding n
-encoding_behind m n encoding h e = rw (varint_encoding-last m h) (ap (λ z. m ∷ z) e)
+encoding_behind m n encoding h e = bytes_behind m encoding h ∙ ap (λ z. varint_encoding m ++ z) e

@@ -7,11 +7,13 @@ ghost use Rattle.std.specs.Prelude.{◌≡◌, ◌≤◌, ◌++◌, Ok, drop, le
 ghost use Rattle.buffa_bytes.specs.Gives.{Gives};
 ghost use Rattle.buffa_bytes.specs.Left.{past_no_varint};
 ghost use Rattle.buffa_bytes.specs.Front.{varint_at};
+ghost use Rattle.buffa_bytes.specs.Scalars.{fixed32_encoding, fixed64_encoding};
 ghost use Rattle.buffa_bytes.specs.Unread.{IsTailOf};
+ghost use Rattle.buffa_bytes.specs.Values.{delimited_encoding};
 ghost use Rattle.buffa_bytes.specs.Varint.{varint_encoding};
 ghost use Rattle.buffa_bytes.specs.Written.{UsesRoom, Writes};
 
-use buffa_bytes::{Buf, DecodeError, EncodeError, EncodeSink, decode_varint, encode_varint};
+use buffa_bytes::{Buf, DecodeError, EncodeError, EncodeSink, decode_varint, encode_varint, types};
 
 // The varint at the front, where it has one to three bytes, and how many they are.
 #[inline(always)]
@@ -98,4 +100,66 @@ pub(crate) fn write_two<S: EncodeSink>(m: u64, n: u64, sink: &mut S) -> Result<(
     }
     encode_varint(m, sink)?;
     encode_varint(n, sink)
+}
+
+/// Writes a varint and four bytes behind it, the lowest first.
+///
+/// # Errors
+/// Those of [`encode_varint`].
+#[inline(always)]
+#[tactic(auto, using(buffa_bytes::proofs::SinkLemmas::writes_then, buffa_bytes::proofs::SinkLemmas::front_first, buffa_bytes::proofs::SinkLemmas::room_then))]
+pub(crate) fn write_fixed32<S: EncodeSink>(
+    m: u64,
+    value: u32,
+    sink: &mut S,
+) -> Result<(), EncodeError>
+    ensures writes { Writes result (S.written sink.old) (varint_encoding m ++ fixed32_encoding value) (S.written sink.new) }
+    ensures room { UsesRoom result (S.room sink.old) (varint_encoding m ++ fixed32_encoding value) (S.room sink.new) }
+{
+    if m < 128 {
+        let [a, b, c, d] = u32::to_le_bytes(value);
+        return sink.put_slice(&[m as u8, a, b, c, d]);
+    }
+    encode_varint(m, sink)?;
+    types::encode_fixed32(value, sink)
+}
+
+/// Writes a varint and eight bytes behind it, the lowest first.
+///
+/// # Errors
+/// Those of [`encode_varint`].
+#[inline(always)]
+#[tactic(auto, using(buffa_bytes::proofs::SinkLemmas::writes_then, buffa_bytes::proofs::SinkLemmas::front_first, buffa_bytes::proofs::SinkLemmas::room_then))]
+pub(crate) fn write_fixed64<S: EncodeSink>(
+    m: u64,
+    value: u64,
+    sink: &mut S,
+) -> Result<(), EncodeError>
+    ensures writes { Writes result (S.written sink.old) (varint_encoding m ++ fixed64_encoding value) (S.written sink.new) }
+    ensures room { UsesRoom result (S.room sink.old) (varint_encoding m ++ fixed64_encoding value) (S.room sink.new) }
+{
+    if m < 128 {
+        let [a, b, c, d, e, f, g, h] = u64::to_le_bytes(value);
+        return sink.put_slice(&[m as u8, a, b, c, d, e, f, g, h]);
+    }
+    encode_varint(m, sink)?;
+    types::encode_fixed64(value, sink)
+}
+
+/// Writes a varint, a length and so many bytes.
+///
+/// # Errors
+/// Those of [`encode_varint`].
+#[inline(always)]
+#[tactic(auto, using(buffa_bytes::proofs::SinkLemmas::writes_then, buffa_bytes::proofs::SinkLemmas::front_first, buffa_bytes::proofs::SinkLemmas::room_then))]
+pub(crate) fn write_bytes<S: EncodeSink>(
+    m: u64,
+    value: &[u8],
+    sink: &mut S,
+) -> Result<(), EncodeError>
+    ensures writes { Writes result (S.written sink.old) (varint_encoding m ++ delimited_encoding value.now) (S.written sink.new) }
+    ensures room { UsesRoom result (S.room sink.old) (varint_encoding m ++ delimited_encoding value.now) (S.room sink.new) }
+{
+    write_two(m, value.len() as u64, sink)?;
+    sink.put_slice(value)
 }

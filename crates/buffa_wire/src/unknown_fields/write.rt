@@ -1,13 +1,15 @@
 //! The encodings of unknown fields.
 
-ghost use Rattle.buffa_wire.specs.Encoding.{records_encoding, tagged_encoding, payload_encoding, write_outcome};
+ghost use Rattle.std.specs.Prelude.{◌++◌};
+ghost use Rattle.buffa_bytes.specs.Values.{tag_encoding};
+ghost use Rattle.buffa_wire.specs.Encoding.{records_encoding, tagged_encoding, write_outcome};
 ghost use Rattle.buffa_wire.specs.View.{datum_of};
 ghost use Rattle.buffa_bytes.specs.Written.{UsesRoom, Writes};
 
-use crate::short::write_two;
+use crate::short::{write_bytes, write_fixed32, write_fixed64, write_two};
 use crate::unknown_fields::tag::tag_value;
 use crate::unknown_fields::{UnknownField, UnknownFieldData, UnknownFields};
-use buffa_bytes::{EncodeError, EncodeSink, WireType, encode_varint, types};
+use buffa_bytes::{EncodeError, EncodeSink, WireType, encode_varint};
 
 impl UnknownField {
     /// Writes the field, with the shortest tag and lengths, whatever its number.
@@ -64,45 +66,51 @@ impl UnknownFields {
 // Writes a field, and answers whether all of it was written: by a `bool`, since a `Result` is made in memory.
 #[cycle(write)]
 #[inline(always)]
-#[tactic(auto, using(buffa_bytes::proofs::SinkLemmas::writes_then, buffa_bytes::proofs::SinkLemmas::front_first, buffa_bytes::proofs::SinkLemmas::room_then, crate::proofs::EncodingLemmas::told_of, crate::proofs::EncodingLemmas::told_room))]
+#[tactic(auto, using(crate::proofs::EncodingLemmas::told_of, crate::proofs::EncodingLemmas::told_room))]
 fn write_field<S: EncodeSink>(number: u32, payload: &UnknownFieldData, sink: &mut S) -> bool
     ensures writes { Writes (write_outcome result) (S.written sink.old) (tagged_encoding number (datum_of payload.now))
         (S.written sink.new) }
     ensures room { UsesRoom (write_outcome result) (S.room sink.old) (tagged_encoding number (datum_of payload.now))
         (S.room sink.new) }
 {
-    if let UnknownFieldData::Varint(v) = payload {
-        return write_two(tag_value(number, WireType::Varint), *v, sink).is_ok();
+    match payload {
+        UnknownFieldData::Varint(v) => {
+            return write_two(tag_value(number, WireType::Varint), *v, sink).is_ok();
+        }
+        UnknownFieldData::Fixed32(v) => {
+            return write_fixed32(tag_value(number, WireType::Fixed32), *v, sink).is_ok();
+        }
+        UnknownFieldData::Fixed64(v) => {
+            return write_fixed64(tag_value(number, WireType::Fixed64), *v, sink).is_ok();
+        }
+        UnknownFieldData::LengthDelimited(b) => {
+            return write_bytes(
+                tag_value(number, WireType::LengthDelimited),
+                b.as_slice(),
+                sink,
+            )
+            .is_ok();
+        }
+        UnknownFieldData::Group(g) => return write_group(number, g, sink),
     }
-    if encode_varint(tag_value(number, payload.wire_type()), sink).is_err() {
-        return false;
-    }
-    write_payload(number, payload, sink)
 }
 
-// Writes what follows the tag, and answers whether all of it was written.
+// Writes a group with its two tags, and answers whether all of it was written. It stands apart from the other kinds of
+// field, which are shorter without it.
 #[cycle(write)]
-#[inline(always)]
+#[inline(never)]
 #[tactic(auto, using(buffa_bytes::proofs::SinkLemmas::writes_then, buffa_bytes::proofs::SinkLemmas::front_first, buffa_bytes::proofs::SinkLemmas::room_then, crate::proofs::EncodingLemmas::told_of, crate::proofs::EncodingLemmas::told_room))]
-fn write_payload<S: EncodeSink>(number: u32, payload: &UnknownFieldData, sink: &mut S) -> bool
-    ensures writes { Writes (write_outcome result) (S.written sink.old) (payload_encoding number (datum_of payload.now))
+fn write_group<S: EncodeSink>(number: u32, group: &UnknownFields, sink: &mut S) -> bool
+    ensures writes { Writes (write_outcome result) (S.written sink.old) (tag_encoding number WireType.StartGroup ++ (records_encoding group.now.records ++ tag_encoding number WireType.EndGroup))
         (S.written sink.new) }
-    ensures room { UsesRoom (write_outcome result) (S.room sink.old) (payload_encoding number (datum_of payload.now))
+    ensures room { UsesRoom (write_outcome result) (S.room sink.old) (tag_encoding number WireType.StartGroup ++ (records_encoding group.now.records ++ tag_encoding number WireType.EndGroup))
         (S.room sink.new) }
 {
-    match payload {
-        UnknownFieldData::Varint(v) => return encode_varint(*v, sink).is_ok(),
-        UnknownFieldData::Fixed32(v) => return types::encode_fixed32(*v, sink).is_ok(),
-        UnknownFieldData::Fixed64(v) => return types::encode_fixed64(*v, sink).is_ok(),
-        UnknownFieldData::LengthDelimited(b) => return types::encode_bytes(
-            b.as_slice(),
-            sink,
-        ).is_ok(),
-        UnknownFieldData::Group(g) => {
-            if g.write_to(sink).is_err() {
-                return false;
-            }
-            return encode_varint(tag_value(number, WireType::EndGroup), sink).is_ok();
-        }
+    if encode_varint(tag_value(number, WireType::StartGroup), sink).is_err() {
+        return false;
     }
+    if group.write_to(sink).is_err() {
+        return false;
+    }
+    encode_varint(tag_value(number, WireType::EndGroup), sink).is_ok()
 }
