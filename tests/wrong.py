@@ -18,7 +18,7 @@ and the checker refuses nothing but that law's own text: it speaks of a type as 
 unclear, and fails, where the edited text is not read, or
 where only names that its proof file cites went away: change a value and keep the names. It is unclear too where only an
 answer of its proof file is refused, since a right body may trip that as well: add a path that is wrong, which has no
-answer. A law has no paths: an edit of what it speaks of says in a line 'why: ..' why the law is false then.
+answer. A law has no paths: name a law that speaks of what is changed in a clause without an answer.
 
 The crate as it stands is checked first, in its own folder, which leaves its work in out/; that costs little where out/
 holds the work of an earlier check. `today` goes without, for use behind `rt ci`, whose libraries it takes: it checks a
@@ -160,8 +160,6 @@ class Report:
             return "again", f"{self.said[name][:200]}"
         if vanished:
             return "failed", "UNCLEAR: only names that its proof file cites went away"
-        if edit.why:
-            return "passed", f"refused, by an answer that no longer fits: {edit.why}"
         return "failed", "UNCLEAR: an answer of its proof file no longer fits, which may refuse a right body too"
 
 

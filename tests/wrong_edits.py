@@ -23,7 +23,7 @@ class Function:
 class Edit:
     def __init__(self, path):
         self.path, self.title, self.pairs, self.keys, self.target, self.is_wide = path, os.path.basename(path)[:-5], [], set(), None, False
-        file = old = self.why = None
+        file = old = None
         with open(path, encoding="utf-8") as it:
             for line in it.read().split("\n"):
                 if line.startswith("file: "):
@@ -32,8 +32,6 @@ class Edit:
                     old = line[5:].replace("⏎", "\n")
                 elif line.startswith("new:"):
                     self.pairs.append((file, old, line[5:].replace("⏎", "\n")))
-                elif line.startswith("why: "):
-                    self.why = line[5:]
         self.of, _, self.name = self.title.partition("-")[0].rpartition(".")
 
     def locate(self, folder):
@@ -57,8 +55,6 @@ class Edit:
             return "it has no pair of an old and a new text"
         if not self.target and not self.is_wide:
             return f"it doesn't change a function {self.name}"
-        if self.target and self.why:
-            return "a line 'why: ..' is for laws: a function has paths, on one of which the edit can stand alone"
         return None
 
 

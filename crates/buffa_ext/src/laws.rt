@@ -1,11 +1,12 @@
 //! What the definitions of sets and clears say together: each law is a function with nothing to do, whose
 //! contract is the law.
 
-ghost use Rattle.std.specs.Prelude.{◌≡◌, ◌↔◌, ◌<◌, ◌≤◌, ◌^◌, ℕ, List, [], ◌∷◌, Option, Some, None, Ok, Err, length, option_map};
+ghost use Rattle.std.specs.Prelude.{◌≡◌, ◌≢◌, ◌↔◌, ◌<◌, ◌≤◌, ◌^◌, ℕ, List, [], ◌∷◌, Option, Some, None, Ok, Err, false, length, option_map};
 ghost use Rattle.std.specs.declared.alloc.Global.{Global as GlobalValue};
 ghost use Rattle.std.specs.declared.alloc.AllocError.{AllocError as AllocErrorValue};
 ghost use Rattle.buffa_ext.specs.declared.descriptor.Make.{Make};
 ghost use Rattle.buffa_ext.specs.declared.descriptor.NoDefault.{NoDefault};
+ghost use Rattle.buffa_ext.specs.declared.steps.Step.TheVariants.{Set};
 ghost use Rattle.buffa_bytes.specs.Pinned.{IsCopied, SameIsOne};
 ghost use Rattle.buffa_bytes.specs.declared.error.EncodeError.TheVariants.{MessageTooLarge};
 ghost use Rattle.buffa_bytes.specs.declared.wire_type.WireType.TheVariants.{LengthDelimited, StartGroup};
@@ -37,9 +38,12 @@ use buffa_codec::{ExtensionCodec, LastWins, Repeated, SingularCodec};
 use buffa_wire::{Message, MessageSpec};
 use std::alloc::{AllocError, Global};
 
-/// `==` of steps says whether they are one step, and of faults whether they are one. It leaves nothing out.
+/// `==` of steps says whether they are one step, and of faults whether they are one. So two sets of one number are two
+/// steps where one is to no records and the other is not. It leaves nothing out.
 pub fn equal_steps_are_one()
     ensures step { SameIsOneStep ⟦<Step as PartialEq>⟧.eq }
+    ensures emptied { (n : ℕ) (xs ys : _) → xs.items ≡ [] → ys.items ≢ [] →
+        ⟦<Step as PartialEq>⟧.eq (Set n xs) (Set n ys) ≡ false }
     ensures fault { SameIsOne ⟦<ReplayFault as PartialEq>⟧.eq }
 {}
 

@@ -95,7 +95,8 @@ pub fn holders_are_these()
 /// What options and carriers mean, and from which value they start: what the declared one says, and the records of all
 /// others in order. Options are equal where they mean the same. Nothing is left out.
 pub fn options_are_equal_by_meaning()
-    ensures options { (m : FieldOptions) → ⟦<FieldOptions as Blank>⟧.meaning m ≡ (m.deprecated, m.fields.records) }
+    ensures deprecated { (m : FieldOptions) → (⟦<FieldOptions as Blank>⟧.meaning m).0 ≡ m.deprecated }
+    ensures others { (m : FieldOptions) → (⟦<FieldOptions as Blank>⟧.meaning m).1 ≡ m.fields.records }
     ensures carrier { (m : Carrier) → ⟦<Carrier as Blank>⟧.meaning m ≡ m.fields.records }
     ensures blank { (⟦<FieldOptions as Blank>⟧.blank_is ≡ (None, [])) × (⟦<Carrier as Blank>⟧.blank_is ≡ []) }
     ensures equal { EqualByMeaning ⟦<FieldOptions as PartialEq>⟧.eq ⟦<FieldOptions as Blank>⟧.meaning }

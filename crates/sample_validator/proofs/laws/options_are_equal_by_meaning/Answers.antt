@@ -20,8 +20,8 @@ told (Some false) (Some false) h k = (λ e. λ i. (Some false, held_eq_same h k 
 told (Some true) (Some false) h k = (λ e. absurd (false≢true e), λ e. let q = ap (λ z. z.0) e in cc)
 told (Some false) (Some true) h k = (λ e. absurd (false≢true e), λ e. let q = ap (λ z. z.0) e in cc)
 
-pub returns-clause-options : goal.returns-clause-options
-returns-clause-options c = λ m. λ i. (option_map_id m.deprecated i, m.fields.records)
+pub returns-clause-deprecated : goal.returns-clause-deprecated
+returns-clause-deprecated c = λ m. option_map_id m.deprecated
 
 pub returns-clause-equal : goal.returns-clause-equal
 returns-clause-equal c = λ a b. told a.deprecated b.deprecated a.fields b.fields
