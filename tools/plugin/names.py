@@ -21,13 +21,12 @@ FACADE = {
     **{it: "buffa::fields" for it in ["And"] + [f"And{n}" for n in range(3, 17)]},
     **{it: "buffa::fields" for it in "Fields Formed Group Keeping KeptFields Listed Listing MapOf MapOfNested Member Nested".split()},
     **{it: "buffa::fields" for it in "Optional OrderedMapOf OrderedMapOfNested Packed Plain Repeated RepeatedGroup".split()},
-    **{it: "buffa::fields" for it in "RepeatedNested Visitor kept".split()},
+    **{it: "buffa::fields" for it in "RepeatedNested Visitor Holds Nest kept".split()},
     **{it: "buffa" for it in "Blank DecodeContext DecodeError EnumValue Enumeration ExtensionSet Tag UnknownFields".split()},
     "Bytes": "bytes",
     "Global": "std::alloc",
     "BTreeMap": "std::collections",
     "String": "std::string",
-    **{it: "buffa_fields::held" for it in ("Holds", "Nest")},
 }
 # Where the crates below have them.
 BELOW = {

@@ -203,11 +203,12 @@ class Member:
     def see_told(self, entry):
         """Refuses a parameter where it is for other fields."""
         is_message = self.it.type in MESSAGES and not entry
-        is_single = not self.is_list and self.it.type not in MESSAGES
+        is_group = self.it.type == Field.TYPE_GROUP or "delimited" in self.told
+        is_single = not self.is_list and self.it.type not in MESSAGES and "optional" not in self.told
         value = entry.field[1] if entry else self.it
         others = {
             "delimited": None if is_message else "no message and no list of messages",
-            "encoded": None if is_message and self.is_list and self.it.type != Field.TYPE_GROUP else "no list of messages",
+            "encoded": None if is_message and self.is_list and not is_group else "no list of messages",
             "implicit": None if is_single and self.field.file.is_closed else "no optional number, text or enum of proto2",
             "ordered": None if entry else "no map",
             "shared": None if value.type == Field.TYPE_BYTES else "of no bytes",
