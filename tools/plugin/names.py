@@ -12,7 +12,7 @@ ESCAPED = set(
     "tcoe hcom com".split()
 )
 CODECS = set(
-    "Bool BytesVec ClosedEnum Fixed32 Fixed64 Int32 Int64 Map OpenEnum Sfixed32 Sfixed64 Sint32 Sint64 Str Uint32 Uint64".split()
+    "Bool BytesBuf BytesVec ClosedEnum Fixed32 Fixed64 Int32 Int64 Map OpenEnum Sfixed32 Sfixed64 Sint32 Sint64 Str Uint32 Uint64".split()
 )
 
 # The module of each name, over the facade.
@@ -21,8 +21,9 @@ FACADE = {
     **{it: "buffa::fields" for it in ["And"] + [f"And{n}" for n in range(3, 17)]},
     **{it: "buffa::fields" for it in "Fields Formed Group Keeping KeptFields Listed Listing MapOf MapOfNested Member Nested".split()},
     **{it: "buffa::fields" for it in "Optional OrderedMapOf OrderedMapOfNested Packed Plain Repeated RepeatedGroup".split()},
-    **{it: "buffa::fields" for it in "RepeatedNested Visitor kept".split()},
+    **{it: "buffa::fields" for it in "RepeatedNested Visitor Holds Nest kept".split()},
     **{it: "buffa" for it in "Blank DecodeContext DecodeError EnumValue Enumeration ExtensionSet Tag UnknownFields".split()},
+    "Bytes": "bytes",
     "Global": "std::alloc",
     "BTreeMap": "std::collections",
     "String": "std::string",
@@ -43,8 +44,11 @@ BELOW = {
     "OrderedMapOfNested": "buffa_fields::ordered_nested",
     "RepeatedGroup": "buffa_fields::repeated_group",
     "RepeatedNested": "buffa_fields::repeated_nested",
+    "Bytes": "bytes",
     "Global": "std::alloc",
     "BTreeMap": "std::collections",
+    "Holds": "buffa_fields::held",
+    "Nest": "buffa_fields::held",
     "String": "std::string",
     "kept": "buffa_fields::kept",
 }
@@ -68,3 +72,8 @@ def camel(name):
 def ordered(names):
     """As rt fmt sorts them: by their letters, and by what their digits mean."""
     return sorted(names, key=lambda it: [int(p) if p.isdigit() else p for p in re.split(r"(\d+)", it)])
+
+
+def path(by, *names):
+    """The names on a way, of those that are there: no module stands above what lies beside the crate's root."""
+    return by.join(it for it in names if it)

@@ -21,6 +21,8 @@ SCALARS = {
     Field.TYPE_STRING: ("Str", "String", "[u8; 0]", 24, "String::new(alloc)"),
     Field.TYPE_BYTES: ("BytesVec", "Vec<u8>", "[u8; 0]", 24, "Vec::new(alloc)"),
 }
+# Parameters that are of a field.
+FIELD_KEYS = ("delimited", "encoded", "implicit", "optional", "ordered", "shared")
 MESSAGES = (Field.TYPE_MESSAGE, Field.TYPE_GROUP)
 REALS = {Field.TYPE_FLOAT: "float", Field.TYPE_DOUBLE: "double"}
 
@@ -90,23 +92,32 @@ class World:
 
     def read_parameters(self, text):
         self.crate, self.module, self.over, self.maps = "", "messages", "buffa", ""
-        self.left, self.optional, self.encoded = set(), set(), set()
-        named = {"leave": self.left, "optional": self.optional, "encoded": self.encoded}
+        self.left, self.dropping, self.costs = set(), set(), {}
+        self.fields = {key: set() for key in FIELD_KEYS}
+        named = {"leave": self.left, "drop": self.dropping, **self.fields}
         for word in filter(None, text.split(",")):
             key, _, value = word.partition("=")
+            cost = re.fullmatch(r"(.*):([1-9][0-9]*)", value)
             if key in named:
                 named[key].add(value)
+            elif key == "cost" and cost:
+                self.costs[cost[1]] = int(cost[2])
             elif key in ("crate", "module") or (key, value) in (("over", "buffa"), ("over", "buffa_fields"), ("maps", "ordered")):
                 setattr(self, key, value)
             else:
                 raise Refused(f"no parameter is {word}")
 
     def see_names(self):
-        """Refuses a parameter that names nothing of the files."""
-        known = {it.full for f in self.asked for it in f.messages + f.enums + f.others}
-        known |= {f"{m.full}.{f.name}" for file in self.asked for m in file.messages for f in m.it.field}
-        for name in sorted((self.left | self.optional | self.encoded) - known):
+        """Refuses a parameter that names nothing of the files, or nothing of its kind."""
+        messages = {it.full for f in self.asked for it in f.messages}
+        fields = {f"{m.full}.{f.name}" for file in self.asked for m in file.messages for f in m.it.field}
+        known = messages | fields | {it.full for f in self.asked for it in f.enums + f.others}
+        for name in sorted(self.left - known):
             raise Refused(f"nothing is called {name} in these files")
+        for name in sorted(set().union(*self.fields.values()) - fields):
+            raise Refused(f"no field is called {name} in these files")
+        for name in sorted((self.dropping | set(self.costs)) - messages):
+            raise Refused(f"no message is called {name} in these files")
 
     def add_entries(self, full, it):
         for each in it.nested_type:
@@ -128,6 +139,8 @@ class World:
             name = "".join(camel(n) for n in names)
             if name in TAKEN:
                 name += "Enum" if hasattr(it.it, "value") else "Message"
+            if not self.module and snake(name) in ("lib", "main"):
+                it.refuse("its file would be the crate's root: say module=NAME")
             other = files.setdefault(snake(name), it)
             if other is not it:
                 it.refuse(f"the name of its file is that of {other.full}, too")
@@ -154,15 +167,17 @@ class Member:
         self.in_contract = f"«{self.name}»" if self.name in ESCAPED else self.name
         self.keeps, self.needs, self.inside = False, set(), []
         self.world = world
+        self.told = {key for key in FIELD_KEYS if field.full in world.fields[key]}
         entry = world.entries.get(self.it.type_name)
         self.is_list = self.it.label == Field.LABEL_REPEATED
         if self.it.HasField("oneof_index") and not self.it.proto3_optional:
             name = message.it.oneof_decl[self.it.oneof_index].name
             field.refuse(f"it is in the oneof {name}, of whose fields one alone may be there, which no list of members says")
         self.see_presence()
-        self.is_encoded = field.full in world.encoded
+        self.see_told(entry)
+        self.is_encoded = "encoded" in self.told
         if self.is_encoded:
-            self.as_encodings(entry)
+            self.as_encodings()
         elif entry:
             self.as_map(entry)
         elif self.it.type in MESSAGES:
@@ -172,7 +187,7 @@ class Member:
 
     def see_presence(self):
         """Refuses what a member that is optional doesn't do."""
-        if self.field.full in self.world.optional:
+        if "optional" in self.told:
             return
         if self.it.label == Field.LABEL_REQUIRED:
             self.field.refuse("it is required, and a message without it would be read")
@@ -185,10 +200,30 @@ class Member:
         if self.it.default_value != blank:
             self.field.refuse(f"where it isn't there its default stands for it ({self.it.default_value}), which no member says")
 
+    def see_told(self, entry):
+        """Refuses a parameter where it is for other fields."""
+        is_message = self.it.type in MESSAGES and not entry
+        is_group = self.it.type == Field.TYPE_GROUP or "delimited" in self.told
+        is_single = not self.is_list and self.it.type not in MESSAGES and "optional" not in self.told
+        value = entry.field[1] if entry else self.it
+        others = {
+            "delimited": None if is_message else "no message and no list of messages",
+            "encoded": None if is_message and self.is_list and not is_group else "no list of messages",
+            "implicit": None if is_single and self.field.file.is_closed else "no optional number, text or enum of proto2",
+            "ordered": None if entry else "no map",
+            "shared": None if value.type == Field.TYPE_BYTES else "of no bytes",
+        }
+        for key in sorted(self.told & set(others)):
+            if others[key]:
+                self.field.refuse(f"it is {others[key]}, and {key}= is for these alone")
+
     def codec(self, it):
         """The codec of a field, its Rust type, what it means, its bytes and its default; of a closed enum also that it is one."""
         if it.type in REALS:
             self.field.refuse(f"no codec is of the type {REALS[it.type]}")
+        if it.type == Field.TYPE_BYTES and "shared" in self.told:
+            self.needs |= {"BytesBuf", "Bytes"}
+            return "BytesBuf", "Bytes", "[u8; 0]", 32, "Bytes::new()", False
         if it.type != Field.TYPE_ENUM:
             made = SCALARS[it.type]
             self.needs |= {made[0]} | ({"String"} if made[0] == "Str" else set())
@@ -214,6 +249,10 @@ class Member:
             can_be = codec not in ("Str", "BytesVec")
             packed = can_be and (self.it.options.packed if self.it.options.HasField("packed") else not self.field.file.is_closed)
             self.be("Packed" if packed else "Repeated", codec, f"Vec<{rust}>", f"[{means}; 0]", 24, "Vec::new(alloc)")
+        elif "implicit" in self.told:
+            if is_closed:
+                self.field.refuse("its enum is closed, and implicit= is for those that aren't")
+            self.be("Plain", codec, rust, means, cost, blank)
         elif self.field.file.is_closed or self.it.proto3_optional:
             self.keeps = is_closed
             self.be("Optional", codec, f"Option<{rust}>", f"Option<{means}>", cost + 8, "None")
@@ -223,25 +262,24 @@ class Member:
     def as_message(self):
         name = self.world.type_of(self.field, self.it.type_name)
         self.inside.append(self.it.type_name.lstrip("."))
-        member_type = "Group" if self.it.type == Field.TYPE_GROUP else "Nested"
+        member_type = "Group" if self.it.type == Field.TYPE_GROUP or "delimited" in self.told else "Nested"
         means = f"<{name} as Blank>::Meaning"
         if self.is_list:
             self.be(f"Repeated{member_type}", name, f"Vec<{name}>", f"[{means}; 0]", 24, "Vec::new(alloc)")
         else:
             self.be(member_type, name, f"Option<{name}>", f"Option<{means}>", None, "None")
 
-    def as_encodings(self, entry):
+    def as_encodings(self):
         """A list of messages, each as its bytes. Of a message that is no list two records are one message, which bytes aren't."""
-        if entry or not self.is_list or self.it.type != Field.TYPE_MESSAGE:
-            self.field.refuse("it is no list of messages, and encoded= is for these alone")
         self.needs.add("BytesVec")
         self.be("Repeated", "BytesVec", "Vec<Vec<u8>>", "[[u8; 0]; 0]", 24, "Vec::new(alloc)")
 
     def as_map(self, entry):
         key, value = entry.field
         codec, rust, means = self.codec(key)[:3]
-        into, cost = ("BTreeMap", 24) if self.world.maps else ("Map", 112)
-        member_type = "OrderedMapOf" if self.world.maps else "MapOf"
+        is_ordered = self.world.maps or "ordered" in self.told
+        into, cost = ("BTreeMap", 24) if is_ordered else ("Map", 112)
+        member_type = "OrderedMapOf" if is_ordered else "MapOf"
         self.needs |= {into, "And"}
         if value.type in MESSAGES:
             name = self.world.type_of(self.field, value.type_name)
@@ -275,7 +313,7 @@ class Member:
 
 
 class Message:
-    """A message: its members in the order of their numbers."""
+    """A message: its members in the order of their numbers, and apart from them the one list of itself that it may hold."""
 
     def __init__(self, world, name):
         self.world, self.name, self.rust, self.it = world, name, world.types[name.full], name.it
@@ -283,7 +321,12 @@ class Message:
             name.refuse("it is a MessageSet, which is written by hand, as SetMsg is")
         fields = [Name(name.file, name.path + (2, at), f"{name.full}.{f.name}", f) for at, f in enumerate(self.it.field)]
         self.left = sorted((f for f in fields if f.full in world.left), key=lambda f: f.it.number)
-        self.members = sorted(self.read([f for f in fields if f.full not in world.left]), key=lambda k: k.number)
+        self.listed = sorted(self.read([f for f in fields if f.full not in world.left]), key=lambda k: k.number)
+        self.held = self.list_of_itself()
+        self.members = [k for k in self.listed if k is not self.held]
+        self.own = self.rust + "Own" if self.held else self.rust
+        self.is_keeping = name.full not in world.dropping
+        self.see_own()
         names = {}
         for member in self.members:
             other = names.setdefault(member.name, member)
@@ -302,17 +345,38 @@ class Message:
             raise Refused("\n".join(refused))
         return made
 
+    def list_of_itself(self):
+        """The member that is a list of messages of this type, where no other member has one."""
+        found = [k for k in self.listed if self.name.full in k.inside]
+        return found[0] if len(found) == 1 and found[0].member_type.startswith("RepeatedNested<") else None
+
+    def see_own(self):
+        """Refuses a name that another type has, and what would drop more than fields that aren't declared."""
+        if self.held and (self.own in self.world.types.values() or self.own in TAKEN):
+            self.name.refuse(f"what it has beside {self.held.it.name} is to be called {self.own}, as another type is")
+        if self.is_keeping:
+            return
+        if self.it.extension_range:
+            self.name.refuse("its extensions are among the fields that aren't declared, which drop= leaves out")
+        for member in self.members:
+            if member.keeps:
+                member.field.refuse("what its closed enum doesn't declare is kept, which drop= leaves out")
+
     def cost(self, messages):
-        """The bytes of the struct, by the rule at the head of this file."""
-        return 24 + sum(k.cost or messages[k.inside[-1]].cost(messages) + 8 for k in self.members)
+        """What is told, or the bytes of the struct, by the rule at the head of the plugin."""
+        if self.name.full in self.world.costs:
+            return self.world.costs[self.name.full]
+        parts = [k.cost or messages[k.inside[-1]].cost(messages) + 8 for k in self.members]
+        return sum(parts) + 24 * self.is_keeping + 24 * bool(self.held) or 8
 
 
 def see_no_cycle(messages):
-    """A message that holds itself is no list of members."""
+    """A message that holds itself is no list of members, but for one list of itself."""
     def walk(full, above):
         if full in above:
             path = " in ".join(reversed(above[above.index(full) :] + [full]))
-            messages[full].name.refuse(f"it holds itself ({path}), and is written by hand, as Tree is, or a field is left out or encoded")
+            why = f"it holds itself ({path}), other than as one list, and is written by hand, as Tree is"
+            messages[full].name.refuse(f"{why}, or a field is left out or encoded")
         for member in messages[full].members:
             for inner in member.inside:
                 if inner in messages and inner not in done:

@@ -1,8 +1,9 @@
 """The text of a file: a message from its fields, or an enum, laid out as rt fmt has it."""
-from names import BELOW, FACADE, ordered, snake
+from names import BELOW, FACADE, ordered, path, snake
 
 WIDTH = 100
 CALL_WIDTH = 60
+LITERAL_WIDTH = 18
 LONGEST = 120
 
 
@@ -15,7 +16,7 @@ def uses(world, names, own):
         by_module["buffa_fields::kept"] |= {"self"}
         by_module["buffa_fields::kept"].discard("kept")
     for name in own:
-        by_module[f"crate::{world.module}::{snake(name)}"] = {name}
+        by_module[path("::", "crate", world.module, snake(name))] = {name}
     modules = sorted(by_module, key=lambda m: (not m.startswith("crate::"), [(1, p) for p in m.split("::")] + [(9, "")]))
     made = []
     for module in modules:
@@ -75,14 +76,33 @@ def docs(lines, indent=""):
 
 def message_docs(message):
     made = list(message.name.said) + ([""] if message.name.said else [])
-    made += [f"message {message.it.name} {{"] + [f"    {k.declared()}" for k in message.members]
+    made += [f"message {message.it.name} {{"] + [f"    {k.declared()}" for k in message.listed]
     made += [f"    {r};" for r in ranges(message)] + ["}"]
-    if message.left:
-        made += ["", "Left among the fields that aren't declared: " + ", ".join(f"{f.it.name} = {f.it.number}" for f in message.left) + "."]
-    encoded = [f"{k.it.name} = {k.number}" for k in message.members if k.is_encoded]
-    if encoded:
-        made += ["", "Held as the encodings of its messages, which merge_from_slice reads: " + ", ".join(encoded) + "."]
-    return docs(made)
+    for said, fields in remarks(message):
+        if fields:
+            made += ["", f"{said}: " + ", ".join(f"{f.name} = {f.number}" for f in fields) + "."]
+    return docs(made + [] if message.is_keeping else made + ["", "The fields that aren't declared are passed over."])
+
+
+def remarks(message):
+    """What the .proto doesn't say of fields, and of which."""
+    def told(key):
+        return [k.it for k in message.members if key in k.told]
+
+    where = "Left among the fields that aren't declared" if message.is_keeping else "Passed over"
+    yield where, [f.it for f in message.left]
+    yield "Held as the encodings of its messages, which merge_from_slice reads", told("encoded")
+    yield "Written as groups", told("delimited")
+    yield "Written in the order of their keys", [k.it for k in message.members if k.member_type.startswith("Ordered")]
+    yield "Not written where it is the default", told("implicit")
+
+
+def held_docs(message):
+    """What is said of a message that holds a list of itself, beside what is said of each message."""
+    name = message.held.it.name
+    made = ["", f"Its `{name}` are `inside`, and are written first. Its other members are in `own`."]
+    made += ["Its extensions are those of `own`."] * bool(message.it.extension_range)
+    return docs(made + ([""] + message.held.field.said if message.held.field.said else []))
 
 
 def ranges(message):
@@ -90,7 +110,7 @@ def ranges(message):
     return [f"extensions {a}" if a == b else f"extensions {a} to {b}" for a, b in ends]
 
 
-def layout(members):
+def layout(members, is_keeping):
     made = []
     for member in members:
         shape = f"⟦<{member.member_type} as Member>⟧.shape"
@@ -99,28 +119,34 @@ def layout(members):
         if member.keeps:
             made.append(f"⟦<{member.member_type} as Keeping>⟧.aside")
         made[-1] += " ("
-    made.append("keep (λ m. m.rest.records)" + ")" * len(members) + " };")
+    made.append(("keep (λ m. m.rest.records)" if is_keeping else "skip") + ")" * len(members) + " };")
     return ["    ghost layout = { " + made[0]] + ["        " + it for it in made[1:]]
 
 
 def visit_and_take(message):
-    made = ["    fn visit<V: Visitor>(&self, visitor: &mut V) {"]
-    for member in message.members:
+    members = message.members
+    visits = []
+    for member in members:
         word = "visit_keeping" if member.keeps else "visit"
-        made += called("        ", f"visitor.{word}::<{member.member_type}>", [str(member.number), f"&self.{member.name}"], ";")
-    made += ["        visitor.visit_kept(&self.rest);", "    }", "", "    fn take("]
-    made += [f"        {it}," for it in ("&mut self", "alloc: Global", "tag: Tag", "buf: &mut &[u8]", "ctx: DecodeContext<'_>")]
+        visits += called("        ", f"visitor.{word}::<{member.member_type}>", [str(member.number), f"&self.{member.name}"], ";")
+    visits += ["        visitor.visit_kept(&self.rest);"] * message.is_keeping
+    made = ["    fn visit<V: Visitor>(&self, visitor: &mut V) {"] + visits + ["    }"]
+    if not visits:
+        made = ["    fn visit<V: Visitor>(&self, _visitor: &mut V) {}"]
+    made += ["", "    fn take("]
+    alloc = "alloc" if members or message.is_keeping else "_alloc"
+    made += [f"        {it}," for it in ("&mut self", f"{alloc}: Global", "tag: Tag", "buf: &mut &[u8]", "ctx: DecodeContext<'_>")]
     made += ["    ) -> Result<(), DecodeError> {"]
-    keep = "kept::keep(alloc, &mut self.rest, tag, buf, ctx)"
-    if not message.members:
-        return made + [f"        {keep}", "    }"]
+    other = "kept::keep(alloc, &mut self.rest, tag, buf, ctx)" if message.is_keeping else "kept::pass(tag, buf, ctx)"
+    if not members:
+        return made + [f"        {other}", "    }"]
     made += ["        match tag.field_number() {"]
-    for member in message.members:
+    for member in members:
         beside = ["&mut self.rest"] if member.keeps else []
         call = f"{member.member_type.replace('<', '::<', 1)}::{'merge_kept' if member.keeps else 'merge'}"
         args = [f"&mut self.{member.name}"] + beside + ["alloc", "tag", "buf", "ctx"]
         made += called("            ", f"{member.number} => {call}", args, ",")
-    return made + [f"            _ => {keep},", "        }", "    }"]
+    return made + [f"            _ => {other},", "        }", "    }"]
 
 
 def extension_set(message):
@@ -128,7 +154,7 @@ def extension_set(message):
     line = "    const PROTO_FQN: &'static str ="
     line += f' "{full}";' if len(line) + len(full) + 4 <= WIDTH else f'\n        "{full}";'
     return f"""
-impl ExtensionSet for {message.rust} {{
+impl ExtensionSet for {message.own} {{
 {line}
 
     ghost fqn = {{ codes "{full}" }};
@@ -159,8 +185,10 @@ impl ExtensionSet for {message.rust} {{
 
 def head_of_message(world, message):
     members = message.members
-    names = set("Fields Formed KeptFields Listed Listing Visitor kept Blank DecodeContext DecodeError Tag UnknownFields Global".split())
+    names = set("Fields Listing Visitor kept Blank DecodeContext DecodeError Tag Global".split())
     names = names.union(*[k.needs for k in members])
+    names |= {"KeptFields", "UnknownFields"} if message.is_keeping else set()
+    names |= {"Holds", "Nest"} if message.held else {"Formed", "Listed"}
     names |= {"Member"} if members else set()
     if members:
         names.add("And" if len(members) == 1 else f"And{min(len(members) + 1, 16)}")
@@ -170,7 +198,8 @@ def head_of_message(world, message):
             over -= 15
     has_set = bool(message.it.extension_range)
     names |= {"ExtensionSet"} if has_set else set()
-    words = ["field"] * any(not k.keeps for k in members) + ["field_kept"] * any(k.keeps for k in members) + ["keep"]
+    words = ["field"] * any(not k.keeps for k in members) + ["field_kept"] * any(k.keeps for k in members)
+    words += ["keep"] if message.is_keeping else ["skip"]
     own = {world.types[i] for k in members for i in k.inside}
     made = [f"//! {message.name.full}, made of {message.name.file.name} by protoc-gen-buffa.", ""]
     made += ["ghost use Rattle.std.proofs.Common.{lit<, refl};"]
@@ -179,22 +208,53 @@ def head_of_message(world, message):
     return made + uses(world, names, own)
 
 
+def struct(message):
+    """The struct of the members, and of a message that holds a list of itself the type around it."""
+    made = message_docs(message)
+    if message.held:
+        made += held_docs(message) + [f"pub type {message.rust} = Nest<{message.own}>;", ""]
+        made += docs([f"What `{message.rust}` has beside `{message.held.it.name}`."])
+    parts = []
+    for member in message.members:
+        parts += docs(member.field.said, "    ") + [f"    pub {member.name}: {member.rust},"]
+    parts += ["    /// The fields that aren't declared, in order.", "    pub rest: UnknownFields,"] * message.is_keeping
+    made += ["#[derive(Drop)]", f"pub struct {message.own} {{"]
+    return made + parts + ["}"] if parts else made[:-1] + [f"pub struct {message.own} {{}}"]
+
+
+def blank(message):
+    """The function of the default."""
+    members = [(k.name, k.blank) for k in message.members]
+    members += [("rest", "UnknownFields::new(alloc)")] * message.is_keeping
+    alloc = "alloc" if any("alloc" in of for _, of in members) else "_alloc"
+    made = [f"    fn blank({alloc}: Global) -> {message.own} {{"]
+    short = ", ".join(f"{name}: {of}" for name, of in members)
+    if len(short) <= LITERAL_WIDTH:
+        made += [f"        {message.own} {{ {short} }}" if members else f"        {message.own} {{}}"]
+    else:
+        made += [f"        {message.own} {{"] + [f"            {name}: {of}," for name, of in members] + ["        }"]
+    return made + ["    }"]
+
+
+def form(message):
+    """What makes a message of the struct: of one that holds a list of itself, the number of the list."""
+    if not message.held:
+        return [f"impl Formed for {message.own} {{", "    type Form = Listed;", "}"]
+    number = message.held.number
+    made = [f"impl Holds for {message.own} {{", f"    const NUMBER: u32 = {number};", "", f"    ghost NUMBER = {{ {number} }};", ""]
+    return made + ["    ghost other = { refl };", "}"]
+
+
 def write_message(world, message, messages):
-    name, cost, members = message.rust, message.cost(messages), message.members
-    made = head_of_message(world, message) + [""] + message_docs(message) + ["#[derive(Drop)]", f"pub struct {name} {{"]
-    for member in members:
-        made += docs(member.field.said, "    ") + [f"    pub {member.name}: {member.rust},"]
-    made += ["    /// The fields that aren't declared, in order.", "    pub rest: UnknownFields,", "}", ""]
-    made += [f"impl Fields for {name} {{"] + meaning([k.means for k in members] + ["KeptFields"]) + [""]
+    name, cost, members, is_keeping = message.own, message.cost(messages), message.members, message.is_keeping
+    made = head_of_message(world, message) + [""] + struct(message) + [""]
+    made += [f"impl Fields for {name} {{"] + meaning([k.means for k in members] + ["KeptFields" if is_keeping else "()"]) + [""]
     made += [f"    const COST: usize = {cost};", "", f"    ghost COST = {{ {cost} }};", "", "    ghost positive = { lit< tt };", ""]
-    made += layout(members) + ["", "    ghost sound = { refl };", ""] + visit_and_take(message) + ["}", ""]
+    made += layout(members, is_keeping) + ["", "    ghost sound = { refl };", ""] + visit_and_take(message) + ["}", ""]
     made += [f"impl Blank for {name} {{", f"    type Meaning = <{name} as Fields>::Meaning;", ""]
     made += [f"    ghost {a} = {{ ⟦<{name} as Fields>⟧.layout.{b} }};\n" for a, b in (("meaning", "meaning"), ("blank_is", "blank"))]
-    made += [f"    fn blank(alloc: Global) -> {name} {{", f"        {name} {{"]
-    made += [f"            {k.name}: {k.blank}," for k in members] + ["            rest: UnknownFields::new(alloc),"]
-    made += ["        }", "    }", "}", "", f"impl Listing for {name} {{"]
-    made += ["    ghost means = { λ m. refl };", "", "    ghost starts = { refl };", "}", ""]
-    made += [f"impl Formed for {name} {{", "    type Form = Listed;", "}"]
+    made += blank(message) + ["}", "", f"impl Listing for {name} {{"]
+    made += ["    ghost means = { λ m. refl };", "", "    ghost starts = { refl };", "}", ""] + form(message)
     return "\n".join(made + (extension_set(message) if message.it.extension_range else [])) + "\n"
 
 
@@ -229,7 +289,8 @@ def write_enum(world, enum):
     name, values = enum.rust, enum.values
     numbers = {n for _, n, _ in values}
     plain = ["None", "Some", "if◌then◌else◌"] + ["negsuc"] * any(n < 0 for n in numbers) + ["pos"] * any(n >= 0 for n in numbers)
-    variants = f"Rattle.{world.crate}.specs.declared.{world.module}.{snake(name)}.{name}.TheVariants.{{{', '.join(v for v, _, _ in values)}}}"
+    declared = path(".", "Rattle", world.crate, "specs.declared", world.module, snake(name), name)
+    variants = f"{declared}.TheVariants.{{{', '.join(v for v, _, _ in values)}}}"
     made = [f"//! {enum.name.full}, made of {enum.name.file.name} by protoc-gen-buffa.", ""]
     made += [f"ghost use Rattle.std.specs.Prelude.{{{', '.join(plain)}, refl}};", "ghost use Rattle.std.specs.Ordering.{int_eq};", ""]
     made += uses(world, {"Blank", "Enumeration", "Global"}, ()) + [""]

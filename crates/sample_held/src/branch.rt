@@ -1,4 +1,4 @@
-//! A branch, and the branches on it.
+//! buffa.sample.Branch, made of branch.proto by protoc-gen-buffa.
 
 ghost use Rattle.std.proofs.Common.{lit<, refl};
 ghost use Rattle.buffa_fields.specs.Members.{field, keep};
@@ -15,8 +15,9 @@ use buffa_fields::visitor::Visitor;
 use buffa_map::map_codec::{Int32, Str};
 use buffa_wire::{Blank, DecodeContext, DecodeError, Tag, UnknownFields};
 use std::alloc::Global;
+use std::string::String;
 
-/// What a branch has of its own:
+/// A branch, with the branches on it.
 ///
 /// message Branch {
 ///     string name = 1;
@@ -24,24 +25,19 @@ use std::alloc::Global;
 ///     repeated Branch branches = 3;
 /// }
 ///
-/// ```ignore
-/// impl Holds for Own { .. }
-/// ```
+/// Its `branches` are `inside`, and are written first. Its other members are in `own`.
+pub type Branch = Nest<BranchOwn>;
+
+/// What `Branch` has beside `branches`.
 #[derive(Drop)]
-pub struct Own {
+pub struct BranchOwn {
     pub name: String,
     pub leaves: Vec<i32>,
+    /// The fields that aren't declared, in order.
     pub rest: UnknownFields,
 }
 
-/// A branch, with the branches on it.
-///
-/// ```ignore
-/// let mut branch: Branch = Blank::blank(alloc);
-/// ```
-pub type Branch = Nest<Own>;
-
-impl Fields for Own {
+impl Fields for BranchOwn {
     type Meaning = And3<[u8; 0], [i32; 0], KeptFields>;
 
     const COST: usize = 96;
@@ -77,15 +73,15 @@ impl Fields for Own {
     }
 }
 
-impl Blank for Own {
-    type Meaning = <Own as Fields>::Meaning;
+impl Blank for BranchOwn {
+    type Meaning = <BranchOwn as Fields>::Meaning;
 
-    ghost meaning = { ⟦<Own as Fields>⟧.layout.meaning };
+    ghost meaning = { ⟦<BranchOwn as Fields>⟧.layout.meaning };
 
-    ghost blank_is = { ⟦<Own as Fields>⟧.layout.blank };
+    ghost blank_is = { ⟦<BranchOwn as Fields>⟧.layout.blank };
 
-    fn blank(alloc: Global) -> Own {
-        Own {
+    fn blank(alloc: Global) -> BranchOwn {
+        BranchOwn {
             name: String::new(alloc),
             leaves: Vec::new(alloc),
             rest: UnknownFields::new(alloc),
@@ -93,13 +89,13 @@ impl Blank for Own {
     }
 }
 
-impl Listing for Own {
+impl Listing for BranchOwn {
     ghost means = { λ m. refl };
 
     ghost starts = { refl };
 }
 
-impl Holds for Own {
+impl Holds for BranchOwn {
     const NUMBER: u32 = 3;
 
     ghost NUMBER = { 3 };

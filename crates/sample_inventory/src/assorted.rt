@@ -1,4 +1,4 @@
-//! Bytes and values of an enum: optional ones, lists, maps.
+//! buffa.sample.Assorted, made of inventory.proto by protoc-gen-buffa.
 
 ghost use Rattle.std.proofs.Common.{lit<, refl};
 ghost use Rattle.buffa_fields.specs.Members.{field, keep};
@@ -20,6 +20,8 @@ use buffa_wire::{Blank, DecodeContext, DecodeError, EnumValue, Formed, Tag, Unkn
 use bytes::Bytes;
 use std::alloc::Global;
 
+/// Bytes and values of an enum: optional ones, lists, maps; and bytes that are shared.
+///
 /// message Assorted {
 ///     optional bytes data = 1;
 ///     optional State state = 2;
@@ -30,10 +32,6 @@ use std::alloc::Global;
 ///     map<int64, State> states = 7;
 ///     bytes shared = 8;
 /// }
-///
-/// ```ignore
-/// impl Formed for Assorted { .. }
-/// ```
 #[derive(Drop)]
 pub struct Assorted {
     pub data: Option<Vec<u8>>,
@@ -44,6 +42,7 @@ pub struct Assorted {
     pub marks: Map<bool, Vec<u8>>,
     pub states: Map<i64, EnumValue<State>>,
     pub shared: Bytes,
+    /// The fields that aren't declared, in order.
     pub rest: UnknownFields,
 }
 
@@ -66,7 +65,7 @@ impl Fields for Assorted {
 
     ghost positive = { lit< tt };
 
-    ghost layout = { field 1 (λ m. m.data) ⟦<Optional<BytesVec> as Member>⟧.shape (
+    ghost layout = { field 1 (λ m. m.«data») ⟦<Optional<BytesVec> as Member>⟧.shape (
         field 2 (λ m. m.state) ⟦<Optional<OpenEnum<State>> as Member>⟧.shape (
         field 3 (λ m. m.parts) ⟦<Repeated<BytesVec> as Member>⟧.shape (
         field 4 (λ m. m.past) ⟦<Repeated<OpenEnum<State>> as Member>⟧.shape (

@@ -1,4 +1,4 @@
-//! A depot: a list of messages.
+//! buffa.sample.Depot, made of inventory.proto by protoc-gen-buffa.
 
 ghost use Rattle.std.proofs.Common.{lit<, refl};
 ghost use Rattle.buffa_fields.specs.Members.{field, skip};
@@ -17,14 +17,14 @@ use buffa_wire::{Blank, DecodeContext, DecodeError, Formed, Tag};
 use std::alloc::Global;
 use std::string::String;
 
+/// A depot: a list of messages.
+///
 /// message Depot {
 ///     string city = 1;
 ///     repeated Parcel parcels = 2;
 /// }
 ///
-/// ```ignore
-/// impl Formed for Depot { .. }
-/// ```
+/// The fields that aren't declared are passed over.
 #[derive(Drop)]
 pub struct Depot {
     pub city: String,

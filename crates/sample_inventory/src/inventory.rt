@@ -1,4 +1,4 @@
-//! An inventory: values, an optional one, a map, and kept fields.
+//! buffa.sample.Inventory, made of inventory.proto by protoc-gen-buffa.
 
 ghost use Rattle.std.proofs.Common.{lit<, refl};
 ghost use Rattle.buffa_fields.specs.Members.{field, keep};
@@ -17,22 +17,21 @@ use buffa_wire::{Blank, DecodeContext, DecodeError, Formed, Tag, UnknownFields};
 use std::alloc::Global;
 use std::string::String;
 
+/// Values, an optional one, and a map.
+///
 /// message Inventory {
 ///     int32 total = 1;
 ///     string note = 2;
 ///     optional bool listed = 3;
 ///     map<string, int32> counts = 5;
 /// }
-///
-/// ```ignore
-/// let mut message: Inventory = Blank::blank(alloc);
-/// ```
 #[derive(Drop)]
 pub struct Inventory {
     pub total: i32,
     pub note: String,
     pub listed: Option<bool>,
     pub counts: Map<String, i32>,
+    /// The fields that aren't declared, in order.
     pub rest: UnknownFields,
 }
 

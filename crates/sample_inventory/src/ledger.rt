@@ -1,4 +1,4 @@
-//! A ledger, whose maps are written in the order of their keys.
+//! buffa.sample.Ledger, made of inventory.proto by protoc-gen-buffa.
 
 ghost use Rattle.std.proofs.Common.{lit<, refl};
 ghost use Rattle.buffa_fields.specs.Members.{field, keep};
@@ -18,20 +18,21 @@ use std::alloc::Global;
 use std::collections::BTreeMap;
 use std::string::String;
 
+/// A ledger, whose maps are written in the order of their keys.
+///
 /// message Ledger {
 ///     map<string, int32> balances = 1;
 ///     map<int32, Inventory> pages = 2;
 ///     map<bool, bytes> seals = 3;
 /// }
 ///
-/// ```ignore
-/// visitor.visit::<OrderedMapOf<Str, Int32>>(1, &self.balances);
-/// ```
+/// Written in the order of their keys: balances = 1, pages = 2, seals = 3.
 #[derive(Drop)]
 pub struct Ledger {
     pub balances: BTreeMap<String, i32>,
     pub pages: BTreeMap<i32, Inventory>,
     pub seals: BTreeMap<bool, Vec<u8>>,
+    /// The fields that aren't declared, in order.
     pub rest: UnknownFields,
 }
 

@@ -1,4 +1,5 @@
-//! Messages from their fields: samples.
+//! Messages from their fields: samples. All files but `laws.rt` and `maps.rt` are what the plugin `tools/protoc-gen-buffa` made
+//! of `inventory.proto`, with the parameters that `tools/check` lists.
 #![tactic(auto)]
 
 pub mod assorted;

@@ -1,4 +1,4 @@
-//! A load: optional values, and kept fields.
+//! buffa.sample.Load, made of inventory.proto by protoc-gen-buffa.
 
 ghost use Rattle.std.proofs.Common.{lit<, refl};
 ghost use Rattle.buffa_fields.specs.Members.{field, keep};
@@ -15,18 +15,17 @@ use buffa_wire::{Blank, DecodeContext, DecodeError, Formed, Tag, UnknownFields};
 use std::alloc::Global;
 use std::string::String;
 
+/// A load: optional values.
+///
 /// message Load {
 ///     optional int32 weight = 1;
 ///     optional string mark = 2;
 /// }
-///
-/// ```ignore
-/// impl Formed for Load { .. }
-/// ```
 #[derive(Drop)]
 pub struct Load {
     pub weight: Option<i32>,
     pub mark: Option<String>,
+    /// The fields that aren't declared, in order.
     pub rest: UnknownFields,
 }
 

@@ -1,4 +1,4 @@
-//! An order: values, optional ones, lists and maps, in twelve members.
+//! buffa.sample.Order, made of inventory.proto by protoc-gen-buffa.
 
 ghost use Rattle.std.proofs.Common.{lit<, refl};
 ghost use Rattle.buffa_fields.specs.Members.{field, skip};
@@ -20,6 +20,8 @@ use buffa_wire::{Blank, DecodeContext, DecodeError, EnumValue, Formed, Tag};
 use std::alloc::Global;
 use std::string::String;
 
+/// An order: values, optional ones, lists and maps, in twelve members.
+///
 /// message Order {
 ///     int64 id = 1;
 ///     string note = 2;
@@ -27,7 +29,7 @@ use std::string::String;
 ///     State state = 4;
 ///     map<string, int32> counts = 5;
 ///     bytes blob = 6;
-///     repeated sint32 steps = 7; // packed
+///     repeated sint32 steps = 7;
 ///     optional string code = 8;
 ///     optional fixed64 stamp = 9;
 ///     map<int32, string> names = 10;
@@ -35,9 +37,7 @@ use std::string::String;
 ///     optional int32 floor = 12;
 /// }
 ///
-/// ```ignore
-/// impl Formed for Order { .. }
-/// ```
+/// The fields that aren't declared are passed over.
 #[derive(Drop)]
 pub struct Order {
     pub id: i64,

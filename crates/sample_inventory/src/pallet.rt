@@ -1,4 +1,4 @@
-//! A pallet: a group, and a list of groups.
+//! buffa.sample.Pallet, made of inventory.proto by protoc-gen-buffa.
 
 ghost use Rattle.std.proofs.Common.{lit<, refl};
 ghost use Rattle.buffa_fields.specs.Members.{field, skip};
@@ -18,15 +18,17 @@ use buffa_wire::{Blank, DecodeContext, DecodeError, Formed, Tag};
 use std::alloc::Global;
 use std::string::String;
 
+/// A pallet: a group, and a list of groups.
+///
 /// message Pallet {
 ///     string mark = 1;
-///     Inventory stock = 2 [features.message_encoding = DELIMITED];
-///     repeated Inventory layers = 3 [features.message_encoding = DELIMITED];
+///     Inventory stock = 2;
+///     repeated Inventory layers = 3;
 /// }
 ///
-/// ```ignore
-/// impl Formed for Pallet { .. }
-/// ```
+/// Written as groups: stock = 2, layers = 3.
+///
+/// The fields that aren't declared are passed over.
 #[derive(Drop)]
 pub struct Pallet {
     pub mark: String,

@@ -1,4 +1,4 @@
-//! A parcel: a member that is a message.
+//! buffa.sample.Parcel, made of inventory.proto by protoc-gen-buffa.
 
 ghost use Rattle.std.proofs.Common.{lit<, refl};
 ghost use Rattle.buffa_fields.specs.Members.{field, skip};
@@ -16,14 +16,14 @@ use buffa_map::map_codec::Int64;
 use buffa_wire::{Blank, DecodeContext, DecodeError, Formed, Tag};
 use std::alloc::Global;
 
+/// A parcel: a member that is a message.
+///
 /// message Parcel {
 ///     int64 id = 1;
 ///     Inventory stock = 2;
 /// }
 ///
-/// ```ignore
-/// impl Formed for Parcel { .. }
-/// ```
+/// The fields that aren't declared are passed over.
 #[derive(Drop)]
 pub struct Parcel {
     pub id: i64,

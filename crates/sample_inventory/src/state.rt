@@ -1,4 +1,4 @@
-//! An enum of one's own.
+//! buffa.sample.State, made of inventory.proto by protoc-gen-buffa.
 
 ghost use Rattle.std.specs.Prelude.{None, Some, if◌then◌else◌, pos, refl};
 ghost use Rattle.std.specs.Ordering.{int_eq};
@@ -6,11 +6,12 @@ ghost use Rattle.std.specs.Ordering.{int_eq};
 use buffa_wire::{Blank, Enumeration};
 use std::alloc::Global;
 
-/// enum State { OPEN = 0; SENT = 1; }
+/// How far an order is.
 ///
-/// ```ignore
-/// let open = EnumValue::<State>::blank(alloc);
-/// ```
+/// enum State {
+///     OPEN = 0;
+///     SENT = 1;
+/// }
 #[derive(Clone, Copy, Debug, PartialEq, Eq)]
 pub enum State {
     Open,

@@ -1,4 +1,4 @@
-//! A store: a map of messages.
+//! buffa.sample.Store, made of inventory.proto by protoc-gen-buffa.
 
 ghost use Rattle.std.proofs.Common.{lit<, refl};
 ghost use Rattle.buffa_fields.specs.Members.{field, skip};
@@ -17,14 +17,14 @@ use buffa_wire::{Blank, DecodeContext, DecodeError, Formed, Tag};
 use std::alloc::Global;
 use std::string::String;
 
+/// A store: a map of messages.
+///
 /// message Store {
 ///     string name = 1;
 ///     map<string, Inventory> shelves = 2;
 /// }
 ///
-/// ```ignore
-/// visitor.visit::<MapOfNested<Str, Inventory>>(2, &self.shelves);
-/// ```
+/// The fields that aren't declared are passed over.
 #[derive(Drop)]
 pub struct Store {
     pub name: String,

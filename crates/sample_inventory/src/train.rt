@@ -1,4 +1,4 @@
-//! A train: messages of thirteen members in a map and in a list.
+//! buffa.sample.Train, made of inventory.proto by protoc-gen-buffa.
 
 ghost use Rattle.std.proofs.Common.{lit<, refl};
 ghost use Rattle.buffa_fields.specs.Members.{field, skip};
@@ -16,14 +16,14 @@ use buffa_map::map_codec::{Int32, Map};
 use buffa_wire::{Blank, DecodeContext, DecodeError, Formed, Tag};
 use std::alloc::Global;
 
+/// A train: messages of thirteen members in a map and in a list.
+///
 /// message Train {
 ///     map<int32, Wagon> wagons = 1;
 ///     repeated Wagon spares = 2;
 /// }
 ///
-/// ```ignore
-/// impl Formed for Train { .. }
-/// ```
+/// The fields that aren't declared are passed over.
 #[derive(Drop)]
 pub struct Train {
     pub wagons: Map<i32, Wagon>,

@@ -1,4 +1,4 @@
-//! A wagon, which has a member of each type.
+//! buffa.sample.Wagon, made of inventory.proto by protoc-gen-buffa.
 
 ghost use Rattle.std.proofs.Common.{lit<, refl};
 ghost use Rattle.buffa_fields.specs.Members.{field, keep};
@@ -29,25 +29,27 @@ use std::alloc::Global;
 use std::collections::BTreeMap;
 use std::string::String;
 
+/// A wagon: a member of each type, with loads in each that has messages.
+///
 /// message Wagon {
 ///     optional Load load = 1;
 ///     repeated Load loads = 2;
-///     optional Load frame = 3; // a group
-///     repeated Load beams = 4; // groups
+///     optional Load frame = 3;
+///     repeated Load beams = 4;
 ///     map<string, Load> shelves = 5;
-///     map<int32, Load> berths = 6; // in the order of its keys
+///     map<int32, Load> berths = 6;
 ///     int64 id = 7;
 ///     optional string name = 8;
 ///     optional State state = 9;
-///     repeated int32 seats = 10; // packed
+///     repeated int32 seats = 10;
 ///     repeated string tags = 11;
 ///     map<string, int32> counts = 12;
-///     map<int32, int32> axles = 13; // in the order of its keys
+///     map<int32, int32> axles = 13;
 /// }
 ///
-/// ```ignore
-/// impl Formed for Wagon { .. }
-/// ```
+/// Written as groups: frame = 3, beams = 4.
+///
+/// Written in the order of their keys: berths = 6, axles = 13.
 #[derive(Drop)]
 pub struct Wagon {
     pub load: Option<Load>,
@@ -63,19 +65,18 @@ pub struct Wagon {
     pub tags: Vec<String>,
     pub counts: Map<String, i32>,
     pub axles: BTreeMap<i32, i32>,
+    /// The fields that aren't declared, in order.
     pub rest: UnknownFields,
 }
 
-type Carried = <Load as Blank>::Meaning;
-
 impl Fields for Wagon {
     type Meaning = And14<
-        Option<Carried>,
-        [Carried; 0],
-        Option<Carried>,
-        [Carried; 0],
-        [And<[u8; 0], Carried>; 0],
-        [And<i32, Carried>; 0],
+        Option<<Load as Blank>::Meaning>,
+        [<Load as Blank>::Meaning; 0],
+        Option<<Load as Blank>::Meaning>,
+        [<Load as Blank>::Meaning; 0],
+        [And<[u8; 0], <Load as Blank>::Meaning>; 0],
+        [And<i32, <Load as Blank>::Meaning>; 0],
         i64,
         Option<[u8; 0]>,
         Option<(bool, i32)>,

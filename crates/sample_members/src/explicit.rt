@@ -1,4 +1,4 @@
-//! Numbers of explicit presence: one that is the default is written where it is there.
+//! buffa.sample.Explicit, made of members.proto by protoc-gen-buffa.
 
 ghost use Rattle.std.proofs.Common.{lit<, refl};
 ghost use Rattle.buffa_fields.specs.Members.{field, keep};
@@ -16,6 +16,8 @@ use buffa_map::map_codec::{
 use buffa_wire::{Blank, DecodeContext, DecodeError, Formed, Tag, UnknownFields};
 use std::alloc::Global;
 
+/// Numbers of explicit presence: one that is the default is written where it is there.
+///
 /// message Explicit {
 ///     optional int32 int32 = 1;
 ///     optional int64 int64 = 2;
@@ -29,10 +31,6 @@ use std::alloc::Global;
 ///     optional sfixed32 sfixed32 = 16;
 ///     optional sfixed64 sfixed64 = 536870911;
 /// }
-///
-/// ```ignore
-/// impl Formed for Explicit { .. }
-/// ```
 #[derive(Drop)]
 pub struct Explicit {
     pub int32: Option<i32>,
@@ -46,6 +44,7 @@ pub struct Explicit {
     pub fixed64: Option<u64>,
     pub sfixed32: Option<i32>,
     pub sfixed64: Option<i64>,
+    /// The fields that aren't declared, in order.
     pub rest: UnknownFields,
 }
 

@@ -1,4 +1,4 @@
-//! Numbers of implicit presence: one that is the default isn't written.
+//! buffa.sample.Implicit, made of members.proto by protoc-gen-buffa.
 
 ghost use Rattle.std.proofs.Common.{lit<, refl};
 ghost use Rattle.buffa_fields.specs.Members.{field, skip};
@@ -16,6 +16,8 @@ use buffa_map::map_codec::{
 use buffa_wire::{Blank, DecodeContext, DecodeError, Formed, Tag};
 use std::alloc::Global;
 
+/// Numbers of implicit presence: one that is the default isn't written.
+///
 /// message Implicit {
 ///     int32 int32 = 1;
 ///     int64 int64 = 2;
@@ -30,9 +32,7 @@ use std::alloc::Global;
 ///     sfixed64 sfixed64 = 11;
 /// }
 ///
-/// ```ignore
-/// impl Formed for Implicit { .. }
-/// ```
+/// The fields that aren't declared are passed over.
 #[derive(Drop)]
 pub struct Implicit {
     pub int32: i32,

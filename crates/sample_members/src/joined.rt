@@ -1,4 +1,4 @@
-//! Lists of numbers, packed.
+//! buffa.sample.Joined, made of members.proto by protoc-gen-buffa.
 
 ghost use Rattle.std.proofs.Common.{lit<, refl};
 ghost use Rattle.buffa_fields.specs.Members.{field, keep};
@@ -16,6 +16,8 @@ use buffa_map::map_codec::{
 use buffa_wire::{Blank, DecodeContext, DecodeError, Formed, Tag, UnknownFields};
 use std::alloc::Global;
 
+/// Lists of numbers, packed.
+///
 /// message Joined {
 ///     repeated int32 int32 = 1;
 ///     repeated int64 int64 = 2;
@@ -29,10 +31,6 @@ use std::alloc::Global;
 ///     repeated sfixed32 sfixed32 = 2047;
 ///     repeated sfixed64 sfixed64 = 2048;
 /// }
-///
-/// ```ignore
-/// impl Formed for Joined { .. }
-/// ```
 #[derive(Drop)]
 pub struct Joined {
     pub int32: Vec<i32>,
@@ -46,6 +44,7 @@ pub struct Joined {
     pub fixed64: Vec<u64>,
     pub sfixed32: Vec<i32>,
     pub sfixed64: Vec<i64>,
+    /// The fields that aren't declared, in order.
     pub rest: UnknownFields,
 }
 

@@ -1,4 +1,4 @@
-//! Lists of numbers, each in a field of its own.
+//! buffa.sample.Separate, made of members.proto by protoc-gen-buffa.
 
 ghost use Rattle.std.proofs.Common.{lit<, refl};
 ghost use Rattle.buffa_fields.specs.Members.{field, skip};
@@ -16,6 +16,8 @@ use buffa_map::map_codec::{
 use buffa_wire::{Blank, DecodeContext, DecodeError, Formed, Tag};
 use std::alloc::Global;
 
+/// Lists of numbers, each in a field of its own.
+///
 /// message Separate {
 ///     repeated int32 int32 = 1 [packed = false];
 ///     repeated int64 int64 = 2 [packed = false];
@@ -30,9 +32,7 @@ use std::alloc::Global;
 ///     repeated sfixed64 sfixed64 = 11 [packed = false];
 /// }
 ///
-/// ```ignore
-/// impl Formed for Separate { .. }
-/// ```
+/// The fields that aren't declared are passed over.
 #[derive(Drop)]
 pub struct Separate {
     pub int32: Vec<i32>,

@@ -1,4 +1,4 @@
-//! A palette: what a reader doesn't understand of its shades is passed on.
+//! buffa.sample.Palette, made of palette.proto by protoc-gen-buffa.
 
 ghost use Rattle.std.proofs.Common.{lit<, refl};
 ghost use Rattle.buffa_fields.specs.Members.{field, field_kept, keep};
@@ -25,20 +25,24 @@ use buffa_wire::{Blank, DecodeContext, DecodeError, Formed, Tag, UnknownFields};
 use std::alloc::Global;
 use std::collections::BTreeMap;
 
+/// A palette: what a reader doesn't understand of its shades is passed on.
+///
 /// message Palette {
-///     int32 total = 1;
+///     optional int32 total = 1;
 ///     map<int32, Shade> shades = 3;
 ///     optional Shade s = 4;
 ///     repeated Shade list = 5;
 ///     repeated Shade packed = 6 [packed = true];
 ///     map<int32, Shade> ordered = 7;
-///     Swatch swatch = 8;
-///     Swatch patch = 9 [features.message_encoding = DELIMITED];
+///     optional Swatch swatch = 8;
+///     optional Swatch patch = 9;
 /// }
 ///
-/// ```ignore
-/// let mut message: Palette = Blank::blank(alloc);
-/// ```
+/// Written as groups: patch = 9.
+///
+/// Written in the order of their keys: ordered = 7.
+///
+/// Not written where it is the default: total = 1.
 #[derive(Drop)]
 pub struct Palette {
     pub total: i32,
@@ -49,6 +53,7 @@ pub struct Palette {
     pub ordered: BTreeMap<i32, Shade>,
     pub swatch: Option<Swatch>,
     pub patch: Option<Swatch>,
+    /// The fields that aren't declared, in order.
     pub rest: UnknownFields,
 }
 

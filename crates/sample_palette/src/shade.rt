@@ -1,4 +1,4 @@
-//! An enum of one's own.
+//! buffa.sample.Shade, made of palette.proto by protoc-gen-buffa.
 
 ghost use Rattle.std.specs.Prelude.{None, Some, if◌then◌else◌, pos, refl};
 ghost use Rattle.std.specs.Ordering.{int_eq};
@@ -6,11 +6,10 @@ ghost use Rattle.std.specs.Ordering.{int_eq};
 use buffa_wire::{Blank, Enumeration};
 use std::alloc::Global;
 
-/// enum Shade { A = 0; B = 1; }
-///
-/// ```ignore
-/// let open = EnumValue::<Shade>::blank(alloc);
-/// ```
+/// enum Shade {
+///     A = 0;
+///     B = 1;
+/// }
 #[derive(Clone, Copy, Debug, PartialEq, Eq)]
 pub enum Shade {
     A,

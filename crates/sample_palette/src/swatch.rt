@@ -1,4 +1,4 @@
-//! A swatch: a message inside another, or a group, which passes on what it doesn't understand itself.
+//! buffa.sample.Swatch, made of palette.proto by protoc-gen-buffa.
 
 ghost use Rattle.std.proofs.Common.{lit<, refl};
 ghost use Rattle.buffa_fields.specs.Members.{field_kept, keep};
@@ -17,18 +17,17 @@ use buffa_map::map_codec::ClosedEnum;
 use buffa_wire::{Blank, DecodeContext, DecodeError, Formed, Tag, UnknownFields};
 use std::alloc::Global;
 
+/// A swatch: a message inside another, or a group, which passes on what it doesn't understand itself.
+///
 /// message Swatch {
 ///     optional Shade shade = 1;
 ///     repeated Shade others = 2;
 /// }
-///
-/// ```ignore
-/// let mut message: Swatch = Blank::blank(alloc);
-/// ```
 #[derive(Drop)]
 pub struct Swatch {
     pub shade: Option<Shade>,
     pub others: Vec<Shade>,
+    /// The fields that aren't declared, in order.
     pub rest: UnknownFields,
 }
 

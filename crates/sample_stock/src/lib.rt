@@ -1,7 +1,9 @@
 //! A crate as a user writes it: its line of `crates.txt` names `buffa` alone, and its contracts cite what the facade
-//! hands on of the words, and of the laws. No crate depends on this one.
+//! hands on of the words, and of the laws. No crate depends on this one. `stock.rt` is what the plugin `tools/protoc-gen-buffa`
+//! made of `stock.proto`.
 #![tactic(auto)]
 
+pub mod laws;
 pub mod stock;
 #[cfg(test)]
 mod tests;

@@ -1,17 +1,18 @@
-//! A message by its fields.
+//! buffa.sample.Stock, made of stock.proto by protoc-gen-buffa.
 
-ghost use Rattle.std.specs.Prelude.{◌≡◌, ◌++◌};
 ghost use Rattle.std.proofs.Common.{lit<, refl};
 ghost use Rattle.buffa.specs.Members.{field, keep};
 
 use buffa::fields::{
     And, And3, Fields, Formed, KeptFields, Listed, Listing, MapOf, Member, Plain, Visitor, kept,
 };
-use buffa::map_codec::{Int32, Str};
-use buffa::{Blank, DecodeContext, DecodeError, Map, MessageSpec, Tag, UnknownFields};
+use buffa::map_codec::{Int32, Map, Str};
+use buffa::{Blank, DecodeContext, DecodeError, Tag, UnknownFields};
 use std::alloc::Global;
 use std::string::String;
 
+/// What is there of each thing.
+///
 /// message Stock {
 ///     string name = 1;
 ///     map<string, int32> counts = 5;
@@ -20,15 +21,16 @@ use std::string::String;
 pub struct Stock {
     pub name: String,
     pub counts: Map<String, i32>,
+    /// The fields that aren't declared, in order.
     pub rest: UnknownFields,
 }
 
 impl Fields for Stock {
     type Meaning = And3<[u8; 0], [And<[u8; 0], i32>; 0], KeptFields>;
 
-    const COST: usize = 96;
+    const COST: usize = 160;
 
-    ghost COST = { 96 };
+    ghost COST = { 160 };
 
     ghost positive = { lit< tt };
 
@@ -84,10 +86,3 @@ impl Listing for Stock {
 impl Formed for Stock {
     type Form = Listed;
 }
-
-/// Under which numbers the members of a stock are written, and in which order; what is kept comes last. Nothing is left out.
-pub fn stocks_are_written_so()
-    ensures { (v : _) → ⟦<Stock as MessageSpec>⟧.records v
-        ≡ ⟦<Plain<Str> as Member>⟧.shape.records 1 v.0
-        ++ (⟦<MapOf<Str, Int32> as Member>⟧.shape.records 5 v.1.0 ++ v.1.1) }
-{}

@@ -1,0 +1,15 @@
+//! Under which numbers a stock is written.
+
+ghost use Rattle.std.specs.Prelude.{◌≡◌, ◌++◌};
+
+use crate::stock::Stock;
+use buffa::MessageSpec;
+use buffa::fields::{MapOf, Member, Plain};
+use buffa::map_codec::{Int32, Str};
+
+/// Under which numbers the members of a stock are written, and in which order; what is kept comes last. Nothing is left out.
+pub fn stocks_are_written_so()
+    ensures { (v : _) → ⟦<Stock as MessageSpec>⟧.records v
+        ≡ ⟦<Plain<Str> as Member>⟧.shape.records 1 v.0
+        ++ (⟦<MapOf<Str, Int32> as Member>⟧.shape.records 5 v.1.0 ++ v.1.1) }
+{}
