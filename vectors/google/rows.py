@@ -89,7 +89,9 @@ def messages():
 
 
 def extensions():
-    out = ["# Extensions that protobuf 3.21.12 (Python) wrote, or read.\n"]
+    out = [
+        "# Extensions that protobuf 3.21.12 (Python) wrote, or read: what `get` reads, and a strict reading, `read`.\n",
+    ]
     for kind, how, number, mode, records, held in answered("extensions"):
         records = records.strip("-")
         words = "" if held == "none" else held
@@ -100,6 +102,7 @@ def extensions():
         after = f"{told}; records {records or '-'}"
         free = " memory=none" if how == "one" and kind in NUMBERS else ""
         out.append(row("get", kind, settings + free, records, "", "ok", after))
+        out.append(row("read", kind, settings + free, records, "", "ok", after))
         if mode == "both":
             out.append(row("set", kind, settings, "", words, "ok", after))
     return out
