@@ -4,12 +4,12 @@ Each function is given a row, as `second_reading.py` reads it, and finds its ans
 """
 from rules import (
     DELIMITED, END, KINDS, MESSAGES, MOST_LEVELS, START, Budget, Bytes, Fault, blank, delimited, inside, merge, message_text,
-    of_word, packed, payload, plain, read_list, read_one, read_record, record_encoding, records, tag_encoding, word,
+    mismatch, of_word, packed, payload, plain, read_list, read_one, read_record, record_encoding, records, tag_encoding, value, word,
 )
 
 CALLS = (
     "get set default clear has set-then-read decode-of encode-into encode-one decode-one decode-one-ctx pack unpack "
-    "hold merge-all merge-in steps replace declared descriptor"
+    "hold merge-all merge-in steps replace declared descriptor read decode-strictly check-element"
 )
 
 
@@ -137,6 +137,49 @@ def on_messages(row):
     return "ok", row.told(f"{str(is_there).lower()} {word(kind, message)}", text_of(found))
 
 
+def judged(row, record, message, budget, is_listed):
+    """What a record makes of a message, or a fault where it is of another wire type or malformed. In a list of what isn't
+    delimited, bytes are packed values to their end; a value by itself is read as it is spelled."""
+    kind = plain(row.types)
+    wanted = START if row.types.endswith("-group") else KINDS[kind][0]
+    is_packed = is_listed and record[1] == DELIMITED and KINDS[kind][0] != DELIMITED
+    if record[1] != wanted and not is_packed:
+        raise mismatch(row.number, wanted, record[1])
+    if kind in MESSAGES:
+        return merge(kind, message, inside(record), MOST_LEVELS, budget)
+    buf = Bytes(inside(record) if is_packed else record[2])
+    if not is_packed:
+        buf.varint()
+    while buf.unread():
+        value(kind, buf, None)
+    return message
+
+
+def on_strict(row):
+    """A strict reading: the records of the number are judged in their order, and one that can't be read is a fault. In a list
+    each is an element, and a message is a new one; else messages are merged into one. All are of one budget."""
+    found, is_listed = records(bytes.fromhex(row.before), each=True), "how" in row.settings
+    new = message = blank(plain(row.types))
+    budget = Budget()
+    try:
+        for record in found:
+            if record[0] == row.number:
+                message = judged(row, record, new if is_listed else message, budget, is_listed)
+    except Fault as fault:
+        return str(fault), f"-; {text_of(found)}"
+    return "ok", f"{read_as(row, found)}; {text_of(found)}"
+
+
+def on_element(row):
+    """The first record as an element of a list, by the row's budget."""
+    found = records(bytes.fromhex(row.before))
+    try:
+        judged(row, found[0], blank(plain(row.types)), row.budget, True)
+    except Fault as fault:
+        return str(fault), row.told("-", text_of(found))
+    return "ok", row.told("-", text_of(found))
+
+
 def renumbered(number, text):
     """The encoding of a record under another number."""
     buf = Bytes(text)
@@ -173,6 +216,8 @@ def outcome(row):
         ("pack unpack", on_packed),
         ("hold merge-all merge-in", on_messages),
         ("steps replace", on_list),
+        ("read decode-strictly", on_strict),
+        ("check-element", on_element),
         (CALLS, on_carrier),
     ):
         if row.call in calls.split():

@@ -225,9 +225,10 @@ class Maker:
         text = b"".join(self.record(codec) for _ in range(self.any.randint(1, 4)))
         before = "".join(it[2].hex() for it in records(text)) or "-"
         if call == "one":
-            return "decode-one-ctx", codec, [f"depth={self.pick(0, 1, 2)}", f"unknown={self.pick(0, 1, 2, 9)}"], before
+            settings = [f"depth={self.pick(0, 1, 2)}", f"unknown={self.pick(0, 1, 2, 9)}"]
+            return self.pick("decode-one-ctx", "check-element"), codec, settings, before
         how = self.pick("", "how=all", "how=packed" if codec in NUMBERS else "how=all")
-        return self.pick(call, "decode-of"), codec, ["number=1", how], before
+        return self.pick(call, "decode-of", "read", "read", "decode-strictly"), codec, ["number=1", how], before
 
     def values_row(self):
         """A set of a value or a list of them, or their records behind others."""

@@ -5,6 +5,7 @@ It needs python3-protobuf (3.21.12 was used): python3 vectors/extensions.py, at 
 from pathlib import Path
 
 from google.protobuf import descriptor_pb2, descriptor_pool, message_factory
+from google.protobuf.message import DecodeError
 
 SOURCE = Path(__file__).resolve().parent / "extensions.tsv"
 
@@ -35,6 +36,11 @@ OTHERS = {
     "two": [(0, 0), (3, -1), (0, 7), (5, 0)],
     "two-group": [(0, 0), (3, -1), (0, 7), (5, 0)],
 }
+# What no reader takes for a message: cut off in a tag, a number, a length or a group; a field of number 0, of wire type 7, or
+# that ends what doesn't begin; and a number of eleven bytes.
+MALFORMED = ["80", "08", "080580", "1a0561", "1b0805", "0005", "0f", "1c", "08ffffffffffffffffffff01"]
+# Packed bytes that are cut off in a number, by the lengths of numbers: of varints, of eight bytes, of four.
+CUT_OFF = {0: "05ac", 8: "010000000000000002000000", 4: "01000000020000"}
 # How an extension is declared: a word of the table, a label, and whether it is packed.
 WAYS = [
     ("one", FIELD.LABEL_OPTIONAL, False),
@@ -134,6 +140,21 @@ def words(kind, way, held):
     return " ".join(word(kind, value) for value in carrier.Extensions[ext]) or "none"
 
 
+def spelled(value):
+    left = b""
+    while value > 127:
+        left, value = left + bytes([value & 127 | 128]), value >> 7
+    return left + bytes([value])
+
+
+def is_refused(held):
+    try:
+        CARRIER.FromString(held)
+    except DecodeError:
+        return True
+    return False
+
+
 def renumbered(held, old, new):
     """The records of one number under another, by way of a message that knows neither."""
     out, at = b"", 0
@@ -146,12 +167,6 @@ def renumbered(held, old, new):
             place, shift = place + 1, shift + 7
             if byte < 128:
                 return value, place
-
-    def spelled(value):
-        left = b""
-        while value > 127:
-            left, value = left + bytes([value & 127 | 128]), value >> 7
-        return left + bytes([value])
 
     while at < len(held):
         tag, start = varint(at)
@@ -185,13 +200,31 @@ def rows():
             yield kind, way, number, "read", begun + renumbered(text(kind, other, values), FOUND[kind, other][0], number)
 
 
+def malformed():
+    """Records that are refused, before and behind others of the extension: messages, and packed numbers."""
+    for (kind, way), (number, _) in FOUND.items():
+        if kind in SCALARS and way != "one":
+            length = 8 if kind.endswith("64") else 4
+            texts = [CUT_OFF[length if "fixed" in kind else 0]]
+        else:
+            texts = MALFORMED if kind == "two" else []
+        good = text(kind, way, {**SCALARS, **OTHERS}[kind][1:2])
+        for inner in map(bytes.fromhex, texts):
+            bad = spelled(number * 8 + 2) + spelled(len(inner)) + inner
+            for held in (bad, bad + good, good + bad):
+                assert is_refused(held), f"{kind} {way}: {held.hex()}"
+                yield kind, way, number, "refused", held
+
+
 def main():
     lines = []
     for kind, way, number, how, held in rows():
         lines.append("\t".join([kind, way, str(number), how, held.hex() or "-", words(kind, way, held)]))
+    for kind, way, number, how, held in malformed():
+        lines.append("\t".join([kind, way, str(number), how, held.hex(), "none"]))
     SOURCE.write_text(
-        "# Extensions that protobuf 3.21.12 (Python) wrote, or read.\n"
-        "# kind, one or all or packed, number, both (written and read) or read, bytes in hex, what is then held\n"
+        "# Extensions that protobuf 3.21.12 (Python) wrote, or read, or refused to read.\n"
+        "# kind, one or all or packed, number, both (written and read) or read or refused, bytes in hex, what is then held\n"
         + "".join(line + "\n" for line in lines),
         encoding="ascii",
     )

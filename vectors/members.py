@@ -11,7 +11,7 @@ import subprocess
 import tempfile
 from pathlib import Path
 
-from apart import Types, apart, reasons_in
+from apart import Types, Walk, apart, reasons_in
 from enums import varint
 from nodes import DRAW, at_random
 
@@ -145,7 +145,7 @@ def inputs(kind):
     members = [b"", *all_members(kind)]
     if kind in IN_ORDER:
         members += many_entries(kind)
-    members += at_random(20 if kind == "Wagon" else 9, lambda: one_field(kind, 2))
+    members += at_random(20 if kind in ("Wagon", "Branch") else 9, lambda: one_field(kind, 4 if kind == "Branch" else 2))
     return [(kind.lower(), it.hex()) for it in members]
 
 
@@ -164,11 +164,29 @@ def by_hand():
     return found
 
 
+def branches_first(text):
+    """The encoding of a branch as ours is written: the branches on it first, then its other fields as they stand."""
+    walk, branches, others = Walk(KNOWN, text, set()), b"", b""
+    while walk.is_left():
+        start = walk.at
+        number, wire_type = walk.tag()
+        if (number, wire_type) == (3, DELIMITED):
+            branches += field(number, wire_type, delimited(branches_first(walk.delimited())))
+        else:
+            walk.skip(number, wire_type)
+            others += text[start : walk.at]
+    return branches + others
+
+
 def ask(asked):
-    """What the C++ classes make of messages, as their words."""
+    """What the C++ classes make of messages, as their words; of a branch what is written has the branches first."""
     lines = "".join(f"{kind.capitalize()} {given}\n" for kind, given in asked)
-    told = subprocess.run([f"{AT}/members"], input=lines, capture_output=True, text=True, check=True)
-    return dict(zip(asked, (it.split("\t") for it in told.stdout.splitlines())))
+    done = subprocess.run([f"{AT}/members"], input=lines, capture_output=True, text=True, check=True)
+    told = dict(zip(asked, (it.split("\t") for it in done.stdout.splitlines())))
+    for (kind, _), words in told.items():
+        if kind == "branch" and words != ["refused"]:
+            words[1] = branches_first(bytes.fromhex(words[1].strip("-"))).hex() or "-"
+    return told
 
 
 def mark_of(told, why, rows):
@@ -185,7 +203,8 @@ def mark_of(told, why, rows):
 
 HEAD = """\
 # Messages of members.proto, wagons.proto and palettes.proto as C++ classes of protobuf 3.21.12 read and write them, in deterministic order;
-# those that keep no other field are written without these.
+# those that keep no other field are written without these. Of a branch what is written stands in our order, the branches first:
+# they read it to the same.
 # type, bytes in hex (- for none), a mark, what the message then holds, what it is written as. Marks: same; many, a map in it
 # that ours writes in no order has more than one pair, and they are in the order of their keys; refused; own and why:
 """
@@ -201,7 +220,8 @@ def build():
 def main():
     build()
     rows = by_hand()
-    asked = [*rows, *(it for kind in MESSAGES for it in inputs(kind))]
+    # the branch last, so that what is drawn of the others stays
+    asked = [*rows, *(it for kind in sorted(MESSAGES, key=lambda it: it == "Branch") for it in inputs(kind))]
     told = ask(list(dict.fromkeys(asked)))
     # what they wrote is read to the same, and written alike
     wrote = {it: (it[0], words[1].strip("-")) for it, words in told.items() if words != ["refused"]}

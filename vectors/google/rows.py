@@ -89,9 +89,16 @@ def messages():
 
 
 def extensions():
-    out = ["# Extensions that protobuf 3.21.12 (Python) wrote, or read.\n"]
+    out = [
+        "# Extensions that protobuf 3.21.12 (Python) wrote, or read: what `get` reads, and a strict reading, `read`. What it refused\n",
+        "# to read is refused by a strict reading: `refused` is any fault but want of memory.\n",
+    ]
     for kind, how, number, mode, records, held in answered("extensions"):
         records = records.strip("-")
+        if mode == "refused":
+            settings = f"number={number}" + ("" if how == "one" else f" how={how}")
+            out.append(row("read", kind, settings, records, "", "refused", ""))
+            continue
         words = "" if held == "none" else held
         if kind == "string":
             words = " ".join(text_word(it[1:]) for it in words.split(" "))
@@ -100,6 +107,7 @@ def extensions():
         after = f"{told}; records {records or '-'}"
         free = " memory=none" if how == "one" and kind in NUMBERS else ""
         out.append(row("get", kind, settings + free, records, "", "ok", after))
+        out.append(row("read", kind, settings + free, records, "", "ok", after))
         if mode == "both":
             out.append(row("set", kind, settings, "", words, "ok", after))
     return out
@@ -144,7 +152,8 @@ def members():
     out = [
         "# Messages from their fields as C++ classes of protobuf 3.21.12 read and write them, in deterministic order; `refused` is\n",
         "# any fault but want of memory. What a map of more than one pair is written as is asked of what they wrote, in the order\n",
-        "# of keys, unless the type writes it in that order too. Left out are bytes of which they make something else\n",
+        "# of keys, unless the type writes it in that order too. A branch is written with the branches on it first, which is not\n",
+        "# their order: they read such an encoding to the same. Left out are bytes of which they make something else\n",
         "# (vectors/members.tsv has them, with why): a field or a part of an entry with another wire type, which they pass over\n",
         "# or keep; a bool of 2^32 or more in an entry; an undeclared entry that isn't spelled as they write it. What a closed\n",
         "# enum doesn't declare they keep in the order in which it came, as we do.\n",

@@ -8,6 +8,7 @@ pub mod normal;
 mod reads;
 mod sets;
 mod steps;
+mod strict;
 mod told;
 pub mod written;
 
@@ -17,7 +18,10 @@ use buffa_ext::codecs::{
     Bool, BytesCodec, EnumI32, Fixed32, Fixed64, Int32, Int64, PackedRepeated, Repeated, Sfixed32,
     Sfixed64, Sint32, Sint64, StringCodec, Uint32, Uint64,
 };
-use buffa_ext::{ExtensionCodec, MessageIn, MessageRecord, Numbered, SingularCodec};
+use buffa_ext::{
+    ExtensionCodec, MessageIn, MessageRecord, Numbered, SingularCodec, StrictCodec,
+    StrictElementCodec,
+};
 use conformance_rows::case::Case;
 use conformance_rows::fault::Fault;
 use conformance_rows::mark::Mark;
@@ -26,13 +30,14 @@ use conformance_rows::words::Worded;
 use std::alloc::Global;
 
 // A call on what is read as a T.
-fn read_as<By, T: Told<By>, C: ExtensionCodec<Value = T::Value, Output = T>>(
+fn read_as<By, T: Told<By>, C: StrictCodec + ExtensionCodec<Value = T::Value, Output = T>>(
     alloc: Global,
     case: &Case<'_>,
     mark: &mut Mark,
 ) -> Result<Outcome, Fault> {
     match case.call {
         "get" | "decode-of" => reads::get::<By, T, C>(alloc, case, mark),
+        "read" | "decode-strictly" => strict::read::<By, T, C>(alloc, case, mark),
         "set" => sets::set::<By, T, C>(alloc, case, mark),
         "encode-into" => sets::encode_into::<By, T, C>(alloc, case, mark),
         "clear" => reads::clear::<C>(alloc, case, mark),
@@ -46,12 +51,16 @@ fn read_as<By, T: Told<By>, C: ExtensionCodec<Value = T::Value, Output = T>>(
 pub fn plain<
     By,
     V: Worded<By>,
-    C: SingularCodec<Value = V> + ExtensionCodec<Value = V, Output = Option<V>>,
+    C: SingularCodec<Value = V>
+        + ExtensionCodec<Value = V, Output = Option<V>>
+        + StrictCodec
+        + StrictElementCodec,
 >(alloc: Global, case: &Case<'_>, mark: &mut Mark) -> Result<Outcome, Fault> {
     match case.call {
         "encode-one" => codecs::encode_one::<By, V, C>(alloc, case, mark),
         "decode-one" | "decode-one-ctx" => codecs::decode_one::<By, V, C>(alloc, case, mark),
         "unpack" => codecs::unpack::<By, V, C>(alloc, case, mark),
+        "check-element" => strict::check_element::<C>(alloc, case, mark),
         _ if case.says("how", "all") => read_as::<By, Vec<V>, Repeated<C>>(alloc, case, mark),
         "default" => descriptors::default::<By, V, C>(alloc, case, mark),
         "declared" => descriptors::declares::<By, V, C>(alloc, case, mark),

@@ -1,5 +1,6 @@
 // Rows on messages from their fields, of which it is judged what stands after a refusal too.
 
+mod branches;
 mod words;
 
 use conformance_calls::messages::parted;
@@ -8,6 +9,7 @@ use conformance_rows::case::Case;
 use conformance_rows::fault::Fault;
 use conformance_rows::mark::Mark;
 use conformance_rows::outcome::Outcome;
+use sample_held::branch::Branch;
 use sample_inventory::assorted::Assorted;
 use sample_inventory::depot::Depot;
 use sample_inventory::inventory::Inventory;
@@ -36,6 +38,7 @@ pub fn on_members(
 ) -> Result<Outcome, Fault> {
     match case.types {
         "assorted" => parted::<Members, Assorted>(alloc, case, storage, mark, bytes),
+        "branch" => parted::<Members, Branch>(alloc, case, storage, mark, bytes),
         "depot" => parted::<Members, Depot>(alloc, case, storage, mark, bytes),
         "inventory" => parted::<Members, Inventory>(alloc, case, storage, mark, bytes),
         "ledger" => parted::<Members, Ledger>(alloc, case, storage, mark, bytes),
