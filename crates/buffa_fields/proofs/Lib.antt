@@ -16,3 +16,5 @@ pub mod KeptMapLemmas
 pub mod KeptLawLemmas
 pub mod LevelLemmas
 pub mod HeldLemmas
+pub mod HeldLawLemmas
+pub mod HeldFieldLemmas

@@ -109,7 +109,7 @@ module _ {M X : Type 0} (l : Layout M X) (k each : ℕ) where
   inside_slots_are no_nest = refl
   inside_slots_are (first t ns) = ap (λ (ss : List ℕ). (cap (length (nest_encoding l k each t)) ∷ nest_slots l k each t) ++ ss) (inside_slots_are ns)
 
-  inside_levels_are : (ns : Nests X) → messages_levels (nest_levels l k each) (nest_list ns) ≡ inside_levels l k each ns
+  pub inside_levels_are : (ns : Nests X) → messages_levels (nest_levels l k each) (nest_list ns) ≡ inside_levels l k each ns
   inside_levels_are no_nest = refl
   inside_levels_are (first t ns) = ap (max (suc (nest_levels l k each t))) (inside_levels_are ns)
 

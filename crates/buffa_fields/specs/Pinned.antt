@@ -64,3 +64,22 @@ abbrev pub LeavesAlone : {M Q : Type 0} → FieldTaken M → ℕ → (M → Q) �
 LeavesAlone {M = M} taken k part =
     (d : ℕ) (old : M) (w : WireType) (bs : List ℕ) (before : BudgetLeft) (r : Result (Unit {0}) DecodeError) (new : M) (after : BudgetLeft) (rest : List ℕ) →
     taken d old k w bs before r new after rest → part new ≡ part old
+
+-- the same member, of which another part means so
+abbrev pub meaning_so : {P Q X : Type 0} → (Q → X) → Shape P X → Shape Q X
+meaning_so says s = record {
+  meaning = says;
+  blank = s.blank;
+  whole = s.whole;
+  takes = s.takes;
+  checks = s.checks;
+  refuses = s.refuses;
+  asks = s.asks;
+  need = s.need;
+  records = s.records;
+  slots = s.slots;
+  levels = s.levels;
+  Exact = s.Exact;
+  normal = s.normal;
+  stays = s.stays;
+}

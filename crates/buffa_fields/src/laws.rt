@@ -46,6 +46,10 @@ ghost use Rattle.buffa_fields.specs.Values.{IfThere, RefusesAlone, ValueTakesMem
 
 use crate::fields::Fields;
 use crate::group::Group;
+pub use crate::held_laws::{
+    fields_of_messages_that_hold_themselves_are_these, lists_of_themselves_are_these,
+    members_are_parts, messages_that_hold_themselves_are_these,
+};
 use crate::keeping::Keeping;
 pub use crate::level_laws::{
     levels_of_fields_are_exact, messages_in_lists_are_these,

@@ -4,6 +4,7 @@
 pub mod fields;
 pub mod group;
 pub mod held;
+pub mod held_laws;
 pub mod keeping;
 pub mod kept;
 pub mod kept_list;

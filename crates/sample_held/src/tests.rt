@@ -1,6 +1,7 @@
 //! Branches on branches. The bytes are worked out by hand, from the protobuf encoding guide.
 
 use crate::branch::Branch;
+use buffa_fields::laws::members_are_parts;
 use buffa_wire::{Blank, Budget, DecodeContext, DecodeError, Message, RECURSION_LIMIT};
 use std::test::Fail;
 
@@ -41,5 +42,15 @@ fn a_branch_too_deep_is_refused(rt: HostRuntime) -> Result<(), Fail> {
     let mut buf: &[u8] = &bytes;
     let answer = branch.merge(alloc, &mut buf, DecodeContext::new(1, &mut budget));
     assert!(rt; answer == Err(DecodeError::RecursionLimitExceeded));
+    Ok(())
+}
+
+#[test]
+fn a_branch_is_its_parts(rt: HostRuntime) -> Result<(), Fail> {
+    let alloc = rt.alloc();
+    let mut branch: Branch = Blank::blank(alloc);
+    branch.merge_from_slice(alloc, &[0x0A, 0x01, 0x61, 0x1A, 0x00])?;
+    let (own, inside) = members_are_parts(&branch);
+    assert!(rt; own.name.as_str() == "a" && inside.len() == 1);
     Ok(())
 }
