@@ -39,21 +39,21 @@ pub const ITEM_START_TAG: u64 = 0x0B;
 /// The tag that ends an Item: number 1, end of group.
 ///
 /// ```ignore
-/// encode_varint(ITEM_END_TAG, sink)?;
+/// assert!(rt; (ITEM_START_TAG, ITEM_END_TAG) == (0x0Bu64, 0x0Cu64));
 /// ```
 pub const ITEM_END_TAG: u64 = 0x0C;
 
 /// The tag of the type id: number 2, a varint.
 ///
 /// ```ignore
-/// encode_varint(TYPE_ID_TAG, sink)?;
+/// assert!(rt; (TYPE_ID_TAG, MESSAGE_TAG) == (0x10u64, 0x1Au64));
 /// ```
 pub const TYPE_ID_TAG: u64 = 0x10;
 
 /// The tag of the message: number 3, length-delimited.
 ///
 /// ```ignore
-/// encode_varint(MESSAGE_TAG, sink)?;
+/// assert!(rt; (TYPE_ID_TAG, MESSAGE_TAG) == (0x10u64, 0x1Au64));
 /// ```
 pub const MESSAGE_TAG: u64 = 0x1A;
 
