@@ -9,6 +9,7 @@
 
 pub use buffa_fields::fields::Fields;
 pub use buffa_fields::group::Group;
+pub use buffa_fields::held::{self, Holds, Inside, Nest};
 pub use buffa_fields::keeping::Keeping;
 pub use buffa_fields::kept::{self, KeptFields};
 pub use buffa_fields::map_member::MapOf;
