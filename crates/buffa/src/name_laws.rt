@@ -1,6 +1,6 @@
 //! What the names of this crate stand for: no two limits, codecs, member types or samples can be exchanged while these laws hold.
 
-ghost use Rattle.std.specs.Prelude.{◌≡◌, ◌∷◌, ◌-◌, ◌^◌, [], ℕ, List, false, map, option_map, pos, true};
+ghost use Rattle.std.specs.Prelude.{◌≡◌, ◌∷◌, ◌++◌, ◌-◌, ◌^◌, [], ℕ, List, false, map, option_map, pos, true};
 ghost use Rattle.buffa_bytes.specs.Scalars.{bool_of, fixed32_of, fixed64_of, int64_of, sfixed32_of, sfixed64_of};
 ghost use Rattle.buffa_bytes.specs.Scalars.{sint32_of, sint64_of, uint32_of, uint64_of};
 ghost use Rattle.buffa_bytes.specs.Values.{int32_of};
@@ -13,6 +13,7 @@ ghost use Rattle.buffa_codec.specs.Decoded.{bytes_held, packed_record, string_he
 ghost use Rattle.buffa_ext.specs.Messages.{group_of};
 ghost use Rattle.std.specs.BTreeMap.{insert_entry};
 ghost use Rattle.buffa_fields.specs.Groups.{group_datum, group_records};
+ghost use Rattle.buffa_fields.specs.Held.{nest_encoding};
 ghost use Rattle.buffa_fields.specs.Lists.{element_records, packed_records};
 ghost use Rattle.buffa_fields.specs.MapFields.{pair_taken};
 ghost use Rattle.buffa_fields.specs.MemberRecords.{optional_records, plain_records};
@@ -24,7 +25,7 @@ ghost use Rattle.buffa_map.specs.Pairs.{put};
 ghost use Rattle.buffa_map.specs.Scalars.{bytes_reading, number_reading, string_reading};
 
 use crate::extension::{ExtensionCodec, PackableCodec, SingularCodec, codecs};
-use crate::fields::{Listing, Member, OrderedKey, Packable, ProtoType};
+use crate::fields::{Fields, Holds, Listing, Member, OrderedKey, Packable, ProtoType};
 use crate::map_codec::{MapCodec, MapStorage, MapValueDecode};
 use crate::{
     Blank, DEFAULT_ELEMENT_MEMORY_LIMIT, DEFAULT_UNKNOWN_FIELD_LIMIT, Enumeration,
@@ -136,6 +137,7 @@ pub fn member_types_are_these<
     KC: MapCodec,
     VC: MapCodec,
     M: Listing,
+    O: Holds,
 >()
 where
     KC::Value: MapKey + Hash + OrderedKey,
@@ -162,5 +164,9 @@ where
         ≡ pair_taken KC.reading VC.reading (insert_entry KC.Value.order) }
     ensures ordered_map_of_nested { ⟦<fields::OrderedMapOfNested<KC, N> as Member>⟧.shape.takes
         ≡ pair_taken KC.reading (message_reading N.blank_is N.merged N.cost) (insert_entry KC.Value.order) }
+    ensures inside { (n : ℕ) (v : _) → ⟦<fields::Inside<O> as Member>⟧.shape.records n v
+        ≡ messages_records (nest_encoding O.layout O.NUMBER O.COST) n v }
+    ensures nest { (v : _) → ⟦<fields::Nest<O> as Fields>⟧.layout.records v
+        ≡ messages_records (nest_encoding O.layout O.NUMBER O.COST) O.NUMBER v.0 ++ O.layout.records v.1 }
     ensures listed { ⟦<fields::Listed as MessageForm<M>>⟧.records ≡ M.layout.records }
 {}
