@@ -39,7 +39,7 @@ use std::marker::{Model, PhantomData};
 /// the field that holds the list.
 ///
 /// ```ignore
-/// impl Holds for Own {
+/// impl Holds for BranchOwn {
 ///     const NUMBER: u32 = 3;
 ///
 ///     ghost NUMBER = { 3 };
@@ -64,7 +64,7 @@ pub trait Holds: Listing {
 /// A message that holds a list of itself: what it has of its own, and the messages inside it.
 ///
 /// ```ignore
-/// pub type Branch = Nest<Own>;
+/// pub type Branch = Nest<BranchOwn>;
 /// ```
 #[derive(Drop)]
 pub struct Nest<O> {

@@ -87,7 +87,7 @@ pub type And13<A, B, C, D, E, F, G, H, I, J, K, L, M> = And<
 /// Fourteen, one after the other.
 ///
 /// ```ignore
-/// type Meaning = And14<Option<Carried>, [Carried; 0], .., KeptFields>;
+/// type Meaning = And14<Option<<Load as Blank>::Meaning>, [<Load as Blank>::Meaning; 0], .., KeptFields>;
 /// ```
 pub type And14<A, B, C, D, E, F, G, H, I, J, K, L, M, N> = And<
     A,
