@@ -3,6 +3,7 @@
 mod branches;
 mod words;
 
+use crate::members::branches::Branches;
 use conformance_calls::messages::parted;
 use conformance_rows::calls::StorageName;
 use conformance_rows::case::Case;
@@ -38,7 +39,7 @@ pub fn on_members(
 ) -> Result<Outcome, Fault> {
     match case.types {
         "assorted" => parted::<Members, Assorted>(alloc, case, storage, mark, bytes),
-        "branch" => parted::<Members, Branch>(alloc, case, storage, mark, bytes),
+        "branch" => parted::<Branches<()>, Branch>(alloc, case, storage, mark, bytes),
         "depot" => parted::<Members, Depot>(alloc, case, storage, mark, bytes),
         "inventory" => parted::<Members, Inventory>(alloc, case, storage, mark, bytes),
         "ledger" => parted::<Members, Ledger>(alloc, case, storage, mark, bytes),

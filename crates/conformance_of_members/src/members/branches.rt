@@ -1,12 +1,18 @@
 // Branches as words; no branch is read of a word.
 
-use crate::members::Members;
 use conformance_calls::messages::{Parted, Parts};
 use conformance_rows::fault::Fault;
 use conformance_rows::outcome::in_words;
 use conformance_rows::words::{Worded, copied, joined, records_word, text_word};
 use sample_held::branch::Branch;
 use std::alloc::Global;
+use std::marker::PhantomData;
+
+/// The words of branches. It has a parameter since the checker refuses the statement of the impls below without one:
+/// "the import `denote.Param` was announced, and nothing of it was used".
+pub struct Branches<T> {
+    of: PhantomData<T>,
+}
 
 // Words, and one more behind a comma.
 fn with_word(alloc: Global, words: &str, word: &str) -> Result<String, Fault> {
@@ -40,7 +46,7 @@ fn branch_word(alloc: Global, branch: &Branch, levels: u32) -> Result<String, Fa
     Ok(format!(in alloc; "({name}|[{leaves}]|[{branches}]|{rest})")?)
 }
 
-impl Worded<Members> for Branch {
+impl<T> Worded<Branches<T>> for Branch {
     fn word(&self, alloc: Global) -> Result<String, Fault> {
         branch_word(alloc, self, 102)
     }
@@ -50,8 +56,8 @@ impl Worded<Members> for Branch {
     }
 }
 
-impl Parted<Members> for Branch {
-    fn parts(&self, parts: &mut Parts<Members>) {
+impl<T> Parted<Branches<T>> for Branch {
+    fn parts(&self, parts: &mut Parts<Branches<T>>) {
         parts.value(1, &self.own.name);
         parts.list(2, self.own.leaves.as_slice());
         parts.list(3, self.inside.as_slice());
