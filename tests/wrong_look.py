@@ -2,7 +2,8 @@
 
 Edits that don't touch one another are put into one copy of the repository, and the checker reads that copy without
 proving anything: names, types, numbers of arguments, moves and borrows. The copy's program holds one error of ours, at
-which `rt check` stops before it builds a library. Clauses aren't read so: each of their words has to stand elsewhere in
+which `rt check` stops before it builds a library. It would build the libraries first where other checks on this machine left
+work for each of them, so the program stands on an empty library of ours, too, for which there is none. Clauses aren't read so: each of their words has to stand elsewhere in
 the repository or in the kit. A law that the edit leaves as it is may refuse it by its own text: it names a type that
 is another one then.
 """
@@ -16,6 +17,8 @@ from concurrent.futures import ThreadPoolExecutor
 from wrong_edits import TOP, Edit, below, functions, listed, paths_of, read
 
 ERROR = re.compile(r"^(\S+?):(\d+):\d+: (error.*)", re.M)
+# a library that nobody ever builds
+EMPTY = "nothing_built"
 # a moved value is what the checker looks for last of all
 STOP = "\nfn stops_here(text: std::vec::Vec<u8>) -> std::vec::Vec<u8> {\n    let _moved = text;\n    text\n}\n"
 GHOST = re.compile(r"ghost \w+(?:: | = )\{[^;]*\};|(?:requires|ensures)\b[^{]*\{[^{}]*\}|ghost use [^;]*;")
@@ -83,10 +86,13 @@ def copy_to(room, crate, crates):
     """Copies what the checker reads of the crate, which stands on all those crates, and gives it an error of ours."""
     lines, needed = listed(), set().union(*[below(it) for it in [crate, *crates]])
     named = {word for it in needed for word in lines[it].partition(":")[2].split()} | needed - {crate}
-    lines[crate] = f"{crate}: {' '.join(sorted(named))}"
+    lines[crate] = f"{crate}: {' '.join(sorted(named))} {EMPTY}"
     shutil.copy(f"{TOP}/HANDLES", room)
     with open(f"{room}/crates.txt", "w", encoding="utf-8") as it:
-        it.write("".join(f"{lines[name]}\n" for name in lines if name in needed))
+        it.write(f"{EMPTY}:\n" + "".join(f"{lines[name]}\n" for name in lines if name in needed))
+    os.makedirs(f"{room}/crates/{EMPTY}/src")
+    with open(f"{room}/crates/{EMPTY}/src/lib.rt", "w", encoding="utf-8") as it:
+        it.write("//! Nothing.\n#![tactic(auto)]\n")
     for name in needed:
         for part in ("src", "specs", "proofs"):
             if os.path.isdir(f"{TOP}/crates/{name}/{part}"):
