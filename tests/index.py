@@ -88,6 +88,10 @@ def first_line(path):
         if not found or not found[1].strip() or found[1].startswith(("Source:", "```")):
             break
         said.append(found[1])
+    made = re.search(r"made of (\S+) by protoc-gen-buffa", " ".join(said))
+    about = made and re.search(r"^/// (?!message |enum )((?:.+\n/// )*.+)\n///$", read(path), re.M)
+    if about:
+        return f"{sentence(' '.join(about[1].replace(chr(10) + '///', '').split()))} Made of `{made[1]}`."
     return sentence(" ".join(said))
 
 
