@@ -1,6 +1,5 @@
 -- An Item is a group of number 1, one level deeper; and whether such a group is an Item doesn't depend on what follows it.
 use Rattle.std.proofs.Common.{◌≡◌, ◌⊎◌, inl, inr, ℕ, suc, ◌==◌, ◌&&◌, nat_lt, ◌^◌, Bool, true, false, List, [], ◌∷◌, ◌++◌, Option, None, Some, refl, sym, ap, subst, ◌∙◌, append_assoc}
-use Rattle.std.proofs.lemmas.Bool.{and_parts, ltb-true}
 use Rattle.buffa_bytes.specs.Field.{Group, IsTag, Payload, SomeField}
 use Rattle.buffa_bytes.specs.Join.{Join}
 use Rattle.buffa_bytes.specs.Join.Join.{none, more}
@@ -16,7 +15,7 @@ use Rattle.buffa_wire.proofs.SequenceLemmas.{ParsesTo-first}
 use Rattle.buffa_wire.specs.Sequence.{ParsesEach, join}
 use Rattle.buffa_bytes.specs.WireType.{same_wire}
 use Rattle.buffa_message_set.specs.Item.{ItemFieldFault, IsItemField, IsReadAlike, IsTypeId, Item, ItemFault, Said, said, says, unsaid}
-use Rattle.buffa_message_set.proofs.ItemLemmas.{StopsFrom, TakesFrom, both_false, both_true, field_no_end, item_fault, out_of, read_complete, read_faulty, takes_item}
+use Rattle.buffa_message_set.proofs.ItemLemmas.{StopsFrom, TakesFrom, both_false, both_true, field_no_end, is_type_id, item_fault, out_of, read_complete, read_faulty, takes_item}
 
 -- ---- an Item is a group
 field_is : (d : ℕ) (s t : Said) (f : List ℕ) → IsItemField d s f t → SomeField d f
@@ -33,9 +32,6 @@ unfolding Group
 item_group d b msg id (end, is, (ps, e, w)) = (join ps, end, item_fields d ps unsaid (says id msg) w, is, e)
 
 -- ---- a group is an Item, or isn't, whatever follows it
-in_range : (k : ℕ) → (nat_lt 0 k && nat_lt k (2 ^ 31)) ≡ true → IsTypeId k
-in_range k e = let h = and_parts (nat_lt 0 k) (nat_lt k (2 ^ 31)) e in (ltb-true 0 k h.0, ltb-true k (2 ^ 31) h.1)
-
 module _ (d : ℕ) where
   -- from s, b is an Item up to its end; or it is none, for one fault
   abbrev Alike : Said → List ℕ → Type 0
@@ -48,7 +44,7 @@ module _ (d : ℕ) where
   FieldAlike s f = ((u : Said) × IsItemField d s f u) ⊎ ((e : DecodeError) × ((x : List ℕ) → ItemFieldFault d (f ++ x) e))
 
   id_alike : (s : Said) (f t p : List ℕ) (k : ℕ) (b : Bool) → (nat_lt 0 k && nat_lt k (2 ^ 31)) ≡ b → IsTag t 2 Varint → IsVarint p k → f ≡ t ++ p → FieldAlike s f
-  id_alike s f t p k true e tag v is = inl (record s { type_id = Some k }, inl (t, p, k, tag, v, in_range k e, is, refl))
+  id_alike s f t p k true e tag v is = inl (record s { type_id = Some k }, inl (t, p, k, tag, v, is_type_id k e, is, refl))
   id_alike s f t p k false e tag v is =
       inr (InvalidMessageSet TypeIdOutOfRange, λ x. inr (inl (p ++ x, (t, tag, ap (λ z. z ++ x) is ∙ append_assoc t p x), inr (k, x, (p, v, refl), out_of k e, refl))))
 
@@ -69,11 +65,11 @@ module _ (d : ℕ) where
 
   end_alike : (s : Said) (t : List ℕ) (o : Option ℕ) → s.type_id ≡ o → IsTag t 1 EndGroup → Alike s t
   end_alike s t None e tag = inr (InvalidMessageSet MissingTypeId, λ x. (s, t ++ x, ([], refl, refl), inr (x, (t, tag, refl), e, refl)))
-  end_alike s t (Some id) e tag = inl (id, s.message, λ x. (t, tag, ([], refl, ap (λ o. said o s.message) e)))
+  end_alike s t (Some id) e tag = inl (id, s.message, λ x. (s, t ++ x, ([], refl, refl), ((t, tag, refl), ap (λ o. said o s.message) e)))
 
   step_alike : (s u : Said) (f b : List ℕ) → IsItemField d s f u → Alike u b → Alike s (f ++ b)
   step_alike s u f b step (inl (id, msg, k)) =
-      inl (id, msg, λ x. let t = k x in (t.0, t.1, ParsesTo-first (IsItemField d) ((f ++ b) ++ x) s u (says id msg) f (b ++ x) (t.0 ++ x) step (append_assoc f b x) t.2))
+      inl (id, msg, λ x. let t = k x in (t.0, t.1, ParsesTo-first (IsItemField d) ((f ++ b) ++ x) s u t.0 f (b ++ x) t.1 step (append_assoc f b x) t.2, t.3))
   step_alike s u f b step (inr (e, k)) =
       inr (e, λ x. let t = k x in (t.0, t.1, ParsesTo-first (IsItemField d) ((f ++ b) ++ x) s u t.0 f (b ++ x) t.1 step (append_assoc f b x) t.2, t.3))
 

@@ -4,7 +4,7 @@ use Rattle.buffa_bytes.specs.Values.{delimited_encoding, tag_encoding}
 use Rattle.buffa_bytes.specs.Varint.{varint_encoding}
 use Rattle.buffa_bytes.specs.declared.wire_type.WireType.TheVariants.{Varint, LengthDelimited, StartGroup, EndGroup}
 use Rattle.buffa_bytes.proofs.ShortestLemmas.{varint_encoding-last}
-use Rattle.buffa_message_set.specs.Item.{body_encoding, item_size, item_encoding}
+use Rattle.buffa_message_set.specs.Item.{body_encoding, item_head, item_size, item_encoding}
 
 pub length-item_encoding : (id : ℕ) (msg : List ℕ) → length (item_encoding id msg) ≡ item_size id (length msg)
 length-item_encoding id msg =
@@ -33,11 +33,10 @@ two_tags rest = rw (varint_encoding-last 11 (omega arith), varint_encoding-last 
 
 -- what stands before the message's bytes, where its type id and its length are short
 pub short_head : (id len : ℕ) (bytes : List ℕ) → bytes ≡ varint_encoding id → len < 128 →
-    11 ∷ 16 ∷ (bytes ++ (26 ∷ len ∷ [])) ≡ tag_encoding 1 StartGroup ++ (tag_encoding 2 Varint ++ (varint_encoding id ++ (tag_encoding 3 LengthDelimited ++ varint_encoding len)))
+    11 ∷ 16 ∷ (bytes ++ (26 ∷ len ∷ [])) ≡ item_head id len
 short_head id len bytes e h =
     rw (varint_encoding-last 11 (omega arith), varint_encoding-last 16 (omega arith), varint_encoding-last 26 (omega arith), varint_encoding-last len h, e) refl
 
 -- and with the message's bytes and the end tag behind it
-pub head_then : (id : ℕ) (msg : List ℕ) →
-    (tag_encoding 1 StartGroup ++ (tag_encoding 2 Varint ++ (varint_encoding id ++ (tag_encoding 3 LengthDelimited ++ varint_encoding (length msg))))) ++ (msg ++ tag_encoding 1 EndGroup) ≡ item_encoding id msg
+pub head_then : (id : ℕ) (msg : List ℕ) → item_head id (length msg) ++ (msg ++ tag_encoding 1 EndGroup) ≡ item_encoding id msg
 head_then id msg = parts_joined (tag_encoding 1 StartGroup) (tag_encoding 2 Varint) (varint_encoding id) (tag_encoding 3 LengthDelimited) (varint_encoding (length msg)) msg (tag_encoding 1 EndGroup)

@@ -6,7 +6,8 @@ use Rattle.buffa_bytes.specs.Field.{IsTag, LengthFault, Payload, TakesDelimited,
 use Rattle.buffa_bytes.specs.Values.{tag_encoding}
 use Rattle.buffa_bytes.specs.Varint.{IsVarint, varint_encoding}
 use Rattle.buffa_bytes.specs.Front.{delimited_at, skip_at, tag_at, taken, varint_at}
-use Rattle.buffa_bytes.specs.Scan.{parsed, step_then}
+use Rattle.buffa_bytes.specs.Scan.{parsed, scan}
+use Rattle.buffa_bytes.specs.Scan.Scanned.{ends, goes}
 use Rattle.buffa_bytes.specs.WireType.{same_wire}
 use Rattle.buffa_bytes.specs.declared.wire_type.WireType.{WireType}
 use Rattle.buffa_bytes.specs.declared.wire_type.WireType.TheVariants.{Varint, LengthDelimited, EndGroup}
@@ -20,12 +21,11 @@ use Rattle.buffa_bytes.proofs.ListLemmas.{cut_twice}
 use Rattle.buffa_bytes.proofs.FaultLemmas.{IsOfBytes, as_of_bytes, length_fault, payload_fault, tag_fault, varint_fault}
 use Rattle.buffa_bytes.proofs.FullLemmas.{skip_no_full}
 use Rattle.buffa_bytes.proofs.VarintLemmas.{IsVarint-varint_encoding, varint_complete, varint_faulty, varint_sound}
-use Rattle.buffa_bytes.proofs.ScanLemmas.{Leads, Shortens, if_leads, if_short, parsed_leads, parsed_short, scan_leads, scan_step}
 use Rattle.buffa_bytes.specs.Gives.{FullOnlyIf, Gives}
 use Rattle.buffa_bytes.specs.Unread.{IsFrontOf}
 use Rattle.buffa_wire.specs.Sequence.{ParsesEach, ParsesTo, join}
 use Rattle.buffa_bytes.proofs.LendLemmas.{delimited_front}
-use Rattle.buffa_wire.proofs.SequenceLemmas.{ParsesTo-first, ParsesTo-more, ok_same}
+use Rattle.buffa_wire.proofs.SequenceLemmas.{Ends, Meets, ParsesTo-more, UpTo, if_meets, ok_same, parsed_meets, upto_agrees, upto_complete, upto_sound}
 use Rattle.buffa_message_set.specs.Item.{BytesAt, EndFault, ItemFieldFault, HasMessage, IsItemField, IsMessageAt, IsOther, IsOutOfRange, IsTypeId, Item, ItemFault, Reaches, Said, TakesItem, TypeIdFault, appended_at, body_encoding, ends_item, ended, item_field_at, item_at, item_from, item_step, said, says, type_id_at, unsaid}
 
 -- ---- numbers and wire types that are looked for
@@ -53,6 +53,9 @@ out_of n e = elim (and_cases (nat_lt 0 n) (nat_lt n (2 ^ 31)) e) [
   | inr h ↦ inr (ltb-false n (2 ^ 31) h)
 ]
 
+pub is_type_id : (n : ℕ) → (nat_lt 0 n && nat_lt n (2 ^ 31)) ≡ true → IsTypeId n
+is_type_id n e = let h = and_parts (nat_lt 0 n) (nat_lt n (2 ^ 31)) e in (ltb-true 0 n h.0, ltb-true n (2 ^ 31) h.1)
+
 pub in_range : (n : ℕ) → IsTypeId n → (nat_lt 0 n && nat_lt n (2 ^ 31)) ≡ true
 in_range n h = rw (lt-ltb 0 n h.0, lt-ltb n (2 ^ 31) h.1) refl
 
@@ -63,7 +66,7 @@ not_in_range n (inr h) = rw (le-ltb n (2 ^ 31) h) (false_and (nat_lt 0 n) false 
 type_id_sound : (bs : List ℕ) → Agrees (type_id_at bs) (λ x. (p : List ℕ) × IsVarint p x.0 × IsTypeId x.0 × (bs ≡ p ++ x.1)) (TypeIdFault bs)
 type_id_sound bs = agree_bind (varint_sound bs)
     (λ n v. agree_if (nat_lt 0 n.0 && nat_lt n.0 (2 ^ 31))
-    (λ e. let h = and_parts (nat_lt 0 n.0) (nat_lt n.0 (2 ^ 31)) e in record { holds = (v.0, v.1, (ltb-true 0 n.0 h.0, ltb-true n.0 (2 ^ 31) h.1), v.2) })
+    (λ e. record { holds = (v.0, v.1, is_type_id n.0 e, v.2) })
     (λ e. record { holds = inr (n.0, n.1, v, out_of n.0 e, refl) }))
     (λ e h. inl h)
 
@@ -103,51 +106,16 @@ module _ (d : ℕ) where
       (λ rest p. record { holds = (tag ++ p.0, inr (inr (n, w, other, (tag, p.0, is_tag, p.1, refl), refl)), cut_twice all tag p.0 bs rest e p.2) })
       (λ f h. inr (inr (inr (n, w, bs, other, (tag, is_tag, e), h))))))
 
-  -- the field f was read of f ++ rest by its tag
-  pub record FieldRead (s : Said) (f : List ℕ) (t : Said) (rest : List ℕ) : Type 0 where
-    pub tag : List ℕ
-    pub number : ℕ
-    pub wire : WireType
-    pub after : List ℕ
-    pub is_tag : IsTag tag number wire
-    pub split : f ++ rest ≡ tag ++ after
-    pub goes_on : ends_item number wire ≡ false
-    pub reads : item_field_at d s number wire after ≡ Ok (t, rest)
-
   pub field_no_end : (n : ℕ) (w : WireType) (p : List ℕ) → Payload d n w p → w ≢ EndGroup
   field_no_end n w p h e = subst (λ v. Payload d n v p) e h
 
-  pub field_complete : (s t : Said) (f rest : List ℕ) → IsItemField d s f t → FieldRead s f t rest
-  field_complete s t f rest (inl (tag, p, id, is_tag, v, range, e, st)) = record {
-    tag = tag;
-    number = 2;
-    wire = Varint;
-    after = p ++ rest;
-    is_tag = is_tag;
-    split = ap (λ z. z ++ rest) e ∙ append_assoc tag p rest;
-    goes_on = refl;
-    reads = rw (type_id_complete p rest id v range) (ap (λ z. Ok (z, rest)) (sym st));
-  }
-  field_complete s t f rest (inr (inl (tag, l, b, is_tag, v, e, st))) = record {
-    tag = tag;
-    number = 3;
-    wire = LengthDelimited;
-    after = l ++ (b ++ rest);
-    is_tag = is_tag;
-    split = ap (λ z. z ++ rest) e ∙ append_assoc tag (l ++ b) rest ∙ ap (λ z. tag ++ z) (append_assoc l b rest);
-    goes_on = refl;
-    reads = rw (delimited_complete l b rest v) (ap (λ z. Ok (z, rest)) (sym st));
-  }
-  field_complete s t f rest (inr (inr (n, w, other, (tag, p, is_tag, h, e), st))) = record {
-    tag = tag;
-    number = n;
-    wire = w;
-    after = p ++ rest;
-    is_tag = is_tag;
-    split = ap (λ z. z ++ rest) e ∙ append_assoc tag p rest;
-    goes_on = not_both n 1 EndGroup w other.2;
-    reads = rw (not_both n 2 Varint w other.0, not_both n 3 LengthDelimited w other.1, payload_complete d n w p rest h) (ap (λ z. Ok (z, rest)) (sym st));
-  }
+  goes_on : (s t : Said) (f rest : List ℕ) → IsItemField d s f t → item_step d s (tag_at (f ++ rest)) ≡ goes t rest (λ r. r)
+  goes_on s t f rest (inl (tag, p, id, is_tag, v, range, e, st)) =
+      rw (e, append_assoc tag p rest, tag_complete tag 2 Varint (p ++ rest) is_tag, type_id_complete p rest id v range, st) refl
+  goes_on s t f rest (inr (inl (tag, l, b, is_tag, v, e, st))) =
+      rw (e, append_assoc tag (l ++ b) rest, append_assoc l b rest, tag_complete tag 3 LengthDelimited (l ++ (b ++ rest)) is_tag, delimited_complete l b rest v, st) refl
+  goes_on s t f rest (inr (inr (n, w, other, (tag, p, is_tag, h, e), st))) =
+      rw (e, append_assoc tag p rest, tag_complete tag n w (p ++ rest) is_tag, not_both n 1 EndGroup w other.2, not_both n 2 Varint w other.0, not_both n 3 LengthDelimited w other.1, payload_complete d n w p rest h, st) refl
 
   field_some : (s t : Said) (f : List ℕ) → IsItemField d s f t → 0 < length f
   field_some s t f (inl (tag, p, id, is_tag, v, range, e, st)) = omega (arith, tag_some tag 2 Varint is_tag, ap length e, length-append tag p)
@@ -155,91 +123,70 @@ module _ (d : ℕ) where
   field_some s t f (inr (inr (n, w, other, (tag, p, is_tag, h, e), st))) = omega (arith, tag_some tag n w is_tag, ap length e, length-append tag p)
 
   -- ---- whole Items, from where s was said
+  -- the end tag, after which an Item that says x ends
+  abbrev ItemEnds : Said → List ℕ → ℕ × List ℕ × List ℕ → Type 0
+  ItemEnds t rest x = TakesTag rest 1 EndGroup x.2 × (t ≡ says x.0 x.1)
+
+  abbrev ItemStops : Said → List ℕ → DecodeError → Type 0
+  ItemStops t rest e = ItemFieldFault d rest e ⊎ EndFault t rest e
+
   abbrev pub TakesFrom : Said → List ℕ → ℕ × List ℕ × List ℕ → Type 0
-  TakesFrom s bs x = (end : List ℕ) × IsTag end 1 EndGroup × ParsesTo (IsItemField d) s bs (says x.0 x.1) (end ++ x.2)
+  TakesFrom = UpTo (IsItemField d) ItemEnds
 
   abbrev pub StopsFrom : Said → List ℕ → DecodeError → Type 0
-  StopsFrom s bs e = (t : Said) × (rest : List ℕ) × ParsesTo (IsItemField d) s bs t rest × (ItemFieldFault d rest e ⊎ EndFault t rest e)
+  StopsFrom = UpTo (IsItemField d) ItemStops
 
-  here : (s : Said) (bs : List ℕ) → ParsesTo (IsItemField d) s bs s bs
-  here s bs = ([], refl, refl)
+  abbrev Finishes : Said → List ℕ → Result (ℕ × List ℕ × List ℕ) DecodeError → Type 0
+  Finishes = Ends ItemEnds ItemStops
 
-  ended_sound : (s : Said) (o : Option ℕ) (bs tag rest : List ℕ) → s.type_id ≡ o → IsTag tag 1 EndGroup → bs ≡ tag ++ rest → Agrees (ended o s.message rest) (TakesFrom s bs) (StopsFrom s bs)
-  ended_sound s None bs tag rest so is e = record { holds = (s, bs, here s bs, inr (rest, (tag, is, e), so, refl)) }
-  ended_sound s (Some id) bs tag rest so is e = record { holds = (tag, is, ([], e, ap (λ o. said o s.message) so)) }
+  ended_sound : (s : Said) (o : Option ℕ) (bs rest : List ℕ) → s.type_id ≡ o → TakesTag bs 1 EndGroup rest → Finishes s bs (ended o s.message rest)
+  ended_sound s None bs rest so u = inr (rest, u, so, refl)
+  ended_sound s (Some id) bs rest so u = (u, ap (λ o. said o s.message) so)
 
-  step_short : (s : Said) (bs : List ℕ) (r : Result (ℕ × WireType × List ℕ) DecodeError) → tag_at bs ≡ r → Shortens (item_step d s r) bs
-  step_short s bs (Ok t) e =
+  meets : (s : Said) (bs : List ℕ) (r : Result (ℕ × WireType × List ℕ) DecodeError) → tag_at bs ≡ r → Meets (IsItemField d) Finishes (item_step d s r) s bs
+  meets s bs (Ok t) e =
       let u = agree_ok (tag_at bs) t (tag_sound bs) e in
-      if_short (ends_item t.0 t.1) (ended s.type_id s.message t.2) (parsed (item_field_at d s t.0 t.1 t.2)) bs
-      (λ other. parsed_short _ (item_field_at d s t.0 t.1 t.2) bs (λ x h.
-      let f = agree_ok (item_field_at d s t.0 t.1 t.2) x (field_sound s bs u.0 t.2 t.0 t.1 u.1 u.2 (both_false t.0 1 EndGroup t.1 other)) h in
-      omega (arith, field_some s x.0 f.0 f.1, ap length f.2, length-append f.0 x.1)))
-  step_short s bs (Err x) e = tt
-
-  turn : (s : Said) (bs : List ℕ) (r : Result (ℕ × WireType × List ℕ) DecodeError) → tag_at bs ≡ r → item_from d s bs ≡ step_then (item_from d) (item_step d s r)
-  unfolding item_from
-  turn s bs r e =
-      scan_step (λ t rest. item_step d t (tag_at rest)) (Err UnexpectedEof) (λ t rest. step_short t rest (tag_at rest) refl) s bs
-      ∙ ap (λ z. step_then (item_from d) (item_step d s z)) e
-
-  abbrev Reads : Said → List ℕ → Result (ℕ × List ℕ × List ℕ) DecodeError → Type 0
-  Reads s bs r = Agrees r (TakesFrom s bs) (StopsFrom s bs)
-
-  step_leads : (s : Said) (bs : List ℕ) (r : Result (ℕ × WireType × List ℕ) DecodeError) → tag_at bs ≡ r → Leads Reads (item_step d s r) s bs
-  step_leads s bs (Ok t) e =
-      let u = agree_ok (tag_at bs) t (tag_sound bs) e in
-      if_leads Reads (ends_item t.0 t.1) (ended s.type_id s.message t.2) (parsed (item_field_at d s t.0 t.1 t.2)) s bs
-      (λ last. let is = both_true t.0 1 EndGroup t.1 last in ended_sound s s.type_id bs u.0 t.2 refl (tag_as u.0 t.0 1 t.1 EndGroup u.1 is.0 (sym is.1)) u.2)
+      if_meets (IsItemField d) Finishes (ends_item t.0 t.1) (ended s.type_id s.message t.2) (parsed (item_field_at d s t.0 t.1 t.2)) s bs
+      (λ last. let is = both_true t.0 1 EndGroup t.1 last in ended_sound s s.type_id bs t.2 refl (takes_tag_as bs t.2 t.0 1 t.1 EndGroup u is.0 (sym is.1)))
       (λ other.
       let sound = field_sound s bs u.0 t.2 t.0 t.1 u.1 u.2 (both_false t.0 1 EndGroup t.1 other) in
-      parsed_leads Reads (item_field_at d s t.0 t.1 t.2) s bs
-      (λ x h a q. let f = agree_ok (item_field_at d s t.0 t.1 t.2) x sound h in agree_weaker q
-      (λ y w. (w.0, w.1, ParsesTo-first (IsItemField d) bs s x.0 (says y.0 y.1) f.0 x.1 (w.0 ++ y.2) f.1 f.2 w.2))
-      (λ y w. (w.0, w.1, ParsesTo-first (IsItemField d) bs s x.0 w.0 f.0 x.1 w.1 f.1 f.2 w.2, w.3)))
-      (λ y h. record { holds = (s, bs, here s bs, inl (agree_err (item_field_at d s t.0 t.1 t.2) y sound h)) }))
-  step_leads s bs (Err x) e = record { holds = (s, bs, here s bs, inl (inl (agree_err (tag_at bs) x (tag_sound bs) e))) }
+      parsed_meets (IsItemField d) ItemEnds ItemStops (item_field_at d s t.0 t.1 t.2) s bs (agree_weaker sound (λ x f. f) (λ y f. inl f)))
+  meets s bs (Err x) e = inl (inl (agree_err (tag_at bs) x (tag_sound bs) e))
+
+  at_stop : (s : Said) (bs : List ℕ) (e : DecodeError) → ItemStops s bs e → item_step d s (tag_at bs) ≡ ends (Err e)
+  at_stop s bs e (inl (inl h)) = rw (tag_faulty bs e h) refl
+  at_stop s bs e (inl (inr (inl (rest, t, h)))) = rw (tag_read bs rest 2 Varint t, type_id_faulty rest e h) refl
+  at_stop s bs e (inl (inr (inr (inl (rest, t, h))))) = rw (tag_read bs rest 3 LengthDelimited t, delimited_faulty rest e h) refl
+  at_stop s bs e (inl (inr (inr (inr (n, w, rest, other, t, h))))) =
+      rw (tag_read bs rest n w t, not_both n 1 EndGroup w other.2, not_both n 2 Varint w other.0, not_both n 3 LengthDelimited w other.1, payload_faulty d n w rest e h) refl
+  at_stop s bs e (inr (rest, t, no_id, k)) = rw (tag_read bs rest 1 EndGroup t, no_id, k) refl
 
   pub item_sound : (s : Said) (bs : List ℕ) → Agrees (item_from d s bs) (TakesFrom s bs) (StopsFrom s bs)
   unfolding item_from
   item_sound s bs =
-      scan_leads (λ t rest. item_step d t (tag_at rest)) (Err UnexpectedEof) (λ t rest. step_short t rest (tag_at rest) refl) Reads
-      (λ t rest. step_leads t rest (tag_at rest) refl) s bs
-
-  step : (s u : Said) (all tag bs after : List ℕ) (n : ℕ) (w : WireType) → IsTag tag n w → all ≡ tag ++ bs → ends_item n w ≡ false → item_field_at d s n w bs ≡ Ok (u, after) → item_from d s all ≡ item_from d u after
-  step s u all tag bs after n w is_tag e goes_on reads = turn s all (Ok (n, w, bs)) (ap tag_at e ∙ tag_complete tag n w bs is_tag) ∙ rw (goes_on, reads) refl
+      let all = upto_sound (IsItemField d) Finishes field_some (λ t rest. item_step d t (tag_at rest)) (Err UnexpectedEof) (λ t rest. meets t rest (tag_at rest) refl) s bs in
+      upto_agrees (IsItemField d) ItemEnds ItemStops (scan (λ t rest. item_step d t (tag_at rest)) (Err UnexpectedEof) s bs) s bs all
 
   -- whole fields are passed
-  pass : (ps : List (List ℕ)) (s t : Said) (rest : List ℕ) → ParsesEach (IsItemField d) s ps t → item_from d s (join ps ++ rest) ≡ item_from d t rest
-  pass [] s t rest h = ap (λ z. item_from d z rest) h
-  pass (p ∷ ps) s t rest (u, h, w) =
-      let c = field_complete s u p (join ps ++ rest) h in
-      step s u ((p ++ join ps) ++ rest) c.tag c.after (join ps ++ rest) c.number c.wire c.is_tag (append_assoc p (join ps) rest ∙ c.split) c.goes_on c.reads
-      ∙ pass ps u t rest w
-
-  at_fault : (s : Said) (bs : List ℕ) (e : DecodeError) → ItemFieldFault d bs e ⊎ EndFault s bs e → item_from d s bs ≡ Err e
-  at_fault s bs e (inl (inl h)) = turn s bs (Err e) (tag_faulty bs e h)
-  at_fault s bs e (inl (inr (inl (rest, t, h)))) = turn s bs (Ok (2, Varint, rest)) (tag_read bs rest 2 Varint t) ∙ rw (type_id_faulty rest e h) refl
-  at_fault s bs e (inl (inr (inr (inl (rest, t, h))))) = turn s bs (Ok (3, LengthDelimited, rest)) (tag_read bs rest 3 LengthDelimited t) ∙ rw (delimited_faulty rest e h) refl
-  at_fault s bs e (inl (inr (inr (inr (n, w, rest, other, t, h))))) =
-      turn s bs (Ok (n, w, rest)) (tag_read bs rest n w t)
-      ∙ rw (not_both n 1 EndGroup w other.2, not_both n 2 Varint w other.0, not_both n 3 LengthDelimited w other.1, payload_faulty d n w rest e h) refl
-  at_fault s bs e (inr (rest, t, no_id, k)) = turn s bs (Ok (1, EndGroup, rest)) (tag_read bs rest 1 EndGroup t) ∙ rw no_id (ap (λ x. Err x) (sym k))
+  passed : (s t : Said) (bs rest : List ℕ) (r : Result (ℕ × List ℕ × List ℕ) DecodeError) → ParsesTo (IsItemField d) s bs t rest → item_step d t (tag_at rest) ≡ ends r → item_from d s bs ≡ r
+  unfolding item_from
+  passed s t bs rest r w e =
+      upto_complete (IsItemField d) Finishes field_some (λ t rest. item_step d t (tag_at rest)) (Err UnexpectedEof) (λ t rest. meets t rest (tag_at rest) refl) goes_on s bs r (t, rest, w, e)
 
   pub from_complete : (s : Said) (bs : List ℕ) (x : ℕ × List ℕ × List ℕ) → TakesFrom s bs x → item_from d s bs ≡ Ok x
-  from_complete s bs x (end, is, (ps, e, w)) =
-      ap (item_from d s) e ∙ pass ps s (says x.0 x.1) (end ++ x.2) w
-      ∙ turn (says x.0 x.1) (end ++ x.2) (Ok (1, EndGroup, x.2)) (tag_complete end 1 EndGroup x.2 is)
+  from_complete s bs x (t, rest, w, (u, is)) = passed s t bs rest (Ok x) w (rw (tag_read rest x.2 1 EndGroup u, is) refl)
 
   pub from_faulty : (s : Said) (bs : List ℕ) (e : DecodeError) → StopsFrom s bs e → item_from d s bs ≡ Err e
-  from_faulty s bs e (t, rest, (ps, is, w), h) = ap (item_from d s) is ∙ pass ps s t rest w ∙ at_fault t rest e h
+  from_faulty s bs e (t, rest, w, h) = passed s t bs rest (Err e) w (at_stop t rest e h)
 
   -- ---- the reading of an Item
   pub takes_from : (bs msg rest : List ℕ) (id : ℕ) → TakesItem d bs id msg rest → TakesFrom unsaid bs (id, msg, rest)
-  takes_from bs msg rest id (b, (end, is, (ps, e, w)), whole_is) = (end, is, (ps, whole_is ∙ ap (λ z. z ++ rest) e ∙ append_assoc (join ps) end rest, w))
+  takes_from bs msg rest id (b, (end, is, (ps, e, w)), whole_is) =
+      (says id msg, end ++ rest, (ps, whole_is ∙ ap (λ z. z ++ rest) e ∙ append_assoc (join ps) end rest, w), ((end, is, refl), refl))
 
   pub takes_item : (bs msg rest : List ℕ) (id : ℕ) → TakesFrom unsaid bs (id, msg, rest) → TakesItem d bs id msg rest
-  takes_item bs msg rest id (end, is, (ps, e, w)) = (join ps ++ end, (end, is, (ps, refl, w)), e ∙ sym (append_assoc (join ps) end rest))
+  takes_item bs msg rest id (t, mid, (ps, e, w), ((end, is, split), same)) =
+      (join ps ++ end, (end, is, (ps, refl, subst (λ z. ParsesEach (IsItemField d) unsaid ps z) same w)), e ∙ ap (λ z. join ps ++ z) split ∙ sym (append_assoc (join ps) end rest))
 
   pub read_sound : (bs : List ℕ) → Agrees (item_at d bs) (λ x. TakesItem d bs x.0 x.1 x.2) (ItemFault d bs)
   unfolding item_at
@@ -314,14 +261,7 @@ module _ (d : ℕ) (all : List ℕ) (s : Said) (bs : List ℕ) (reached : Reache
     took_end h = let is = both_true n 1 EndGroup w h in takes_tag_as bs rest n 1 w EndGroup took is.0 (sym is.1)
 
     pub whole_item : ends_item n w ≡ true → (id : ℕ) → s.type_id ≡ Some id → item_at d all ≡ Ok (id, s.message, rest)
-    whole_item h id is =
-        let end = took_end h in
-        let same : s ≡ says id s.message = ap (λ o. said o s.message) is in
-        read_complete d all s.message rest id (takes_item d all s.message rest id (
-          end.0,
-          end.1,
-          (reached.0, reached.1 ∙ ap (λ z. join reached.0 ++ z) end.2, subst (λ z. ParsesEach (IsItemField d) unsaid reached.0 z) same reached.2),
-        ))
+    whole_item h id is = read_complete d all s.message rest id (takes_item d all s.message rest id (s, bs, reached, (took_end h, ap (λ o. said o s.message) is)))
 
     pub no_type_id : ends_item n w ≡ true → s.type_id ≡ None → item_at d all ≡ Err (InvalidMessageSet MissingTypeId)
     no_type_id h is = read_faulty d all (InvalidMessageSet MissingTypeId) (s, bs, reached, inr (rest, took_end h, is, refl))

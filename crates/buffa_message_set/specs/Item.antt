@@ -189,6 +189,14 @@ body_encoding id msg =
 abbrev pub item_encoding : ℕ → List ℕ → List ℕ
 item_encoding id msg = tag_encoding 1 StartGroup ++ body_encoding id msg
 
+-- a type id, and the tag and the length of a message that has so many bytes
+abbrev pub id_and_length : ℕ → ℕ → List ℕ
+id_and_length id len = varint_encoding id ++ (tag_encoding 3 LengthDelimited ++ varint_encoding len)
+
+-- what stands before the message's bytes
+abbrev pub item_head : ℕ → ℕ → List ℕ
+item_head id len = tag_encoding 1 StartGroup ++ (tag_encoding 2 Varint ++ id_and_length id len)
+
 -- the length of the encoding, where the message has so many bytes
 abbrev pub item_size : ℕ → ℕ → ℕ
 item_size id len = 4 + length (varint_encoding id) + length (varint_encoding len) + len

@@ -15,12 +15,11 @@ ghost use Rattle.buffa_bytes.specs.declared.error.DecodeError.TheVariants.{OutOf
 ghost use Rattle.buffa_wire.specs.BudgetLeft.{budget_left};
 ghost use Rattle.buffa_bytes.specs.Gives.{FullOnlyIf, Gives, GivesUnlessFull};
 ghost use Rattle.buffa_bytes.specs.Front.{taken, varint_at};
-ghost use Rattle.buffa_bytes.specs.Varint.{varint_encoding};
 ghost use Rattle.buffa_bytes.specs.Unread.{IsTailOf};
 ghost use Rattle.buffa_bytes.specs.Values.{tag_encoding};
 ghost use Rattle.buffa_bytes.specs.WireType.{same_wire};
 ghost use Rattle.buffa_bytes.specs.Written.{UsesRoom, Writes};
-ghost use Rattle.buffa_message_set.specs.Item.{HasMessage, IsTypeId, SpendsUnknown, item_field_at, item_at, item_in, item_size, item_encoding, BytesAt, IsMessageAt, appended_at, ended_by, id_then, said_by, type_id_at, unsaid};
+ghost use Rattle.buffa_message_set.specs.Item.{HasMessage, IsTypeId, SpendsUnknown, item_field_at, item_at, item_in, item_size, item_encoding, BytesAt, IsMessageAt, appended_at, ended_by, id_and_length, id_then, item_head, said_by, type_id_at, unsaid};
 
 use buffa_bytes::buf::{copy_bytes, front};
 use buffa_wire::{
@@ -112,12 +111,8 @@ fn write_rest<S: EncodeSink>(payload: &[u8], sink: &mut S) -> Result<(), EncodeE
 // Writes what stands before the message's bytes: where the type id and the length are short, all of it at once.
 #[inline(always)]
 fn write_head<S: EncodeSink>(number: u32, len: u64, sink: &mut S) -> Result<(), EncodeError>
-    ensures writes { Writes result (S.written sink.old) (tag_encoding 1 WireType.StartGroup
-        ++ (tag_encoding 2 WireType.Varint ++ (varint_encoding number ++ (tag_encoding 3 WireType.LengthDelimited ++ varint_encoding len))))
-        (S.written sink.new) }
-    ensures room { UsesRoom result (S.room sink.old) (tag_encoding 1 WireType.StartGroup
-        ++ (tag_encoding 2 WireType.Varint ++ (varint_encoding number ++ (tag_encoding 3 WireType.LengthDelimited ++ varint_encoding len))))
-        (S.room sink.new) }
+    ensures writes { Writes result (S.written sink.old) (item_head number len) (S.written sink.new) }
+    ensures room { UsesRoom result (S.room sink.old) (item_head number len) (S.room sink.new) }
 {
     if number >= 16_384 || len >= 128 {
         return write_long_head(number, len, sink);
@@ -136,12 +131,8 @@ fn write_head<S: EncodeSink>(number: u32, len: u64, sink: &mut S) -> Result<(), 
 #[inline(never)]
 #[tactic(auto, using(buffa_bytes::proofs::SinkLemmas::writes_then, buffa_bytes::proofs::SinkLemmas::front_first, buffa_bytes::proofs::SinkLemmas::room_then))]
 fn write_long_head<S: EncodeSink>(number: u32, len: u64, sink: &mut S) -> Result<(), EncodeError>
-    ensures writes { Writes result (S.written sink.old) (tag_encoding 1 WireType.StartGroup
-        ++ (tag_encoding 2 WireType.Varint ++ (varint_encoding number ++ (tag_encoding 3 WireType.LengthDelimited ++ varint_encoding len))))
-        (S.written sink.new) }
-    ensures room { UsesRoom result (S.room sink.old) (tag_encoding 1 WireType.StartGroup
-        ++ (tag_encoding 2 WireType.Varint ++ (varint_encoding number ++ (tag_encoding 3 WireType.LengthDelimited ++ varint_encoding len))))
-        (S.room sink.new) }
+    ensures writes { Writes result (S.written sink.old) (item_head number len) (S.written sink.new) }
+    ensures room { UsesRoom result (S.room sink.old) (item_head number len) (S.room sink.new) }
 {
     sink.put_slice(&[ITEM_START_TAG as u8, TYPE_ID_TAG as u8])?;
     write_id(number, len, sink)
@@ -151,10 +142,8 @@ fn write_long_head<S: EncodeSink>(number: u32, len: u64, sink: &mut S) -> Result
 #[inline]
 #[tactic(auto, using(buffa_bytes::proofs::SinkLemmas::writes_then, buffa_bytes::proofs::SinkLemmas::front_first, buffa_bytes::proofs::SinkLemmas::room_then))]
 fn write_id<S: EncodeSink>(number: u32, len: u64, sink: &mut S) -> Result<(), EncodeError>
-    ensures writes { Writes result (S.written sink.old)
-        (varint_encoding number ++ (tag_encoding 3 WireType.LengthDelimited ++ varint_encoding len)) (S.written sink.new) }
-    ensures room { UsesRoom result (S.room sink.old)
-        (varint_encoding number ++ (tag_encoding 3 WireType.LengthDelimited ++ varint_encoding len)) (S.room sink.new) }
+    ensures writes { Writes result (S.written sink.old) (id_and_length number len) (S.written sink.new) }
+    ensures room { UsesRoom result (S.room sink.old) (id_and_length number len) (S.room sink.new) }
 {
     types::encode_uint32(number, sink)?;
     encode_varint(MESSAGE_TAG, sink)?;
