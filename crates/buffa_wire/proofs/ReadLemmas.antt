@@ -1,5 +1,5 @@
 -- What is read of records, and their grammar.
-use Rattle.std.proofs.Common.{◌≡◌, ◌≢◌, inl, inr, ℕ, zero, suc, ◌+◌, ◌-◌, ◌==◌, ◌<◌, ◌&&◌, Bool, true, false, true≢false, List, [], ◌∷◌, ◌++◌, length, Result, Ok, Err, refl, sym, ap, subst, ◌∙◌, arith, append_assoc, append-nil, length-append}
+use Rattle.std.proofs.Common.{◌≡◌, ◌≢◌, inl, inr, ℕ, zero, suc, ◌+◌, ◌-◌, ◌==◌, ◌<◌, ◌&&◌, true, false, true≢false, List, [], ◌∷◌, ◌++◌, length, Result, Ok, Err, refl, sym, ap, subst, ◌∙◌, arith, append_assoc, append-nil, length-append}
 use Rattle.std.specs.Int.{from_le_bytes, w32, w64}
 use Rattle.std.proofs.lemmas.Bool.{eqb-true, eqb-false, eq-eqb, ne_eqb}
 use Rattle.buffa_bytes.specs.Gives.{◌>>=◌}
@@ -10,17 +10,21 @@ use Rattle.buffa_bytes.specs.declared.error.DecodeError.TheVariants.{UnexpectedE
 use Rattle.buffa_bytes.specs.Field.{IsTag, TakesTag}
 use Rattle.buffa_bytes.specs.Content.{ContentFault}
 use Rattle.buffa_bytes.specs.Front.{is_end, tag_at}
-use Rattle.buffa_bytes.specs.Scan.{step_then}
+use Rattle.buffa_bytes.specs.Scan.{parsed, scan, step_then}
+use Rattle.buffa_bytes.specs.Scan.Scanned.{ends, goes}
 use Rattle.buffa_bytes.proofs.StepLemmas.{Agrees, agree_bind, agree_err, agree_if, agree_ok, agree_weaker}
-use Rattle.buffa_bytes.proofs.ScanLemmas.{Leads, Shortens, if_leads, if_short, scan_leads, scan_step}
+use Rattle.buffa_bytes.proofs.ListLemmas.{cut_twice}
 use Rattle.buffa_bytes.proofs.VarintLemmas.{varint_sound, varint_complete, varint_faulty}
 use Rattle.buffa_bytes.proofs.DelimitedLemmas.{taken_sound, taken_complete, taken_faulty, delimited_sound, delimited_complete, delimited_faulty}
-use Rattle.buffa_bytes.proofs.FieldLemmas.{tag_as, tag_sound, tag_complete, tag_faulty, tag_some, not_end, end_false, end_true, one_more}
-use Rattle.buffa_wire.specs.Records.{Datum, varint, fixed32, fixed64, bytes, group, Records, no_records, one}
+use Rattle.buffa_bytes.proofs.FieldLemmas.{tag_sound, tag_complete, tag_faulty, tag_read, tag_some, takes_tag_as, not_end, end_false, end_true}
+use Rattle.buffa_wire.specs.Records.{Datum, varint, fixed32, fixed64, bytes, group, Records, no_records, one, list_of, records_of}
 use Rattle.buffa_wire.specs.Encoding.{wire_of}
-use Rattle.buffa_wire.specs.Parse.{Parse, IsPayload, field_count, fields_inside, TakesField, TakesRecords, InsideFault, FieldFaultOf, NextFault, GroupRecordsFault}
-use Rattle.buffa_wire.specs.RecordReading.{GroupReader, plain_at, ends_group, field_by, group_records_by, group_records_at, kept_step, payload_by, record_step, records_by, records_step, then_one}
+use Rattle.buffa_wire.specs.Sequence.{ParsesEach, ParsesTo, join}
+use Rattle.buffa_wire.specs.Parse.{FieldOf, Parse, IsPayload, field_count, fields_inside, TakesField, TakesRecords, InsideFault, FieldFaultOf, NextFault, GroupRecordsFault}
+use Rattle.buffa_wire.specs.RecordReading.{GroupReader, HaveRead, field_by, group_records_at, group_records_behind, payload_by, plain_at, record_next, record_step, record_then, records_behind}
 use Rattle.buffa_wire.proofs.JoinLemmas.{one_deeper}
+use Rattle.buffa_wire.proofs.RecordLemmas.{records-list}
+use Rattle.buffa_wire.proofs.SequenceLemmas.{Answers, Ends, Falls, Meets, UpTo, along_complete, along_faulty, along_sound, answer, has_byte, if_meets, not_nil, parsed_meets, upto_agrees, upto_complete, upto_sound, upto_turn}
 
 -- ---- wire types
 pub payload_no_end : (x : Datum) → wire_of x ≢ wire.EndGroup
@@ -54,32 +58,8 @@ closes_no wire.Fixed32 m n h = refl
 pub closes_yes : (w : WireType) (m n : ℕ) → w ≡ wire.EndGroup → m ≡ n → (is_end w && (m == n)) ≡ true
 closes_yes w m n e q = rw (e, eq-eqb m n q) refl
 
--- ---- records behind records
-abbrev pub also : Records → Records → Records
-also no_records qs = qs
-also (one n x rs) qs = one n x (also rs qs)
-
-pub also-none : (rs : Records) → also rs no_records ≡ rs
-also-none no_records = refl
-also-none (one n x rs) = ap (λ z. one n x z) (also-none rs)
-
 abbrev pub Group : Type 0
 Group = Records × ℕ × List ℕ
-
--- what is read of records, behind records that were read before
-abbrev pub behind : Records → Result Group DecodeError → Result Group DecodeError
-behind rs r = r >>= (λ v. Ok (also rs v.0, v.1, v.2))
-
-pub behind_none : (r : Result Group DecodeError) → behind no_records r ≡ r
-behind_none (Ok x) = refl
-behind_none (Err e) = refl
-
-pub behind_one : (n : ℕ) (x : Datum) (rs : Records) (r : Result Group DecodeError) → then_one n x (behind rs r) ≡ behind (one n x rs) r
-behind_one n x rs (Ok y) = refl
-behind_one n x rs (Err e) = refl
-
-parted : (b f rest t p x : List ℕ) → b ≡ f ++ rest → f ≡ t ++ p → b ++ x ≡ t ++ (p ++ (rest ++ x))
-parted b f rest t p x e h = rw (e, h) (simp append_assoc)
 
 -- a payload, with the unknown fields that are left
 abbrev with_left : ℕ → Result (Datum × List ℕ) DecodeError → Result (Datum × ℕ × List ℕ) DecodeError
@@ -182,178 +162,154 @@ module _ (d : ℕ) (inner : GroupReader) (F : ℕ → ℕ → List ℕ → Decod
   field_faulty c s n w bs e (inr (inr h)) = rw (not_end w h.0, ne_eqb s 0 (λ z. absurd (omega (arith, h.1)))) (payload_faulty c (s - 1) n w bs e h.2)
 
   -- ---- fields, one after another
-  -- after fields, what Ends and F say of the next one
-  abbrev pub FieldsFault : (ℕ → Type 0) → ℕ → List ℕ → DecodeError → Type 0
-  FieldsFault Ends s bs e = (rs : Records) × (left : ℕ) × (rest : List ℕ) × TakesRecords d s bs rs left rest × NextFault Ends F left rest e
+  -- a field, whose record is put behind the others
+  abbrev Step : HaveRead → List ℕ → HaveRead → Type 0
+  Step s p t = (n : ℕ) × (x : Datum) × FieldOf (IsPayload d n x) n (wire_of x) p × (t.0 ≡ s.0 ++ (n, x) ∷ []) × (1 + fields_inside x + t.1 ≡ s.1)
 
-  -- fields that are rs, and then an end tag of number n
-  abbrev pub InGroup : ℕ → ℕ → List ℕ → Group → Type 0
-  InGroup s n bs v = (b : List ℕ) × (t : List ℕ) × Parse d b v.0 × IsTag t n wire.EndGroup × (field_count v.0 + v.1 ≡ s) × (bs ≡ b ++ (t ++ v.2))
+  some : (s t : HaveRead) (p : List ℕ) → Step s p t → 0 < length p
+  some s t p (n, x, (g, q, tag, payload, is), e, left) = omega (arith, tag_some g n (wire_of x) tag, ap length is, length-append g q)
 
-  first_and : (s s' left : ℕ) (n : ℕ) (w : WireType) (bs after mid rest : List ℕ) (x : Datum) (rs : Records) (u : TakesTag bs n w after) (a : TakesField d s n w after x s' mid) → TakesRecords d s' mid rs left rest → TakesRecords d s bs (one n x rs) left rest
-  first_and s s' left n w bs after mid rest x rs u a r =
-      ((u.0 ++ a.0) ++ r.0, (u.0 ++ a.0, r.0, (u.0, a.0, subst (λ v. IsTag u.0 n v) (sym a.2) u.1, a.1, refl), r.1, refl), omega (arith, a.3, r.2), one_more bs u.0 a.0 after mid r.0 rest u.2 a.4 r.3)
+  -- fields that lead from some records to others are those that were added
+  records_of_pieces : (ps : List (List ℕ)) (s t : HaveRead) → ParsesEach Step s ps t → (rs : Records) × Parse d (join ps) rs × (t.0 ≡ s.0 ++ list_of rs) × (field_count rs + t.1 ≡ s.1)
+  records_of_pieces [] s t h = (no_records, refl, sym (ap (λ z. z.0) h) ∙ sym (append-nil s.0), omega (arith, ap (λ z. z.1) h))
+  records_of_pieces (p ∷ ps) s t (u, (n, x, field, e, left), h) =
+      let i = records_of_pieces ps u t h in
+      (one n x i.0, (p, join ps, field, i.1, refl), i.2 ∙ ap (λ z. z ++ list_of i.0) e ∙ append_assoc s.0 ((n, x) ∷ []) (list_of i.0), omega (arith, i.3, left))
 
-  falls : (s s' n : ℕ) (w : WireType) (bs after mid : List ℕ) (x : Datum) (u : TakesTag bs n w after) (a : TakesField d s n w after x s' mid) → length mid < length bs
-  falls s s' n w bs after mid x u a = omega (arith, tag_some u.0 n w u.1, ap length u.2, ap length a.4, length-append u.0 after, length-append a.0 mid)
+  -- and records are such fields
+  pieces_of_records : (rs : Records) (b : List ℕ) (s : HaveRead) (left : ℕ) → Parse d b rs → field_count rs + left ≡ s.1 → (ps : List (List ℕ)) × (b ≡ join ps) × ParsesEach Step s ps (s.0 ++ list_of rs, left)
+  pieces_of_records no_records b s left h e = let same : s.1 ≡ left = omega (arith, e) in ([], h, (λ i. (sym (append-nil s.0) i, same i)))
+  pieces_of_records (one n x rs) b s left (f, rest, field, more, is) e =
+      let u : HaveRead = (s.0 ++ (n, x) ∷ [], field_count rs + left) in
+      let i = pieces_of_records rs rest u left more refl in
+      (f ∷ i.0, is ∙ ap (λ z. f ++ z) i.1, (u, (n, x, field, refl, omega (arith, e)), subst (λ z. ParsesEach Step u i.0 (z, left)) (append_assoc s.0 ((n, x) ∷ []) (list_of rs)) i.2))
 
-  kept_leads : (Q : ℕ → List ℕ → Result Group DecodeError → Type 0) (n : ℕ) (r : Result (Datum × ℕ × List ℕ) DecodeError) (s : ℕ) (bs : List ℕ)
-      → ((x : Datum × ℕ × List ℕ) → r ≡ Ok x → (a : Result Group DecodeError) → Q x.1 x.2 a → Q s bs (then_one n x.0 a)) → ((e : DecodeError) → r ≡ Err e → Q s bs (Err e)) → Leads Q (kept_step n r) s bs
-  kept_leads Q n (Ok x) s bs ok err = λ a q. ok x refl a q
-  kept_leads Q n (Err e) s bs ok err = err e refl
+  -- the same of those that begin the bytes
+  reached : (s : ℕ) (bs rest : List ℕ) (t : HaveRead) → ParsesTo Step ([], s) bs t rest → TakesRecords d s bs (records_of t.0) t.1 rest
+  reached s bs rest t (ps, is, w) =
+      let i = records_of_pieces ps ([], s) t w in
+      let same : records_of t.0 ≡ i.0 = ap records_of i.2 ∙ records-list i.0 in
+      (join ps, subst (λ z. Parse d (join ps) z) (sym same) i.1, subst (λ z. field_count z + t.1 ≡ s) (sym same) i.3, is)
 
-  module _ (h : Sound) where
-    -- ---- each step takes a byte
-    kept_short : (s n : ℕ) (w : WireType) (bs after : List ℕ) → TakesTag bs n w after → (r : Result (Datum × ℕ × List ℕ) DecodeError) → field_by inner s n w after ≡ r → Shortens (kept_step n r) bs
-    kept_short s n w bs after u (Ok x) e = falls s x.1 n w bs after x.2 x.0 u (agree_ok (field_by inner s n w after) x (field_sound h s n w after) e)
-    kept_short s n w bs after u (Err x) e = tt
+  reaches : (s left : ℕ) (bs rest : List ℕ) (rs : Records) → TakesRecords d s bs rs left rest → ParsesTo Step ([], s) bs (list_of rs, left) rest
+  reaches s left bs rest rs (b, h, e, is) = let i = pieces_of_records rs b ([], s) left h e in (i.0, is ∙ ap (λ z. z ++ rest) i.1, i.2)
 
-    step_short : (last : ℕ × WireType × List ℕ → Bool) (s : ℕ) (bs : List ℕ) (r : Result (ℕ × WireType × List ℕ) DecodeError) → tag_at bs ≡ r → Shortens (record_step inner last s r) bs
-    step_short last s bs (Ok t) e =
-        if_short (last t) (Ok (no_records, s, t.2)) (kept_step t.0 (field_by inner s t.0 t.1 t.2)) bs
-        (λ _. kept_short s t.0 t.1 bs t.2 (agree_ok (tag_at bs) t (tag_sound bs) e) (field_by inner s t.0 t.1 t.2) refl)
-    step_short last s bs (Err x) e = tt
+  -- ---- the field after its tag
+  then_sound : Sound → (s : HaveRead) (bs : List ℕ) (t : ℕ × WireType × List ℕ) → TakesTag bs t.0 t.1 t.2 → Agrees (record_then inner s t) (λ y. (p : List ℕ) × Step s p y.0 × (bs ≡ p ++ y.1)) (FieldFaultOf F s.1 t.0 t.1 t.2)
+  then_sound h s bs t u = agree_bind (field_sound h s.1 t.0 t.1 t.2)
+      (λ x a. record { holds = (u.0 ++ a.0, (t.0, x.0, (u.0, a.0, subst (λ v. IsTag u.0 t.0 v) (sym a.2) u.1, a.1, refl), refl, a.3), cut_twice bs u.0 a.0 t.2 x.2 u.2 a.4) }) (λ e f. f)
 
-    records_short : (s : ℕ) (bs : List ℕ) → Shortens (records_step inner s bs) bs
-    records_short s [] = tt
-    records_short s (b ∷ bs) = step_short (λ _. false) s (b ∷ bs) (tag_at (b ∷ bs)) refl
+  then_complete : Complete → (s t : HaveRead) (n : ℕ) (x : Datum) (q rest : List ℕ) → IsPayload d n x q → t.0 ≡ s.0 ++ (n, x) ∷ [] → 1 + fields_inside x + t.1 ≡ s.1 → record_then inner s (n, wire_of x, q ++ rest) ≡ Ok (t, rest)
+  then_complete c s t n x q rest payload e left = rw (field_complete c s.1 n x t.1 q rest payload left) (ap (λ z. Ok ((z, t.1), rest)) (sym e))
 
-    pub group_turn : (n s : ℕ) (bs : List ℕ) (r : Result (ℕ × WireType × List ℕ) DecodeError) → tag_at bs ≡ r
-        → group_records_by inner s n bs ≡ step_then (λ left rest. group_records_by inner left n rest) (record_step inner (ends_group n) s r)
-    unfolding group_records_by
-    group_turn n s bs r e =
-        scan_step (λ left rest. record_step inner (ends_group n) left (tag_at rest)) (Err UnexpectedEof) (λ left rest. step_short (ends_group n) left rest (tag_at rest) refl) s bs
-        ∙ ap (λ z. step_then (λ left rest. group_records_by inner left n rest) (record_step inner (ends_group n) s z)) e
+  then_faulty : Faults → (s : HaveRead) (n : ℕ) (w : WireType) (rest : List ℕ) (e : DecodeError) → FieldFaultOf F s.1 n w rest e → record_then inner s (n, w, rest) ≡ Err e
+  then_faulty k s n w rest e f = rw (field_faulty k s.1 n w rest e f) refl
 
-    pub records_turn : (s b : ℕ) (bs : List ℕ) (r : Result (ℕ × WireType × List ℕ) DecodeError) → tag_at (b ∷ bs) ≡ r
-        → records_by inner s (b ∷ bs) ≡ step_then (records_by inner) (record_step inner (λ _. false) s r)
-    unfolding records_by
-    records_turn s b bs r e =
-        scan_step (records_step inner) (Err UnexpectedEof) records_short s (b ∷ bs) ∙ ap (λ z. step_then (records_by inner) (record_step inner (λ _. false) s z)) e
+  -- ---- up to the end tag of group n
+  module _ (n : ℕ) where
+    abbrev GroupEnds : HaveRead → List ℕ → Group → Type 0
+    GroupEnds t rest v = (v.0 ≡ records_of t.0) × (v.1 ≡ t.1) × TakesTag rest n wire.EndGroup v.2
 
-    pub records_end : (s : ℕ) → records_by inner s [] ≡ Ok (no_records, s, [])
-    unfolding records_by
-    records_end s = scan_step (records_step inner) (Err UnexpectedEof) records_short s []
+    abbrev GroupStops : HaveRead → List ℕ → DecodeError → Type 0
+    GroupStops t rest e = NextFault (λ m. m ≡ n) F t.1 rest e
 
-    -- ---- what is read is in the grammar
-    abbrev ReadsGroup : ℕ → ℕ → List ℕ → Result Group DecodeError → Type 0
-    ReadsGroup n s bs r = Agrees r (λ v. InGroup s n bs v) (FieldsFault (λ m. m ≡ n) s bs)
+    module _ (h : Sound) where
+      meets : (s : HaveRead) (bs : List ℕ) (r : Result (ℕ × WireType × List ℕ) DecodeError) → tag_at bs ≡ r → Meets Step (Ends GroupEnds GroupStops) (record_step inner n s r) s bs
+      meets s bs (Ok t) e =
+          let u = agree_ok (tag_at bs) t (tag_sound bs) e in
+          if_meets Step (Ends GroupEnds GroupStops) (is_end t.1 && (t.0 == n)) (Ok (records_of s.0, s.1, t.2)) (parsed (record_then inner s t)) s bs
+          (λ last. let c = closes_true t.1 t.0 n last in (refl, refl, takes_tag_as bs t.2 t.0 n t.1 wire.EndGroup u c.1 c.0))
+          (λ other. parsed_meets Step GroupEnds GroupStops (record_then inner s t) s bs (agree_weaker (then_sound h s bs t u) (λ x p. p) (λ e f. inr (t.0, t.1, t.2, u, closes_false t.1 t.0 n other, f))))
+      meets s bs (Err x) e = inl (agree_err (tag_at bs) x (tag_sound bs) e)
 
-    group_leads : (n s : ℕ) (bs : List ℕ) (r : Result (ℕ × WireType × List ℕ) DecodeError) → tag_at bs ≡ r → Leads (ReadsGroup n) (record_step inner (ends_group n) s r) s bs
-    group_leads n s bs (Ok t) e =
-        let u = agree_ok (tag_at bs) t (tag_sound bs) e in
-        if_leads (ReadsGroup n) (ends_group n t) (Ok (no_records, s, t.2)) (kept_step t.0 (field_by inner s t.0 t.1 t.2)) s bs
-        (λ last. let c = closes_true t.1 t.0 n last in record { holds = ([], u.0, refl, tag_as u.0 t.0 n t.1 wire.EndGroup u.1 c.1 c.0, omega arith, u.2) })
-        (λ other. kept_leads (ReadsGroup n) t.0 (field_by inner s t.0 t.1 t.2) s bs
-        (λ x is y q. let a = agree_ok (field_by inner s t.0 t.1 t.2) x (field_sound h s t.0 t.1 t.2) is in agree_bind q
-        (λ v r. let f = first_and s x.1 v.1 t.0 t.1 bs t.2 x.2 (r.1 ++ v.2) x.0 v.0 u a (r.0, r.2, r.4, r.5) in record { holds = (f.0, r.1, f.1, r.3, f.2, f.3) })
-        (λ z r. (one t.0 x.0 r.0, r.1, r.2, first_and s x.1 r.1 t.0 t.1 bs t.2 x.2 r.2 x.0 r.0 u a r.3, r.4)))
-        (λ y is. record { holds = (no_records, s, bs, ([], refl, omega arith, refl), inr (t.0, t.1, t.2, u, closes_false t.1 t.0 n other, agree_err (field_by inner s t.0 t.1 t.2) y (field_sound h s t.0 t.1 t.2) is)) }))
-    group_leads n s bs (Err x) e = record { holds = (no_records, s, bs, ([], refl, omega arith, refl), inl (agree_err (tag_at bs) x (tag_sound bs) e)) }
+      pub group_turn : (s : HaveRead) (bs : List ℕ) → group_records_behind inner n s bs ≡ step_then (group_records_behind inner n) (record_step inner n s (tag_at bs))
+      unfolding group_records_behind
+      group_turn s bs = upto_turn Step (Ends GroupEnds GroupStops) some (λ t rest. record_step inner n t (tag_at rest)) (Err UnexpectedEof) (λ t rest. meets t rest (tag_at rest) refl) s bs
 
-    pub group_sound_in : (s n : ℕ) (bs : List ℕ) → Agrees (group_records_by inner s n bs) (λ v. InGroup s n bs v) (FieldsFault (λ m. m ≡ n) s bs)
-    unfolding group_records_by
-    group_sound_in s n bs =
-        scan_leads (λ left rest. record_step inner (ends_group n) left (tag_at rest)) (Err UnexpectedEof) (λ left rest. step_short (ends_group n) left rest (tag_at rest) refl) (ReadsGroup n)
-        (λ left rest. group_leads n left rest (tag_at rest) refl) s bs
+      group_told : (s : HaveRead) (bs : List ℕ) → Agrees (group_records_behind inner n s bs) (UpTo Step GroupEnds s bs) (UpTo Step GroupStops s bs)
+      unfolding group_records_behind
+      group_told s bs =
+          let all = upto_sound Step (Ends GroupEnds GroupStops) some (λ t rest. record_step inner n t (tag_at rest)) (Err UnexpectedEof) (λ t rest. meets t rest (tag_at rest) refl) s bs in
+          upto_agrees Step GroupEnds GroupStops (scan (λ t rest. record_step inner n t (tag_at rest)) (Err UnexpectedEof) s bs) s bs all
 
-    abbrev ReadsRecords : ℕ → List ℕ → Result Group DecodeError → Type 0
-    ReadsRecords s bs r = Agrees r (λ v. TakesRecords d s bs v.0 v.1 v.2 × (v.2 ≡ []))
+      group_read : (s : ℕ) (bs : List ℕ) → Agrees (group_records_behind inner n ([], s) bs) (λ v. (mid : List ℕ) × TakesRecords d s bs v.0 v.1 mid × TakesTag mid n wire.EndGroup v.2)
+          (λ e. (rs : Records) × (left : ℕ) × (rest : List ℕ) × TakesRecords d s bs rs left rest × NextFault (λ m. m ≡ n) F left rest e)
+      group_read s bs = agree_weaker (group_told ([], s) bs)
+          (λ v (t, mid, w, (a, b, u)). (mid, subst (λ z. TakesRecords d s bs z v.1 mid) (sym a) (subst (λ z. TakesRecords d s bs (records_of t.0) z mid) (sym b) (reached s bs mid t w)), u))
+          (λ e (t, rest, w, f). (records_of t.0, t.1, rest, reached s bs rest t w, f))
+
+      group_goes : Complete → (s t : HaveRead) (p rest : List ℕ) → Step s p t → record_step inner n s (tag_at (p ++ rest)) ≡ goes t rest (λ r. r)
+      group_goes c s t p rest (m, x, (g, q, tag, payload, is), e, left) =
+          rw (is, append_assoc g q rest, tag_complete g m (wire_of x) (q ++ rest) tag, closes_no (wire_of x) m n (λ w. absurd (payload_no_end x w)), then_complete c s t m x q rest payload e left) refl
+
+      group_passed : Complete → (s t : HaveRead) (bs rest : List ℕ) (r : Result Group DecodeError) → ParsesTo Step s bs t rest → record_step inner n t (tag_at rest) ≡ ends r → group_records_behind inner n s bs ≡ r
+      unfolding group_records_behind
+      group_passed c s t bs rest r w e =
+          upto_complete Step (Ends GroupEnds GroupStops) some (λ t rest. record_step inner n t (tag_at rest)) (Err UnexpectedEof) (λ t rest. meets t rest (tag_at rest) refl) (group_goes c) s bs r (t, rest, w, e)
+
+      group_whole : Complete → (s left : ℕ) (rs : Records) (bs mid rest : List ℕ) → TakesRecords d s bs rs left mid → TakesTag mid n wire.EndGroup rest → group_records_behind inner n ([], s) bs ≡ Ok (rs, left, rest)
+      group_whole c s left rs bs mid rest h u =
+          group_passed c ([], s) (list_of rs, left) bs mid (Ok (rs, left, rest)) (reaches s left bs mid rs h) (rw (tag_read mid rest n wire.EndGroup u, closes_yes wire.EndGroup n n refl refl, records-list rs) refl)
+
+      group_stops : Complete → Faults → (s left : ℕ) (rs : Records) (bs rest : List ℕ) (e : DecodeError) → TakesRecords d s bs rs left rest → NextFault (λ m. m ≡ n) F left rest e → group_records_behind inner n ([], s) bs ≡ Err e
+      group_stops c k s left rs bs rest e h (inl f) = group_passed c ([], s) (list_of rs, left) bs rest (Err e) (reaches s left bs rest rs h) (rw (tag_faulty rest e f) refl)
+      group_stops c k s left rs bs rest e h (inr (m, w, after, u, o, f)) =
+          group_passed c ([], s) (list_of rs, left) bs rest (Err e) (reaches s left bs rest rs h) (rw (tag_read rest after m w u, closes_no w m n o, then_faulty k (list_of rs, left) m w after e f) refl)
+
+  -- ---- to the end of the bytes
+  abbrev Stops : HaveRead → List ℕ → DecodeError → Type 0
+  Stops s bs e = NextFault (λ m. ⊥) F s.1 bs e
+
+  next_sound : Sound → (s : HaveRead) (bs : List ℕ) → Agrees (record_next inner s bs) (λ x. (p : List ℕ) × Step s p x.0 × (bs ≡ p ++ x.1)) (Stops s bs)
+  next_sound h s bs = agree_bind (tag_sound bs) (λ t u. agree_weaker (then_sound h s bs t u) (λ x p. p) (λ e f. inr (t.0, t.1, t.2, u, (λ p q. q), f))) (λ e f. inl f)
+
+  next_complete : Complete → (s t : HaveRead) (p rest : List ℕ) → Step s p t → record_next inner s (p ++ rest) ≡ Ok (t, rest)
+  next_complete c s t p rest (n, x, (g, q, tag, payload, is), e, left) =
+      rw (is, append_assoc g q rest, tag_complete g n (wire_of x) (q ++ rest) tag) (then_complete c s t n x q rest payload e left)
+
+  next_faulty : Faults → (s : HaveRead) (bs : List ℕ) (e : DecodeError) → Stops s bs e → record_next inner s bs ≡ Err e
+  next_faulty k s bs e (inl f) = rw (tag_faulty bs e f) refl
+  next_faulty k s bs e (inr (n, w, rest, u, o, f)) = rw (tag_read bs rest n w u) (then_faulty k s n w rest e f)
+
+  pub next_falls : Sound → Falls (record_next inner)
+  next_falls h s bs x e = let u = agree_ok (record_next inner s bs) x (next_sound h s bs) e in omega (arith, some s x.0 u.0 u.1, ap length u.2, length-append u.0 x.1)
+
+  module _ (h : Sound) (c : Complete) (k : Faults) where
+    told : (s : HaveRead) (bs : List ℕ) (e : DecodeError) → Stops s bs e → Answers (Unit {0}) (record_next inner s bs) e
+    told s bs e f = answer (next_faulty k s bs e f)
+
+    pub records_sound_in : (s : ℕ) (bs : List ℕ) → Agrees (records_behind inner ([], s) bs) (λ v. TakesRecords d s bs v.0 v.1 v.2 × (v.2 ≡ []))
         (λ e. (rs : Records) × (left : ℕ) × (rest : List ℕ) × TakesRecords d s bs rs left rest × (0 < length rest) × NextFault (λ m. ⊥) F left rest e)
+    records_sound_in s bs = agree_bind (along_sound Step (record_next inner) Stops (next_sound h) (next_complete c) (Unit {0}) told some ([], s) bs)
+        (λ t w. record { holds = (reached s bs [] t w, refl) }) (λ e (t, rest, w, o, f). (records_of t.0, t.1, rest, reached s bs rest t w, has_byte rest o, f))
 
-    tag_leads : (s : ℕ) (bs : List ℕ) (r : Result (ℕ × WireType × List ℕ) DecodeError) → 0 < length bs → tag_at bs ≡ r → Leads ReadsRecords (record_step inner (λ _. false) s r) s bs
-    tag_leads s bs (Ok t) some e =
-        let u = agree_ok (tag_at bs) t (tag_sound bs) e in
-        kept_leads ReadsRecords t.0 (field_by inner s t.0 t.1 t.2) s bs
-        (λ x is y q. let a = agree_ok (field_by inner s t.0 t.1 t.2) x (field_sound h s t.0 t.1 t.2) is in agree_bind q
-        (λ v r. record { holds = (first_and s x.1 v.1 t.0 t.1 bs t.2 x.2 v.2 x.0 v.0 u a r.0, r.1) })
-        (λ z r. (one t.0 x.0 r.0, r.1, r.2, first_and s x.1 r.1 t.0 t.1 bs t.2 x.2 r.2 x.0 r.0 u a r.3, r.4, r.5)))
-        (λ y is. record { holds = (no_records, s, bs, ([], refl, omega arith, refl), some, inr (t.0, t.1, t.2, u, (λ p q. q), agree_err (field_by inner s t.0 t.1 t.2) y (field_sound h s t.0 t.1 t.2) is)) })
-    tag_leads s bs (Err x) some e = record { holds = (no_records, s, bs, ([], refl, omega arith, refl), some, inl (agree_err (tag_at bs) x (tag_sound bs) e)) }
-
-    records_leads : (s : ℕ) (bs : List ℕ) → Leads ReadsRecords (records_step inner s bs) s bs
-    records_leads s [] = record { holds = (([], refl, omega arith, refl), refl) }
-    records_leads s (b ∷ bs) = tag_leads s (b ∷ bs) (tag_at (b ∷ bs)) (omega arith) refl
-
-    pub records_sound_in : (s : ℕ) (bs : List ℕ) → ReadsRecords s bs (records_by inner s bs)
-    unfolding records_by
-    records_sound_in s bs = scan_leads (records_step inner) (Err UnexpectedEof) records_short ReadsRecords records_leads s bs
-
-  -- whole fields are passed, by what reads a field and then goes on
-  pass : (read : ℕ → List ℕ → Result Group DecodeError) →
-      ((s n : ℕ) (x : Datum) (left : ℕ) (t p rest : List ℕ) → IsTag t n (wire_of x) → IsPayload d n x p → 1 + fields_inside x + left ≡ s → read s (t ++ (p ++ rest)) ≡ then_one n x (read left rest)) →
-      (rs : Records) (s left : ℕ) (b x : List ℕ) → Parse d b rs → field_count rs + left ≡ s → read s (b ++ x) ≡ behind rs (read left x)
-  pass read step no_records s left b x h e =
-      let is : b ++ x ≡ x = ap (λ z. z ++ x) h in
-      let f : s ≡ left = omega arith in
-      rw (is, f) (sym (behind_none (read left x)))
-  pass read step (one n y rs) s left b x (f, r, (t, p, tag, payload, is), more, all) e =
-      ap (read s) (parted b f r t p x all is) ∙ step s n y (field_count rs + left) t p (r ++ x) tag payload (omega arith)
-      ∙ ap (then_one n y) (pass read step rs (field_count rs + left) left r x more refl) ∙ behind_one n y rs (read left x)
-
-  module _ (h : Sound) (c : Complete) where
-    group_step : (m s n : ℕ) (x : Datum) (left : ℕ) (t p rest : List ℕ) → IsTag t n (wire_of x) → IsPayload d n x p → 1 + fields_inside x + left ≡ s →
-        group_records_by inner s m (t ++ (p ++ rest)) ≡ then_one n x (group_records_by inner left m rest)
-    group_step m s n x left t p rest tag payload e =
-        group_turn h m s (t ++ (p ++ rest)) (Ok (n, wire_of x, p ++ rest)) (tag_complete t n (wire_of x) (p ++ rest) tag)
-        ∙ rw (closes_no (wire_of x) n m (λ w. absurd (payload_no_end x w)), field_complete c s n x left p rest payload e) refl
-
-    one_record : (s n : ℕ) (x : Datum) (left : ℕ) (t p rest : List ℕ) → IsTag t n (wire_of x) → IsPayload d n x p → 1 + fields_inside x + left ≡ s →
-        records_by inner s (t ++ (p ++ rest)) ≡ then_one n x (records_by inner left rest)
-    one_record s n x left [] p rest tag payload e = absurd (omega (arith, tag_some [] n (wire_of x) tag))
-    one_record s n x left (y ∷ t) p rest tag payload e =
-        records_turn h s y (t ++ (p ++ rest)) (Ok (n, wire_of x, p ++ rest)) (tag_complete (y ∷ t) n (wire_of x) (p ++ rest) tag)
-        ∙ rw (field_complete c s n x left p rest payload e) refl
-
-    -- after whole fields: the end tag of the group, or a fault
-    group_end : (s n : ℕ) (t rest : List ℕ) → IsTag t n wire.EndGroup → group_records_by inner s n (t ++ rest) ≡ Ok (no_records, s, rest)
-    group_end s n t rest tag = group_turn h n s (t ++ rest) (Ok (n, wire.EndGroup, rest)) (tag_complete t n wire.EndGroup rest tag) ∙ rw (closes_yes wire.EndGroup n n refl refl) refl
-
-    group_fault : Faults → (s n : ℕ) (bs : List ℕ) (e : DecodeError) → NextFault (λ k. k ≡ n) F s bs e → group_records_by inner s n bs ≡ Err e
-    group_fault k s n bs e (inl x) = group_turn h n s bs (Err e) (tag_faulty bs e x)
-    group_fault k s n bs e (inr (f, w, rest, (t, u, is), o, x)) =
-        group_turn h n s bs (Ok (f, w, rest)) (ap tag_at is ∙ tag_complete t f w rest u) ∙ rw (closes_no w f n o, field_faulty k s f w rest e x) refl
-
-    records_fault : Faults → (s : ℕ) (bs : List ℕ) (e : DecodeError) → NextFault (λ k. ⊥) F s bs e → 0 < length bs → records_by inner s bs ≡ Err e
-    records_fault k s [] e x o = absurd (omega arith)
-    records_fault k s (b ∷ bs) e (inl x) o = records_turn h s b bs (Err e) (tag_faulty (b ∷ bs) e x)
-    records_fault k s (b ∷ bs) e (inr (f, w, rest, (t, u, is), _, x)) o =
-        records_turn h s b bs (Ok (f, w, rest)) (ap tag_at is ∙ tag_complete t f w rest u) ∙ rw (field_faulty k s f w rest e x) refl
-
-    pub group_complete_in : (s n : ℕ) (v : Group) (bs : List ℕ) → InGroup s n bs v → group_records_by inner s n bs ≡ Ok v
-    group_complete_in s n v bs (b, t, x, tag, e, is) =
-        ap (group_records_by inner s n) is ∙ pass (λ s bs. group_records_by inner s n bs) (group_step n) v.0 s v.1 b (t ++ v.2) x e
-        ∙ ap (behind v.0) (group_end v.1 n t v.2 tag) ∙ ap (λ z. Ok (z, v.1, v.2)) (also-none v.0)
-
-    pub group_faulty_in : Faults → (s n : ℕ) (bs : List ℕ) (e : DecodeError) → FieldsFault (λ m. m ≡ n) s bs e → group_records_by inner s n bs ≡ Err e
-    group_faulty_in k s n bs e (rs, left, rest, (b, y, q, is), x) =
-        ap (group_records_by inner s n) is ∙ pass (λ s bs. group_records_by inner s n bs) (group_step n) rs s left b rest y q ∙ ap (behind rs) (group_fault k left n rest e x)
-
-    pub records_complete_in : (s left : ℕ) (rs : Records) (bs : List ℕ) → Parse d bs rs → field_count rs + left ≡ s → records_by inner s bs ≡ Ok (rs, left, [])
+    pub records_complete_in : (s left : ℕ) (rs : Records) (bs : List ℕ) → Parse d bs rs → field_count rs + left ≡ s → records_behind inner ([], s) bs ≡ Ok (rs, left, [])
     records_complete_in s left rs bs x q =
-        ap (records_by inner s) (sym (append-nil bs)) ∙ pass (records_by inner) one_record rs s left bs [] x q
-        ∙ ap (behind rs) (records_end h left) ∙ ap (λ z. Ok (z, left, [])) (also-none rs)
+        rw (along_complete Step (record_next inner) Stops (next_sound h) (next_complete c) (Unit {0}) told some ([], s) (list_of rs, left) bs (reaches s left bs [] rs (bs, x, q, sym (append-nil bs))))
+        (ap (λ z. Ok (z, left, [])) (records-list rs))
 
-    pub records_faulty_in : Faults → (s left : ℕ) (rs : Records) (bs rest : List ℕ) (e : DecodeError) → TakesRecords d s bs rs left rest → 0 < length rest → NextFault (λ m. ⊥) F left rest e → records_by inner s bs ≡ Err e
-    records_faulty_in k s left rs bs rest e (b, y, q, is) o x =
-        ap (records_by inner s) is ∙ pass (records_by inner) one_record rs s left b rest y q ∙ ap (behind rs) (records_fault k left rest e x o)
+    pub records_faulty_in : (s left : ℕ) (rs : Records) (bs rest : List ℕ) (e : DecodeError) → TakesRecords d s bs rs left rest → 0 < length rest → NextFault (λ m. ⊥) F left rest e → records_behind inner ([], s) bs ≡ Err e
+    records_faulty_in s left rs bs rest e t o x =
+        let q = along_faulty Step (record_next inner) Stops (next_sound h) (next_complete c) (Unit {0}) told some ([], s) bs e ((list_of rs, left), rest, reaches s left bs rest rs t, not_nil rest o, x) in
+        rw q.1 (ap (λ z. Err z) (sym (q.2 tt)))
 
 -- ---- groups nested at most d deep
 pub group_sound : (d : ℕ) → Sound d (group_records_at d) (GroupRecordsFault d)
 unfolding group_records_at GroupRecordsFault
 group_sound zero s n bs = record { holds = refl }
-group_sound (suc d) s n bs = agree_weaker (group_sound_in d (group_records_at d) (GroupRecordsFault d) (group_sound d) s n bs)
-    (λ v a. (a.0 ++ a.1, (omega arith, a.0, a.1, subst (λ k. Parse k a.0 v.0) (sym (one_deeper d)) a.2, a.3, refl), a.4, a.5 ∙ sym (append_assoc a.0 a.1 v.2)))
+group_sound (suc d) s n bs = agree_weaker (group_read d (group_records_at d) (GroupRecordsFault d) n (group_sound d) s bs)
+    (λ v (mid, (b, h, e, is), (t, tag, split)).
+    (b ++ t, (omega arith, b, t, subst (λ k. Parse k b v.0) (sym (one_deeper d)) h, tag, refl), e, is ∙ ap (λ z. b ++ z) split ∙ sym (append_assoc b t v.2)))
     (λ e f. f)
 
 pub group_complete : (d : ℕ) → Complete d (group_records_at d) (GroupRecordsFault d)
 unfolding group_records_at
 group_complete zero s n rs left p rest (o, b, t, h, tag, is) e = absurd (omega arith)
 group_complete (suc d) s n rs left p rest (o, b, t, h, tag, is) e =
-    group_complete_in d (group_records_at d) (GroupRecordsFault d) (group_sound d) (group_complete d) s n (rs, left, rest) (p ++ rest)
-    (b, t, subst (λ k. Parse k b rs) (one_deeper d) h, tag, e, ap (λ z. z ++ rest) is ∙ append_assoc b t rest)
+    group_whole d (group_records_at d) (GroupRecordsFault d) n (group_sound d) (group_complete d) s left rs (p ++ rest) (t ++ rest) rest
+    (b, subst (λ k. Parse k b rs) (one_deeper d) h, e, ap (λ z. z ++ rest) is ∙ append_assoc b t rest) (t, tag, refl)
 
 pub group_faulty : (d : ℕ) → Faults d (group_records_at d) (GroupRecordsFault d)
 unfolding group_records_at GroupRecordsFault
 group_faulty zero s n bs e h = ap (λ x. Err x) (sym h)
-group_faulty (suc d) s n bs e h = group_faulty_in d (group_records_at d) (GroupRecordsFault d) (group_sound d) (group_complete d) (group_faulty d) s n bs e h
+group_faulty (suc d) s n bs e (rs, left, rest, h, f) = group_stops d (group_records_at d) (GroupRecordsFault d) n (group_sound d) (group_complete d) (group_faulty d) s left rs bs rest e h f

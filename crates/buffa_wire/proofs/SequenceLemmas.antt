@@ -36,6 +36,10 @@ answers_as f (x, h, k) = (x, f x h, k)
 abbrev pub Falls : {S : Type 0} → (S → List ℕ → Result (S × List ℕ) DecodeError) → Type 0
 Falls {S} f = (s : S) (bs : List ℕ) (x : S × List ℕ) → f s bs ≡ Ok x → length x.1 < length bs
 
+pub has_byte : (bs : List ℕ) → bs ≢ [] → 0 < length bs
+has_byte [] n = absurd (n refl)
+has_byte (b ∷ bs) n = omega arith
+
 pub not_nil : (bs : List ℕ) → 0 < length bs → bs ≢ []
 not_nil bs h e = absurd (omega (arith, h, ap length e))
 
@@ -122,15 +126,18 @@ module _ {S R : Type 0} (Step : S → List ℕ → S → Type 0) (X : S → List
       shortens : (s : S) (bs : List ℕ) → Shortens (step s bs) bs
       shortens s bs = short (step s bs) s bs (meets s bs)
 
+      pub upto_turn : (s : S) (bs : List ℕ) → scan step out s bs ≡ step_then (scan step out) (step s bs)
+      upto_turn s bs = scan_step step out shortens s bs
+
       -- what is read is what X says behind pieces
       pub upto_sound : (s : S) (bs : List ℕ) → UpTo Step X s bs (scan step out s bs)
       upto_sound s bs = scan_leads step out shortens (UpTo Step X) (λ s bs. leads (step s bs) s bs (meets s bs)) s bs
 
       -- and pieces are passed, up to where a step ends
       pub upto_complete : ((s t : S) (p rest : List ℕ) → Step s p t → step s (p ++ rest) ≡ goes t rest (λ r. r)) → (s : S) (bs : List ℕ) (r : R) → UpTo Step (λ t rest q. step t rest ≡ ends q) s bs r → scan step out s bs ≡ r
-      upto_complete goes_on s bs r (t, rest, ([], is, same), e) = scan_step step out shortens s bs ∙ rw (is, same, e) refl
+      upto_complete goes_on s bs r (t, rest, ([], is, same), e) = upto_turn s bs ∙ rw (is, same, e) refl
       upto_complete goes_on s bs r (t, rest, (p ∷ ps, is, (u, h, w)), e) =
-          scan_step step out shortens s bs ∙ rw (is, append_assoc p (join ps) rest, goes_on s u p (join ps ++ rest) h) (upto_complete goes_on u (join ps ++ rest) r (t, rest, (ps, refl, w), e))
+          upto_turn s bs ∙ rw (is, append_assoc p (join ps) rest, goes_on s u p (join ps ++ rest) h) (upto_complete goes_on u (join ps ++ rest) r (t, rest, (ps, refl, w), e))
 
 -- an end, where there is an answer, and a fault otherwise
 abbrev pub Ends : {S A : Type 0} → (S → List ℕ → A → Type 0) → (S → List ℕ → DecodeError → Type 0) → S → List ℕ → Result A DecodeError → Type 0

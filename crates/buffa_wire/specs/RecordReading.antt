@@ -1,17 +1,18 @@
 -- What reading records gives: the records, the unknown fields that are left, and the bytes that follow; or the
 -- first fault.
-use Rattle.std.specs.Prelude.{◌≡◌, ◌≢◌, ℕ, zero, suc, ◌-◌, ◌<◌, ◌⊎◌, ◌==◌, ◌&&◌, Bool, false, List, [], ◌∷◌, IsOk, Result, Ok, Err, if◌then◌else◌}
+use Rattle.std.specs.Prelude.{◌≡◌, ◌≢◌, ℕ, zero, suc, ◌-◌, ◌<◌, ◌⊎◌, ◌==◌, ◌&&◌, List, [], ◌∷◌, ◌++◌, IsOk, Result, Ok, Err, if◌then◌else◌}
 use Rattle.buffa_bytes.specs.Gives.{◌>>=◌}
 use Rattle.buffa_bytes.specs.declared.wire_type.WireType.{WireType}
 use Rattle.buffa_bytes.specs.declared.wire_type.WireType.TheVariants as wire
 use Rattle.buffa_bytes.specs.declared.error.DecodeError.{DecodeError}
 use Rattle.buffa_bytes.specs.declared.error.DecodeError.TheVariants.{UnexpectedEof, InvalidWireType, RecursionLimitExceeded, UnknownFieldLimitExceeded, InvalidEndGroup}
 use Rattle.buffa_bytes.specs.Front.{varint_at, delimited_at, tag_at, is_end}
-use Rattle.buffa_bytes.specs.Scan.{Scanned, scan}
-use Rattle.buffa_bytes.specs.Scan.Scanned.{ends, goes}
+use Rattle.buffa_bytes.specs.Scan.{Scanned, parsed, scan}
+use Rattle.buffa_bytes.specs.Scan.Scanned.{ends}
 use Rattle.buffa_bytes.specs.Scalars.{fixed32_at, fixed64_at}
 use Rattle.buffa_wire.specs.declared.context.DecodeContext.{DecodeContext}
-use Rattle.buffa_wire.specs.Records.{Datum, varint, fixed32, fixed64, bytes, group, Records, no_records, one, list_of}
+use Rattle.buffa_wire.specs.Records.{Datum, varint, fixed32, fixed64, bytes, group, Records, list_of, records_of}
+use Rattle.buffa_wire.specs.Sequence.{parse_all}
 
 -- what reads the rest of a group: of the unknown fields that are left, the group's number, and the bytes
 abbrev pub GroupReader : Type 0
@@ -38,32 +39,27 @@ field_by inner s n w bs =
     if is_end w then Err (InvalidEndGroup n) else
     if s == 0 then Err UnknownFieldLimitExceeded else payload_by inner (s - 1) n w bs
 
--- a field of number n before those that were read behind it
-abbrev pub then_one : ℕ → Datum → Result (Records × ℕ × List ℕ) DecodeError → Result (Records × ℕ × List ℕ) DecodeError
-then_one n x r = r >>= (λ rs. Ok (one n x rs.0, rs.1, rs.2))
+-- records that were read, and the unknown fields that are left
+abbrev pub HaveRead : Type 0
+HaveRead = List (ℕ × Datum) × ℕ
 
--- the field of number n that was read leads to those behind it
-abbrev pub kept_step : ℕ → Result (Datum × ℕ × List ℕ) DecodeError → Scanned ℕ (Result (Records × ℕ × List ℕ) DecodeError)
-kept_step n (Ok x) = goes x.1 x.2 (then_one n x.0)
-kept_step n (Err e) = ends (Err e)
+-- the record of the field after its tag is put behind those that were read
+abbrev pub record_then : GroupReader → HaveRead → ℕ × WireType × List ℕ → Result (HaveRead × List ℕ) DecodeError
+record_then inner s t = field_by inner s.1 t.0 t.1 t.2 >>= (λ x. Ok ((s.0 ++ (t.0, x.0) ∷ [], x.1), x.2))
 
--- a tag among fields, where so many unknown fields are left: a last one ends them, and the field of any other is read
-abbrev pub record_step : GroupReader → (ℕ × WireType × List ℕ → Bool) → ℕ → Result (ℕ × WireType × List ℕ) DecodeError → Scanned ℕ (Result (Records × ℕ × List ℕ) DecodeError)
-record_step inner last s (Ok t) = if last t then ends (Ok (no_records, s, t.2)) else kept_step t.0 (field_by inner s t.0 t.1 t.2)
-record_step inner last s (Err e) = ends (Err e)
+-- a tag in group n: its end tag ends the group, and the field of any other is read
+abbrev pub record_step : GroupReader → ℕ → HaveRead → Result (ℕ × WireType × List ℕ) DecodeError → Scanned HaveRead (Result (Records × ℕ × List ℕ) DecodeError)
+record_step inner n s (Ok t) = if is_end t.1 && (t.0 == n) then ends (Ok (records_of s.0, s.1, t.2)) else parsed (record_then inner s t)
+record_step inner n s (Err e) = ends (Err e)
 
--- the end tag of group n
-abbrev pub ends_group : ℕ → ℕ × WireType × List ℕ → Bool
-ends_group n t = is_end t.1 && (t.0 == n)
+-- the fields and the end tag of group n, whose records go behind those that were read
+unfoldable pub group_records_behind : GroupReader → ℕ → HaveRead → List ℕ → Result (Records × ℕ × List ℕ) DecodeError
+group_records_behind inner n s bs = scan (λ t rest. record_step inner n t (tag_at rest)) (Err UnexpectedEof) s bs
 
--- the fields and the end tag of group n
-unfoldable pub group_records_by : GroupReader → GroupReader
-group_records_by inner s n bs = scan (λ left rest. record_step inner (ends_group n) left (tag_at rest)) (Err UnexpectedEof) s bs
-
--- the same, with groups nested at most d deep
+-- a group, with groups nested at most d deep
 unfoldable pub group_records_at : ℕ → GroupReader
 group_records_at zero s n bs = Err RecursionLimitExceeded
-group_records_at (suc d) s n bs = group_records_by (group_records_at d) s n bs
+group_records_at (suc d) s n bs = group_records_behind (group_records_at d) n ([], s) bs
 
 -- the field after a tag of number n and wire type w
 abbrev pub field_at : ℕ → ℕ → ℕ → WireType → List ℕ → Result (Datum × ℕ × List ℕ) DecodeError
@@ -76,16 +72,16 @@ field_in ctx = field_at ctx.depth ctx.budget.now.unknown
 abbrev pub group_in : DecodeContext → ℕ → List ℕ → Result (Records × ℕ × List ℕ) DecodeError
 group_in ctx = group_records_at ctx.depth ctx.budget.now.unknown
 
--- fields, to the end of the bytes
-abbrev pub records_step : GroupReader → ℕ → List ℕ → Scanned ℕ (Result (Records × ℕ × List ℕ) DecodeError)
-records_step inner s [] = ends (Ok (no_records, s, []))
-records_step inner s (b ∷ bs) = record_step inner (λ _. false) s (tag_at (b ∷ bs))
+-- a field with its tag
+abbrev pub record_next : GroupReader → HaveRead → List ℕ → Result (HaveRead × List ℕ) DecodeError
+record_next inner s bs = tag_at bs >>= record_then inner s
 
-unfoldable pub records_by : GroupReader → ℕ → List ℕ → Result (Records × ℕ × List ℕ) DecodeError
-records_by inner s bs = scan (records_step inner) (Err UnexpectedEof) s bs
+-- fields to the end of the bytes, whose records go behind those that were read
+abbrev pub records_behind : GroupReader → HaveRead → List ℕ → Result (Records × ℕ × List ℕ) DecodeError
+records_behind inner s bs = parse_all (record_next inner) s bs >>= (λ t. Ok (records_of t.0, t.1, []))
 
 abbrev pub records_at : ℕ → ℕ → List ℕ → Result (Records × ℕ × List ℕ) DecodeError
-records_at d = records_by (group_records_at d)
+records_at d s bs = records_behind (group_records_at d) ([], s) bs
 
 -- the records alone
 abbrev pub list_at : ℕ → ℕ → List ℕ → Result (List (ℕ × Datum)) DecodeError

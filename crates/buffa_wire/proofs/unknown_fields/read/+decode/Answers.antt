@@ -1,4 +1,4 @@
-use Rattle.std.proofs.Common.{rules, ℕ, ◌≡◌, ◌∙◌, arith, refl, sym, ap, Err, inr}
+use Rattle.std.proofs.Common.{rules, ℕ, ◌-◌, ◌≡◌, ◌∙◌, arith, refl, sym, ap, Err, inl, inr}
 use Rattle.std.proofs.lemmas.Result.{err_from_is_err_and}
 use Rattle.buffa_bytes.specs.declared.wire_type.WireType.TheVariants.{EndGroup}
 use Rattle.buffa_bytes.specs.declared.error.DecodeError.TheVariants.{InvalidEndGroup}
@@ -7,10 +7,11 @@ use Rattle.buffa_bytes.proofs.LeftLemmas.{end_stays}
 use Rattle.buffa_wire.proofs.LeaveLemmas.{leaves_all}
 use Rattle.buffa_wire.specs.BudgetLeft.{BudgetLeft}
 use Rattle.buffa_wire.specs.RecordReading.{group_records_at}
+use Rattle.buffa_wire.specs.Records.{Held}
 use Rattle.buffa_bytes.proofs.TailLemmas.{tail_more, tail_whole}
 use Rattle.buffa_bytes.proofs.FullLemmas.{tag_no_full}
 use Rattle.buffa_wire.proofs.SpentLemmas.{begins_reading, begins_taking, field_spent, further_spent, next_spent, none_spent, one_spent, takes_group, takes_inside, takes_plain}
-use Rattle.buffa_wire.proofs.LoopLemmas.{field_falls, field_end, field_no_unknown, field_group_ok, field_group_err, field_plain_ok, field_plain_err, group_limit, group_tag_err, group_end, group_other, group_field_err, group_next}
+use Rattle.buffa_wire.proofs.LoopLemmas.{field_falls, field_end, field_no_unknown, field_group_ok, field_group_err, field_plain_ok, field_plain_err, group_begins, group_limit, group_tag_err, group_end, group_other, group_field_err, group_next}
 use Rattle.buffa_wire.proofs.unknown_fields.read.+decode.Goals as goal
 
 pub decode_group-returns-then-depth-eq0-clause-reads : goal.decode_group-returns-then-depth-eq0-clause-reads
@@ -19,7 +20,7 @@ decode_group-returns-then-depth-eq0-clause-reads g t c = λ other. group_limit _
 pub decode_group-returns-in_err-tag-clause-reads : goal.decode_group-returns-in_err-tag-clause-reads
 decode_group-returns-in_err-tag-clause-reads g t c =
     let p = err_from_is_err_and c.from_residual.result c.from_residual.ensures.1 in
-    rw (p.1, p.2) (λ other. group_tag_err c.args.ctx.depth c.loop-fields.budget.unknown c.args.number (g.B.Buf.unread c.loop-fields.buf) c.loop-fields.fields.records (group_records_at c.args.ctx.depth c.args.ctx.budget.now.unknown c.args.number (g.B.Buf.unread c.args.buf.now)) c.if-depth-eq0.false c.loop-fields.invariant.read _ c.in_err-tag.ensures.reads)
+    rw (p.1, p.2) (λ other. group_tag_err (c.args.ctx.depth - 1) c.loop-fields.budget.unknown c.args.number (g.B.Buf.unread c.loop-fields.buf) c.loop-fields.fields.records (group_records_at c.args.ctx.depth c.args.ctx.budget.now.unknown c.args.number (g.B.Buf.unread c.args.buf.now)) c.loop-fields.invariant.read _ c.in_err-tag.ensures.reads)
 
 pub decode_group-returns-in_err-tag-clause-full : goal.decode_group-returns-in_err-tag-clause-full
 decode_group-returns-in_err-tag-clause-full g t c =
@@ -46,11 +47,21 @@ decode_group-returns-in-EndGroup-clause-tail g t c = tail_more _ _ _ c.in_ok-tag
 
 pub decode_group-returns-then-field_number-number-clause-reads : goal.decode_group-returns-then-field_number-number-clause-reads
 decode_group-returns-then-field_number-number-clause-reads g t c =
-    group_end c.args.ctx.depth c.loop-fields.budget.unknown c.args.number (g.B.Buf.unread c.loop-fields.buf) c.loop-fields.fields.records (group_records_at c.args.ctx.depth c.args.ctx.budget.now.unknown c.args.number (g.B.Buf.unread c.args.buf.now)) c.if-depth-eq0.false c.loop-fields.invariant.read _ c.in_ok-tag.ensures.reads (sym c.in-EndGroup.ensures) (sym c.field_number.ensures ∙ c.if-field_number-number.true)
+    group_end (c.args.ctx.depth - 1) c.loop-fields.budget.unknown c.args.number (g.B.Buf.unread c.loop-fields.buf) c.loop-fields.fields.records (group_records_at c.args.ctx.depth c.args.ctx.budget.now.unknown c.args.number (g.B.Buf.unread c.args.buf.now)) c.loop-fields.invariant.read _ c.in_ok-tag.ensures.reads (sym c.in-EndGroup.ensures) (sym c.field_number.ensures ∙ c.if-field_number-number.true)
 
 pub decode_group-returns-in-EndGroup-clause-reads : goal.decode_group-returns-in-EndGroup-clause-reads
 decode_group-returns-in-EndGroup-clause-reads g t c =
-    rw c.field_number-in-EndGroup.ensures (λ other. group_other c.args.ctx.depth c.loop-fields.budget.unknown c.args.number (g.B.Buf.unread c.loop-fields.buf) c.loop-fields.fields.records (group_records_at c.args.ctx.depth c.args.ctx.budget.now.unknown c.args.number (g.B.Buf.unread c.args.buf.now)) c.if-depth-eq0.false c.loop-fields.invariant.read _ c.in_ok-tag.ensures.reads (sym c.in-EndGroup.ensures) (λ e. c.if-field_number-number.false (c.field_number.ensures ∙ e)))
+    rw c.field_number-in-EndGroup.ensures (λ other. group_other (c.args.ctx.depth - 1) c.loop-fields.budget.unknown c.args.number (g.B.Buf.unread c.loop-fields.buf) c.loop-fields.fields.records (group_records_at c.args.ctx.depth c.args.ctx.budget.now.unknown c.args.number (g.B.Buf.unread c.args.buf.now)) c.loop-fields.invariant.read _ c.in_ok-tag.ensures.reads (sym c.in-EndGroup.ensures) (λ e. c.if-field_number-number.false (c.field_number.ensures ∙ e)))
+
+pub decode_group-loop-fields-init : goal.decode_group-loop-fields-init
+decode_group-loop-fields-init g t c = record {
+  read = group_begins c.args.ctx.depth c.args.ctx.budget.now.unknown c.args.ctx.budget.now.unknown c.args.number (g.B.Buf.unread c.args.buf.now) c.new-fields.result.records c.if-depth-eq0.false (ap (λ (h : Held). h.records) c.new-fields.ensures) refl;
+  memory = refl;
+  spent = (omega arith, omega arith);
+  tail = tail_whole _;
+  begun = inl (refl, refl);
+  kept = refl {a = g.B.Buf.beyond c.args.buf.now};
+}
 
 pub decode_group-loop-fields-smaller : goal.decode_group-loop-fields-smaller
 decode_group-loop-fields-smaller g t c = omega (arith, tag_falls _ _ c.in_ok-tag.ensures.reads, field_falls _ _ _ _ _ _ c.in_ok-field.ensures.reads)
@@ -59,7 +70,7 @@ pub decode_group-returns-in_err-field : goal.decode_group-returns-in_err-field
 decode_group-returns-in_err-field g t c =
     let p = err_from_is_err_and c.from_residual-in_err-field.result c.from_residual-in_err-field.ensures.1 in
     record {
-      reads = rw (p.1, p.2) (λ other. group_field_err c.args.ctx.depth c.loop-fields.budget.unknown c.args.number (g.B.Buf.unread c.loop-fields.buf) c.loop-fields.fields.records (group_records_at c.args.ctx.depth c.args.ctx.budget.now.unknown c.args.number (g.B.Buf.unread c.args.buf.now)) c.if-depth-eq0.false c.loop-fields.invariant.read _ c.in_ok-tag.ensures.reads (λ e. c.in_default.not-EndGroup (c.wire_type.ensures ∙ e)) _ (c.in_err-field.ensures.reads other));
+      reads = rw (p.1, p.2) (λ other. group_field_err (c.args.ctx.depth - 1) c.loop-fields.budget.unknown c.args.number (g.B.Buf.unread c.loop-fields.buf) c.loop-fields.fields.records (group_records_at c.args.ctx.depth c.args.ctx.budget.now.unknown c.args.number (g.B.Buf.unread c.args.buf.now)) c.loop-fields.invariant.read _ c.in_ok-tag.ensures.reads (λ e. c.in_default.not-EndGroup (c.wire_type.ensures ∙ e)) _ (c.in_err-field.ensures.reads other));
       memory = c.in_err-field.ensures.memory ∙ c.loop-fields.invariant.memory;
       full = rw (p.1, p.2) (λ k. takes_inside _ _ _ c.if-depth-eq0.false (begins_taking _ _ _ _ _ c.loop-fields.invariant.begun _ c.in_ok-tag.ensures.reads (c.in_err-field.ensures.full k)));
       level = λ z. absurd {A = g.B.Buf.unread c.decode_unknown_field.new.buf ≡ g.B.Buf.unread c.args.buf.now} (c.if-depth-eq0.false z);
@@ -85,7 +96,7 @@ decode_group-returns-in_err-push g t c =
 
 pub decode_group-loop-fields-preserved : goal.decode_group-loop-fields-preserved
 decode_group-loop-fields-preserved g t c = record {
-  read = group_next c.args.ctx.depth c.loop-fields.budget.unknown c.args.number (g.B.Buf.unread c.loop-fields.buf) c.loop-fields.fields.records (group_records_at c.args.ctx.depth c.args.ctx.budget.now.unknown c.args.number (g.B.Buf.unread c.args.buf.now)) c.if-depth-eq0.false c.loop-fields.invariant.read _ c.in_ok-tag.ensures.reads (λ e. c.in_default.not-EndGroup (c.wire_type.ensures ∙ e)) _ _ _ c.in_ok-field.ensures.reads c.in_ok-field.ensures.number c.in_ok-push.ensures.ok;
+  read = group_next (c.args.ctx.depth - 1) c.loop-fields.budget.unknown c.args.number (g.B.Buf.unread c.loop-fields.buf) c.loop-fields.fields.records (group_records_at c.args.ctx.depth c.args.ctx.budget.now.unknown c.args.number (g.B.Buf.unread c.args.buf.now)) c.loop-fields.invariant.read _ c.in_ok-tag.ensures.reads (λ e. c.in_default.not-EndGroup (c.wire_type.ensures ∙ e)) _ _ _ c.in_ok-field.ensures.reads c.in_ok-field.ensures.number c.in_ok-push.ensures.ok;
   memory = c.in_ok-field.ensures.memory ∙ c.loop-fields.invariant.memory;
   spent = next_spent _ _ _ _ _ _ _ c.loop-fields.invariant.tail c.in_ok-tag.ensures.tail c.in_ok-field.ensures.tail (tag_falls _ _ c.in_ok-tag.ensures.reads) c.loop-fields.invariant.spent c.in_ok-field.ensures.spent;
   tail = tail_more _ _ _ c.in_ok-field.ensures.tail (tail_more _ _ _ c.in_ok-tag.ensures.tail c.loop-fields.invariant.tail);

@@ -2,9 +2,7 @@ use Rattle.std.proofs.Common.{◌≡◌, ◌+◌, ◌-◌, ◌*◌, length}
 use Rattle.buffa_bytes.specs.Unread.{IsTailOf, bytes_read}
 use Rattle.buffa_wire.specs.BudgetLeft.{UnknownsSpent}
 use Rattle.buffa_wire.proofs.SpentLemmas.{IsBegun}
-use Rattle.buffa_wire.specs.Records.{records_of}
-use Rattle.buffa_wire.specs.RecordReading.{group_records_at}
-use Rattle.buffa_wire.proofs.ReadLemmas.{behind}
+use Rattle.buffa_wire.specs.RecordReading.{group_records_at, group_records_behind}
 use Rattle.buffa_wire.proofs.unknown_fields.read.+decode.Given as goal
 
 abbrev pub decreases-decode_unknown_field : goal.decreases-decode_unknown_field
@@ -16,7 +14,7 @@ decreases-decode_group g l = 2 * l.ctx.depth
 -- what is read so far, and then the rest of the group, is the group
 abbrev pub invariant-decode_group-loop-fields : goal.invariant-decode_group-loop-fields
 invariant-decode_group-loop-fields g l = record {
-  read : behind (records_of l.fields.records) (group_records_at l.depth l.budget.unknown l.number (g.B.Buf.unread l.buf)) ≡ group_records_at l.fn.ctx.depth l.fn.ctx.budget.now.unknown l.fn.number (g.B.Buf.unread l.fn.buf);
+  read : group_records_behind (group_records_at (l.depth - 1)) l.number (l.fields.records, l.budget.unknown) (g.B.Buf.unread l.buf) ≡ group_records_at l.fn.ctx.depth l.fn.ctx.budget.now.unknown l.fn.number (g.B.Buf.unread l.fn.buf);
   memory : l.budget.memory ≡ l.fn.ctx.budget.now.memory;
   spent : UnknownsSpent (bytes_read (g.B.Buf.unread l.fn.buf) (g.B.Buf.unread l.buf)) l.fn.ctx.budget.now.unknown l.budget.unknown;
   tail : IsTailOf (g.B.Buf.unread l.buf) (g.B.Buf.unread l.fn.buf);
