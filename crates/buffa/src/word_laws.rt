@@ -176,10 +176,6 @@ pub fn map_words_are_these<V, K, M, A, B, W>()
     ensures records_left { map_fields.records_left ≡ lent.records_left }
     ensures capacity_in { map_fields.capacity_in ≡ lent.capacity_in }
     ensures capacity_left { map_fields.capacity_left ≡ lent.capacity_left }
-    ensures dropping { (map_fields.dropping {K = K} {V = V}) ≡ (merge.dropping {K = K} {V = V}) }
-    ensures keeping { (map_fields.keeping {K = K} {V = V}) ≡ (merge.keeping {K = K} {V = V}) }
-    ensures lending { (map_fields.lending {K = K} {V = V} {X = A}) ≡ (merge.lending {K = K} {V = V} {X = A}) }
-    ensures rules { (map_fields.rules {K = K} {V = V}) ≡ (merge.rules {K = K} {V = V}) }
     ensures state { (map_fields.state {K = K} {V = V}) ≡ (merge.state {K = K} {V = V}) }
     ensures field_slots { (map_fields.field_slots {K = K} {M = M}) ≡ (message_field.field_slots {K = K} {M = M}) }
     ensures mean { (map_fields.mean {K = K} {V = V} {A = A} {B = B}) ≡ (pairs.mean {K = K} {V = V} {A = A} {B = B}) }

@@ -5,8 +5,7 @@ use Rattle.buffa_bytes.specs.declared.error.DecodeError.TheVariants.{OutOfMemory
 use Rattle.buffa_wire.specs.BudgetLeft.{BudgetLeft}
 use Rattle.buffa_map.specs.Codec.{Reading, RefusesValue, Spends, value_at, value_need}
 use Rattle.buffa_map.specs.Laws.{ArePlain}
-use Rattle.buffa_wire.specs.Records.{Datum}
-use Rattle.buffa_map.specs.Merge.{MergesEntry, ReadsRun, RefusesEntry, Rules, State, StopsRun, rules}
+use Rattle.buffa_map.specs.Merge.{MergesEntry, ReadsRun, RefusesEntry, Rules, State, StopsRun}
 use Rattle.buffa_map.specs.Pairs.{SamePairs}
 
 -- two states are one: the maps find the same pairs
@@ -52,11 +51,13 @@ module _ {K V : Type 0} (r : Rules K V) where
 module _ {K V : Type 0} (key : Reading K) (val : Reading V) where
   abbrev pub EntriesArePinned : Type 0
   EntriesArePinned =
-      (same : K → K → Bool) (ordered : Bool) (d n cost extra : ℕ) (adds : ℕ → List ℕ → List (ℕ × Datum)) → EntryIsPinned (rules key val same ordered d n cost extra adds)
+      (same : K → K → Bool) (ordered : Bool) (d n cost : ℕ) (keeps : Bool) →
+      EntryIsPinned (record { key = key; val = val; same = same; keeps_order = ordered; depth = d; number = n; cost = cost; keeps_undeclared = keeps })
 
   abbrev pub RunsArePinned : Type 0
   RunsArePinned =
-      (same : K → K → Bool) (ordered : Bool) (d n cost extra : ℕ) (adds : ℕ → List ℕ → List (ℕ × Datum)) → RunIsPinned (rules key val same ordered d n cost extra adds)
+      (same : K → K → Bool) (ordered : Bool) (d n cost : ℕ) (keeps : Bool) →
+      RunIsPinned (record { key = key; val = val; same = same; keeps_order = ordered; depth = d; number = n; cost = cost; keeps_undeclared = keeps })
 
 -- the payload at the front was merged, and what it costs was spent
 abbrev pub IsPaid : {V : Type 0} → Reading V → ℕ → List ℕ → BudgetLeft → BudgetLeft → Type 0

@@ -11,7 +11,7 @@ use Rattle.buffa_bytes.specs.declared.error.EncodeError.{EncodeError}
 use Rattle.buffa_bytes.specs.declared.error.EncodeError.TheVariants.{GroupRefused, MessageTooLarge, OutOfMemory}
 use Rattle.buffa_map.specs.Codec.{Writing}
 use Rattle.buffa_map.specs.Pairs.{InOrder, ListsOnce, SamePairs}
-use Rattle.buffa_map.specs.Merge.{Rules, StopsRun, state}
+use Rattle.buffa_map.specs.Merge.{Rules, StopsRun, state, unknown_cost}
 use Rattle.buffa_map.specs.Run.{EntryRecord, fold_entries, undeclared, ArePaid, Run, undeclared_records}
 use Rattle.buffa_map.specs.Encoding.{AllHold, HasEncoding, RefusesField, UsesRoomOf, field_encoding}
 use Rattle.buffa_bytes.specs.ErrorText.{decode_error_text, encode_error_text}
@@ -109,7 +109,7 @@ pub record RewritesRun {K V : Type 0} (r : Rules K V) (key : Writing K) (val : W
   pub encoding : written ≡ old ++ out
   pub ordered : r.keeps_order ≡ true → out ≡ field_encoding key val r.number (fold_entries r.same [] entries) ++ records_encoding (undeclared_records r.number entries)
   pub room : before ≤ after + length out
-  pub paid : ArePaid r.key r.val r.depth r.cost r.extra left entries over
+  pub paid : ArePaid r.key r.val r.depth r.cost (unknown_cost r) left entries over
   pub whole : rest ≡ []
 
 -- f is why the bytes were refused; the entries before it stand in the map, and nothing was written
@@ -129,7 +129,7 @@ pub record RefusesEncoding {K V : Type 0} (r : Rules K V) (key : Writing K) (val
   pub walks : Walks walk
   pub encoding : RefusesRewrite key val r.number (undeclared_records r.number entries) old written walk e
   pub room : e ≡ OutOfMemory → before < length (field_encoding key val r.number walk ++ records_encoding (undeclared_records r.number entries))
-  pub paid : ArePaid r.key r.val r.depth r.cost r.extra left entries over
+  pub paid : ArePaid r.key r.val r.depth r.cost (unknown_cost r) left entries over
   pub whole : rest ≡ []
 
 -- P of the fault, if the bytes were refused; and Q of the error, if the writing was

@@ -30,11 +30,6 @@ undeclared (x ∷ xs) = cond x.parts.known (undeclared xs) (x.bytes ∷ undeclar
 abbrev pub undeclared_record : ℕ → List ℕ → Bool → List (ℕ × Datum)
 undeclared_record n e known = cond known [] ((n, bytes e) ∷ [])
 
--- what is added for the undeclared entries, in order: for one of bytes e, `adds n e`
-abbrev pub added : {K V X : Type 0} → (ℕ → List ℕ → List X) → ℕ → List (EntryRecord K V) → List X
-added adds n [] = []
-added adds n (x ∷ xs) = cond x.parts.known [] (adds n x.bytes) ++ added adds n xs
-
 -- the undeclared entries as length-delimited records of number n
 abbrev pub undeclared_records : {K V : Type 0} → ℕ → List (EntryRecord K V) → List (ℕ × Datum)
 undeclared_records n es = map (λ e. (n, bytes e)) (undeclared es)

@@ -9,7 +9,8 @@ use Rattle.buffa_map.specs.Codec.{Reading, Writing}
 use Rattle.buffa_map.specs.Entry.{EntryFault, need_of}
 use Rattle.buffa_map.specs.Enums.{closed_writing}
 use Rattle.buffa_map.specs.Laws.{OneReading}
-use Rattle.buffa_map.specs.Merge.{ReadsRun, State, StopsRun, keeping, state}
+use Rattle.buffa_map.specs.Merge.{ReadsRun, State, StopsRun, state}
+use Rattle.buffa_map.proofs.ReaderRules.{keeping}
 use Rattle.buffa_map.specs.Rewrite.{MatchRefusal, RefusesDecoding, RefusesEncoding, RewritesRun}
 use Rattle.buffa_map.specs.Run.{EntryRecord, ArePaid, RecordFault, Run, RunBegins, inner_needs}
 use Rattle.buffa_map.specs.declared.rewrite.RewriteError.{RewriteError}

@@ -10,7 +10,8 @@ use Rattle.buffa_bytes.specs.declared.error.EncodeError.TheVariants.{MessageTooL
 use Rattle.buffa_wire.specs.BudgetLeft.{BudgetLeft, nothing, units}
 use Rattle.buffa_map.specs.Entry.{need_of}
 use Rattle.buffa_map.specs.Codec.{Reading, Writing}
-use Rattle.buffa_map.specs.Merge.{ReadsRun, Rules, State, StopsRun, dropping, state}
+use Rattle.buffa_map.specs.Merge.{ReadsRun, Rules, State, StopsRun, state, unknown_cost}
+use Rattle.buffa_map.proofs.ReaderRules.{dropping}
 use Rattle.buffa_map.specs.Run.{ArePaid, RecordFault, Run, RunFault, EntryRecord, fold_entries, inner_needs}
 use Rattle.buffa_map.specs.Encoding.{RefusesField, field_encoding}
 use Rattle.buffa_map.specs.Pairs.{InOrder, SamePairs}
@@ -100,4 +101,4 @@ module _ {K V : Type 0} {rules : Rules K V} {old new : State K V} {bytes rest : 
   order_came keeps = r.order keeps ∙ folds
 
   pub cost_came : (all : ℕ) → old.left.memory ≡ all → length l * rules.cost ≤ all
-  cost_came all memory = paid_for rules.key rules.val rules.depth rules.cost rules.extra old.left new.left r.entries all (length l) memory (ap length same ∙ back.many) r.paid
+  cost_came all memory = paid_for rules.key rules.val rules.depth rules.cost (unknown_cost rules) old.left new.left r.entries all (length l) memory (ap length same ∙ back.many) r.paid
