@@ -16,7 +16,7 @@ use Rattle.buffa_bytes.specs.Field.{TakesDelimited}
 use Rattle.buffa_bytes.specs.Front.{delimited_at, tag_at}
 use Rattle.buffa_map.specs.Codec.{Reading, RefusesValue, Spends, value_at, value_need}
 use Rattle.buffa_map.specs.Entry.{EntryFault, inner_need, need_at, need_of, blanks}
-use Rattle.buffa_map.specs.Merge.{HasWholeRecord, RefusesEntry, Rules, State, StopsRun, unknown_cost, kept_of_entry, kept_of_run}
+use Rattle.buffa_map.specs.Merge.{HasWholeRecord, RefusesEntry, Rules, State, RefusesRun, unknown_cost, kept_of_entry, kept_of_run}
 use Rattle.buffa_map.specs.Pairs.{SamePairs}
 use Rattle.buffa_map.specs.Pinned.{SameState, EntryIsPinned, RunIsPinned, ValueIsPinned}
 use Rattle.buffa_map.specs.Run.{EntryRecord, ArePaid, RecordFault, Run, RunFault, fold_entries, inner_needs, record_at, record_need, step, undeclared}
@@ -208,19 +208,19 @@ module _ {K V : Type 0} (r : Rules K V)
     l ∙ ap (λ z. old.records ++ kept_of_run r z) e ∙ sym m,
   )
 
-  pub fault_of : (old : State K V) (bs : List ℕ) (a : State K V) (x : List ℕ) (f : DecodeError) → StopsRun r old bs a x f → f ≢ OutOfMemory → RunFault r.key r.val r.depth r.number r.cost (unknown_cost r) old.left bs f
-  fault_of old bs a x f h ne = (h.entries, h.rest, h.over, h.begins, h.some, h.fault ne)
+  pub fault_of : (old : State K V) (bs : List ℕ) (a : State K V) (x : List ℕ) (f : DecodeError) → RefusesRun r old bs a x f → f ≢ OutOfMemory → RunFault r.key r.val r.depth r.number r.cost (unknown_cost r) old.left bs f
+  fault_of old bs a x f h ne = (h.entries, h.rest, h.left_after, h.begins, h.some, h.fault ne)
 
   module _ (old : State K V) (bs : List ℕ) (a b : State K V) (x y : List ℕ) (f g : DecodeError)
-      (h : StopsRun r old bs a x f) (k : StopsRun r old bs b y g) (ne : f ≢ OutOfMemory) (nf : g ≢ OutOfMemory) where
+      (h : RefusesRun r old bs a x f) (k : RefusesRun r old bs b y g) (ne : f ≢ OutOfMemory) (nf : g ≢ OutOfMemory) where
     stopped_same : (h.entries ≡ k.entries) × (h.rest ≡ k.rest)
-    stopped_same = stop_one r.key r.val r.depth r.number r.cost (unknown_cost r) key_free val_free h.entries k.entries old.left h.over k.over bs h.begins.0 h.rest k.begins.0 k.rest f g
+    stopped_same = stop_one r.key r.val r.depth r.number r.cost (unknown_cost r) key_free val_free h.entries k.entries old.left h.left_after k.left_after bs h.begins.0 h.rest k.begins.0 k.rest f g
         h.begins.1 h.begins.2 h.begins.3 (h.fault ne) k.begins.1 k.begins.2 k.begins.3 (k.fault nf)
 
     stopped_after : SamePairs r.same a.pairs b.pairs × (a.records ≡ b.records)
     stopped_after = after_same old a b h.entries k.entries stopped_same.0 h.folded k.folded h.keeps k.keeps
 
-    one_unread : RecordFault r.key r.val r.depth r.number r.cost (unknown_cost r) h.over h.rest f → x ≡ y
+    one_unread : RecordFault r.key r.val r.depth r.number r.cost (unknown_cost r) h.left_after h.rest f → x ≡ y
     one_unread (inl bad) =
         let is = tag_faulty h.rest f bad in
         let same = stopped_same.1 in
@@ -240,15 +240,15 @@ module _ {K V : Type 0} (r : Rules K V)
         h.unread.past ne m e after is (u, v, split) ∙ sym (k.unread.past nf m e after (ap tag_at (sym stopped_same.1) ∙ is) (u, v, split))
 
     module _ (plain : Plain r.key r.val r.depth) where
-      stopped_over : h.over ≡ k.over
-      stopped_over = one_over r.key r.val r.depth r.number r.cost (unknown_cost r) key_free val_free old.left h.over k.over h.entries k.entries stopped_same.0 h.begins.3 k.begins.3
+      stopped_over : h.left_after ≡ k.left_after
+      stopped_over = one_over r.key r.val r.depth r.number r.cost (unknown_cost r) key_free val_free old.left h.left_after k.left_after h.entries k.entries stopped_same.0 h.begins.3 k.begins.3
 
       stopped_left : a.left ≡ b.left
       stopped_left =
           let none = record_none r.key r.val r.depth r.number r.cost (unknown_cost r) key_free val_free plain h.rest in
           let nil = record_none r.key r.val r.depth r.number r.cost (unknown_cost r) key_free val_free plain k.rest in
           let rest = stopped_same.1 in
-          elim (record_there r.key r.val r.depth r.number r.cost (unknown_cost r) key_free val_free h.over h.rest f (h.fault ne)) [
+          elim (record_there r.key r.val r.depth r.number r.cost (unknown_cost r) key_free val_free h.left_after h.rest f (h.fault ne)) [
             | inl away ↦ h.spent.unspent away ∙ stopped_over ∙ sym (k.spent.unspent (λ z. away (subst (HasWholeRecord r.number) (sym rest) z)))
             | inr (mid, e, after, tag, t) ↦
                 let one = ap (λ (z : BudgetLeft). z.memory) stopped_over in
@@ -256,7 +256,7 @@ module _ {K V : Type 0} (r : Rules K V)
                 let hc = h.spent.charged ne mid e after tag t in
                 let kc = k.spent.charged nf mid e after (subst (λ z. tag_at z ≡ Ok (r.number, LengthDelimited, mid)) rest tag) t in
                 same_left a.left b.left (omega (arith, h.spent.most, k.spent.most, h.spent.no_unknown ne, k.spent.no_unknown nf, two, ap (λ (z : BudgetLeft). z.unknown) none, ap (λ (z : BudgetLeft). z.unknown) nil))
-                (spent_one h.over.memory k.over.memory r.cost (record_need r.key r.val r.depth h.rest).memory (record_need r.key r.val r.depth k.rest).memory a.left.memory b.left.memory one (ap (λ (z : BudgetLeft). z.memory) none) (ap (λ (z : BudgetLeft). z.memory) nil) h.spent.units k.spent.units hc kc)
+                (spent_one h.left_after.memory k.left_after.memory r.cost (record_need r.key r.val r.depth h.rest).memory (record_need r.key r.val r.depth k.rest).memory a.left.memory b.left.memory one (ap (λ (z : BudgetLeft). z.memory) none) (ap (λ (z : BudgetLeft). z.memory) nil) h.spent.units k.spent.units hc kc)
           ]
 
       stopped_one : (f ≡ g) × SameState r a b

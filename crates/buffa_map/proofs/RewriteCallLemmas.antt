@@ -7,7 +7,7 @@ use Rattle.buffa_wire.specs.BudgetLeft.{BudgetLeft}
 use Rattle.buffa_wire.specs.Records.{Datum}
 use Rattle.buffa_wire.specs.Encoding.{records_encoding}
 use Rattle.buffa_map.specs.Codec.{Reading, Writing}
-use Rattle.buffa_map.specs.Merge.{ReadsRun, Rules, State, StopsRun, state}
+use Rattle.buffa_map.specs.Merge.{ReadsRun, Rules, State, RefusesRun, state}
 use Rattle.buffa_map.proofs.ReaderRules.{keeping}
 use Rattle.buffa_map.specs.Pairs.{InOrder}
 use Rattle.buffa_map.specs.Rewrite.{RefusesEncoding, RefusesRewrite, RewritesRun, WritesWalk}
@@ -19,8 +19,8 @@ module _ {K V : Type 0} (r : Rules K V) (cleared : List (K × V)) (records : Lis
   pub anew : (rest : List ℕ) → cleared ≡ [] → ReadsRun r (state cleared records left) bs new rest → ReadsRun r (state [] records left) bs new rest
   anew rest is h = subst (λ z. ReadsRun r (state z records left) bs new rest) is h
 
-  pub anew_stopped : (unread : List ℕ) (f : DecodeError) → cleared ≡ [] → StopsRun r (state cleared records left) bs new unread f → StopsRun r (state [] records left) bs new unread f
-  anew_stopped unread f is h = subst (λ z. StopsRun r (state z records left) bs new unread f) is h
+  pub anew_stopped : (unread : List ℕ) (f : DecodeError) → cleared ≡ [] → RefusesRun r (state cleared records left) bs new unread f → RefusesRun r (state [] records left) bs new unread f
+  anew_stopped unread f is h = subst (λ z. RefusesRun r (state z records left) bs new unread f) is h
 
 module _ {K V : Type 0} (rk : Reading K) (rv : Reading V) (key : Writing K) (val : Writing V) (eq : K → K → Bool) (keeps : Bool) (d n cost : ℕ) (KeyFits : K → Type 0) (ValFits : V → Type 0) (Walks : List (K × V) → Type 0)
     (left over : BudgetLeft) (bs rest : List ℕ) (pairs : List (K × V)) (none kept : List (ℕ × Datum)) (old new : List ℕ) (before after : ℕ)

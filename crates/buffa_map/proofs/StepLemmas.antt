@@ -12,7 +12,7 @@ use Rattle.buffa_bytes.specs.Left.{past_no_tag, past_no_delimited}
 use Rattle.buffa_wire.proofs.SequenceLemmas.{not_nil, ok_no_err}
 use Rattle.buffa_wire.specs.BudgetLeft.{BudgetLeft}
 use Rattle.buffa_bytes.specs.Front.{check_wire, delimited_at, tag_at}
-use Rattle.buffa_map.specs.Merge.{MergesEntry, ReadsRun, RefusesEntry, Rules, State, StopsRun, kept_of_run, unknown_cost}
+use Rattle.buffa_map.specs.Merge.{MergesEntry, ReadsRun, RefusesEntry, Rules, State, RefusesRun, kept_of_run, unknown_cost}
 use Rattle.buffa_map.specs.Pairs.{InOrder, SamePairs}
 use Rattle.buffa_map.specs.Run.{fold_entries, ArePaid, RecordFault, Run, EntryRecord}
 use Rattle.buffa_bytes.proofs.TailLemmas.{tail_more}
@@ -58,11 +58,11 @@ module _ {K V : Type 0} (r : Rules K V) (old : State K V) (bs : List ℕ) where
         × ((mid : List ℕ) → tag_at rest ≡ Ok (r.number, LengthDelimited, mid) → ⊥)
 
     -- the next record is refused before its entry
-    stop_here : (unread : List ℕ) (f : DecodeError) → IsTailOf unread rest → Unread unread → ((x : DecodeError) → tag_at rest ≡ Err x → unread ≡ past_no_tag rest) → 0 < length rest → (f ≡ OutOfMemory → ⊥) → (f ≢ OutOfMemory → RecordFault r.key r.val r.depth r.number r.cost (unknown_cost r) now.left rest f) → StopsRun r old bs now unread f
+    stop_here : (unread : List ℕ) (f : DecodeError) → IsTailOf unread rest → Unread unread → ((x : DecodeError) → tag_at rest ≡ Err x → unread ≡ past_no_tag rest) → 0 < length rest → (f ≡ OutOfMemory → ⊥) → (f ≢ OutOfMemory → RecordFault r.key r.val r.depth r.number r.cost (unknown_cost r) now.left rest f) → RefusesRun r old bs now unread f
     stop_here unread f tail past short more full fault = record {
       entries = h.entries;
       rest = rest;
-      over = now.left;
+      left_after = now.left;
       begins = (h.front, h.split, h.run, h.paid);
       folded = h.folded;
       order = h.order;
@@ -88,20 +88,20 @@ module _ {K V : Type 0} (r : Rules K V) (old : State K V) (bs : List ℕ) where
       };
     }
 
-    pub stop_tag : (unread : List ℕ) (f : DecodeError) → IsTailOf unread rest → unread ≡ past_no_tag rest → 0 < length rest → tag_at rest ≡ Err f → StopsRun r old bs now unread f
+    pub stop_tag : (unread : List ℕ) (f : DecodeError) → IsTailOf unread rest → unread ≡ past_no_tag rest → 0 < length rest → tag_at rest ≡ Err f → RefusesRun r old bs now unread f
     stop_tag unread f tail left more is = stop_here unread f tail (λ g w mid k. no_tag rest f is g w mid k, λ mid k. no_tag rest f is r.number LengthDelimited mid k) (λ x no. left) more (tag_no_full rest f is) (λ ne. record_tag r.key r.val r.depth r.number r.cost (unknown_cost r) now.left rest f is)
 
     module _ (mid : List ℕ) (g : ℕ) (w : WireType) (more : 0 < length rest) (tag : tag_at rest ≡ Ok (g, w, mid)) where
-      pub stop_other : g ≢ r.number → StopsRun r old bs now mid (UnexpectedField g)
+      pub stop_other : g ≢ r.number → RefusesRun r old bs now mid (UnexpectedField g)
       stop_other other = stop_here mid (UnexpectedField g) (tag_tail rest mid g w tag) (λ h v m k _. one_after rest mid m g h w v tag k, λ m k. other (one_number rest mid m g r.number w LengthDelimited tag k)) (λ x no. absurd (ok_no_err (sym tag ∙ no))) more (λ out. cc) (λ ne. record_other r.key r.val r.depth r.number r.cost (unknown_cost r) now.left rest mid g w tag other)
 
-      pub stop_mismatch : (f : DecodeError) → g ≡ r.number → check_wire g LengthDelimited w ≡ Err f → StopsRun r old bs now mid f
+      pub stop_mismatch : (f : DecodeError) → g ≡ r.number → check_wire g LengthDelimited w ≡ Err f → RefusesRun r old bs now mid f
       stop_mismatch f same is =
           let differs = (checked_other g LengthDelimited w f is).0 in
           stop_here mid f (tag_tail rest mid g w tag) (λ h v m k _. one_after rest mid m g h w v tag k, λ m k. differs (one_wire rest mid m g r.number w LengthDelimited tag k)) (λ x no. absurd (ok_no_err (sym tag ∙ no))) more (other_not_full g LengthDelimited w f is) (λ ne. record_mismatch r.key r.val r.depth r.number r.cost (unknown_cost r) now.left rest mid g w f tag same is)
 
       module _ (same : g ≡ r.number) (wire : check_wire g LengthDelimited w ≡ Ok tt) where
-        pub stop_entry : (new : State K V) (unread : List ℕ) (f : DecodeError) → RefusesEntry r now mid new unread f → StopsRun r old bs new unread f
+        pub stop_entry : (new : State K V) (unread : List ℕ) (f : DecodeError) → RefusesEntry r now mid new unread f → RefusesRun r old bs new unread f
         stop_entry new unread f k =
             let is_wire : w ≡ LengthDelimited = checked_same g LengthDelimited w wire in
             let found = tag_at_as rest mid g r.number w LengthDelimited tag same is_wire in
@@ -111,7 +111,7 @@ module _ {K V : Type 0} (r : Rules K V) (old : State K V) (bs : List ℕ) where
             record {
               entries = h.entries;
               rest = rest;
-              over = now.left;
+              left_after = now.left;
               begins = (h.front, h.split, h.run, h.paid);
               folded = rw k.pairs h.folded;
               order = rw k.pairs h.order;

@@ -85,15 +85,15 @@ pub record LeavesEntry (bytes : List ℕ) (f : DecodeError) (unread : List ℕ) 
 -- What a refused entry spends of a budget: at most its cost, the unknown field that keeping it takes and what the
 -- messages in it cost. The cost is gone where the entry was there and had a fault; the unknown field is not, where f is
 -- a fault; nothing is, where no length and so many bytes were there.
-pub record SpendsOnEntry {K V : Type 0} (r : Rules K V) (left : BudgetLeft) (bytes : List ℕ) (f : DecodeError) (over : BudgetLeft) : Type 0 where
-  pub units : (over.memory ≡ left.memory)
-      ⊎ ((over.memory + r.cost ≤ left.memory)
-      × (left.memory ≤ over.memory + (r.cost + (inner_need r.key r.val r.depth bytes).memory)))
-  pub charged : f ≢ OutOfMemory → (e rest : List ℕ) → TakesDelimited bytes e rest → r.cost ≤ left.memory → over.memory + r.cost ≤ left.memory
-  pub unspent : (IsOk (delimited_at bytes) → ⊥) → over ≡ left
-  pub most : over.unknown ≤ left.unknown
-  pub least : left.unknown ≤ over.unknown + (unknown_cost r + (inner_need r.key r.val r.depth bytes).unknown)
-  pub no_unknown : f ≢ OutOfMemory → left.unknown ≤ over.unknown + (inner_need r.key r.val r.depth bytes).unknown
+pub record SpendsOnEntry {K V : Type 0} (r : Rules K V) (left : BudgetLeft) (bytes : List ℕ) (f : DecodeError) (left_after : BudgetLeft) : Type 0 where
+  pub units : (left_after.memory ≡ left.memory)
+      ⊎ ((left_after.memory + r.cost ≤ left.memory)
+      × (left.memory ≤ left_after.memory + (r.cost + (inner_need r.key r.val r.depth bytes).memory)))
+  pub charged : f ≢ OutOfMemory → (e rest : List ℕ) → TakesDelimited bytes e rest → r.cost ≤ left.memory → left_after.memory + r.cost ≤ left.memory
+  pub unspent : (IsOk (delimited_at bytes) → ⊥) → left_after ≡ left
+  pub most : left_after.unknown ≤ left.unknown
+  pub least : left.unknown ≤ left_after.unknown + (unknown_cost r + (inner_need r.key r.val r.depth bytes).unknown)
+  pub no_unknown : f ≢ OutOfMemory → left.unknown ≤ left_after.unknown + (inner_need r.key r.val r.depth bytes).unknown
 
 -- The entry at the front was refused, and f is why: its first fault; or memory ran out, which it does only where merging
 -- the entry takes memory. Map and records stand.
@@ -138,29 +138,29 @@ pub record LeavesRecord (n : ℕ) (bytes : List ℕ) (f : DecodeError) (unread :
   pub past_no_delimited : (mid : List ℕ) (x : DecodeError) → tag_at bytes ≡ Ok (n, LengthDelimited, mid) → delimited_at mid ≡ Err x → unread ≡ past_no_delimited mid
 
 -- What a refused record spends of a budget: what its entry does, and nothing where no record of the number was there.
-pub record SpendsOnRecord {K V : Type 0} (r : Rules K V) (left : BudgetLeft) (bytes : List ℕ) (f : DecodeError) (over : BudgetLeft) : Type 0 where
-  pub units : (over.memory ≡ left.memory)
-      ⊎ ((over.memory + r.cost ≤ left.memory)
-      × (left.memory ≤ over.memory + (r.cost + (record_need r.key r.val r.depth bytes).memory)))
-  pub charged : f ≢ OutOfMemory → (mid e after : List ℕ) → tag_at bytes ≡ Ok (r.number, LengthDelimited, mid) → TakesDelimited mid e after → r.cost ≤ left.memory → over.memory + r.cost ≤ left.memory
-  pub unspent : (HasWholeRecord r.number bytes → ⊥) → over ≡ left
-  pub most : over.unknown ≤ left.unknown
-  pub one_unknown : left.unknown ≤ over.unknown + (unknown_cost r + (record_need r.key r.val r.depth bytes).unknown)
-  pub no_unknown : f ≢ OutOfMemory → left.unknown ≤ over.unknown + (record_need r.key r.val r.depth bytes).unknown
+pub record SpendsOnRecord {K V : Type 0} (r : Rules K V) (left : BudgetLeft) (bytes : List ℕ) (f : DecodeError) (left_after : BudgetLeft) : Type 0 where
+  pub units : (left_after.memory ≡ left.memory)
+      ⊎ ((left_after.memory + r.cost ≤ left.memory)
+      × (left.memory ≤ left_after.memory + (r.cost + (record_need r.key r.val r.depth bytes).memory)))
+  pub charged : f ≢ OutOfMemory → (mid e after : List ℕ) → tag_at bytes ≡ Ok (r.number, LengthDelimited, mid) → TakesDelimited mid e after → r.cost ≤ left.memory → left_after.memory + r.cost ≤ left.memory
+  pub unspent : (HasWholeRecord r.number bytes → ⊥) → left_after ≡ left
+  pub most : left_after.unknown ≤ left.unknown
+  pub one_unknown : left.unknown ≤ left_after.unknown + (unknown_cost r + (record_need r.key r.val r.depth bytes).unknown)
+  pub no_unknown : f ≢ OutOfMemory → left.unknown ≤ left_after.unknown + (record_need r.key r.val r.depth bytes).unknown
 
 -- The records of some entries begin the bytes, and were read: they are folded over the old map, kept, and paid. What
 -- follows them was refused, and f is why: the record's first fault; or memory ran out, which it does only where merging
 -- the entry of a record takes memory.
-pub record StopsRun {K V : Type 0} (r : Rules K V) (old : State K V) (bytes : List ℕ) (new : State K V) (tail : List ℕ) (f : DecodeError) : Type 0 where
+pub record RefusesRun {K V : Type 0} (r : Rules K V) (old : State K V) (bytes : List ℕ) (new : State K V) (tail : List ℕ) (f : DecodeError) : Type 0 where
   pub entries : List (EntryRecord K V)
   pub rest : List ℕ
-  pub over : BudgetLeft
-  pub begins : RunBegins r.key r.val r.depth r.number r.cost (unknown_cost r) old.left bytes entries rest over
+  pub left_after : BudgetLeft
+  pub begins : RunBegins r.key r.val r.depth r.number r.cost (unknown_cost r) old.left bytes entries rest left_after
   pub some : rest ≢ []
   pub folded : SamePairs r.same (fold_entries r.same old.pairs entries) new.pairs
   pub order : InOrder r.keeps_order (fold_entries r.same old.pairs entries) new.pairs
   pub keeps : new.records ≡ old.records ++ kept_of_run r entries
-  pub fault : f ≢ OutOfMemory → RecordFault r.key r.val r.depth r.number r.cost (unknown_cost r) over rest f
-  pub memory : f ≡ OutOfMemory → (mid : List ℕ) × (tag_at rest ≡ Ok (r.number, LengthDelimited, mid)) × EntryTakesMemory r over mid f
+  pub fault : f ≢ OutOfMemory → RecordFault r.key r.val r.depth r.number r.cost (unknown_cost r) left_after rest f
+  pub memory : f ≡ OutOfMemory → (mid : List ℕ) × (tag_at rest ≡ Ok (r.number, LengthDelimited, mid)) × EntryTakesMemory r left_after mid f
   pub unread : LeavesRecord r.number rest f tail
-  pub spent : SpendsOnRecord r over rest f new.left
+  pub spent : SpendsOnRecord r left_after rest f new.left

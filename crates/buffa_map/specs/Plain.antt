@@ -12,12 +12,12 @@ use Rattle.buffa_map.specs.declared.map_entry.MapEntry.{MapEntry}
 
 -- f is the first fault: of the length; of the units; of the fields; of the unknown fields left
 abbrev pub PlainFault : {K V : Type 0} → Reading K → Reading V → ℕ → ℕ → ℕ → BudgetLeft → List ℕ → DecodeError → Type 0
-PlainFault {K} {V} key val d cost extra left bs f =
+PlainFault {K} {V} key val d cost unknown_cost left bs f =
     LengthFault bs f
     ⊎ ((t : List ℕ) × (e : List ℕ) × (rest : List ℕ) × IsVarint t (length e) × (bs ≡ t ++ (e ++ rest))
     × (((left.memory < cost) × (f ≡ ElementMemoryLimitExceeded))
     ⊎ ((cost ≤ left.memory) × (FaultOf key val d e f
-    ⊎ ((s : MapEntry K V) × IsEntry key val d e s × (s.known ≡ false) × (left.unknown < extra) × (f ≡ UnknownFieldLimitExceeded))))))
+    ⊎ ((s : MapEntry K V) × IsEntry key val d e s × (s.known ≡ false) × (left.unknown < unknown_cost) × (f ≡ UnknownFieldLimitExceeded))))))
 
 module _ {K V : Type 0} (r : Rules K V) (old : State K V) (bytes : List ℕ) where
   -- a merged entry spends its cost, and its unknown fields where its value is undeclared

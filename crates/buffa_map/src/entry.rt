@@ -4,8 +4,8 @@ ghost use Rattle.std.specs.Prelude.{◌≡◌, ◌+◌, ◌<◌, ◌≤◌, [], 
 ghost use Rattle.buffa_bytes.specs.declared.error.DecodeError.TheVariants.{ElementMemoryLimitExceeded, OutOfMemory};
 ghost use Rattle.buffa_wire.specs.BudgetLeft.{budget_left};
 ghost use Rattle.buffa_map.specs.Entry.{meant_entry};
-ghost use Rattle.buffa_map.specs.Lent.{lent_records, records_left, capacity_in, capacity_left};
-ghost use Rattle.buffa_map.specs.Merge.{MergesEntry, MergesWhole, RefusesEntry, RefusesWhole, state};
+ghost use Rattle.buffa_map.specs.Lent.{records_before, records_after, capacity_before, capacity_after};
+ghost use Rattle.buffa_map.specs.Merge.{MergesEntry, MergesWhole, RefusesEntry, RefusesWhole, Rules, state};
 ghost use Rattle.buffa_map.specs.Pairs.{InOrder, SamePairs, put};
 ghost use Rattle.buffa_map.specs.Parts.{ReadsCut, ReadsParts, RefusesCut, RefusesParts};
 
@@ -111,7 +111,7 @@ fn merge_whole<
     keeper: &mut L,
 ) -> Result<(), DecodeError>
     requires { W.may how.now ctx.depth }
-    ensures ok { OnOk result (MergesWhole (record {
+    ensures ok { let rules : Rules _ _ = record {
       key = KC.reading;
       val = W.reading;
       same = C.equal;
@@ -120,9 +120,10 @@ fn merge_whole<
       number = number;
       cost = KC.COST + W.COST;
       keeps_undeclared = L.KEEPS;
-    }) (state (C.pairs map.old) (L.records keeper.old) ctx.entry.budget.now) entry.now
+    } in OnOk result (MergesWhole rules
+        (state (C.pairs map.old) (L.records keeper.old) ctx.entry.budget.now) entry.now
         (state (C.pairs map.new) (L.records keeper.new) (budget_left ctx.exit))) }
-    ensures err { IfErr result (RefusesWhole (record {
+    ensures err { let rules : Rules _ _ = record {
       key = KC.reading;
       val = W.reading;
       same = C.equal;
@@ -131,7 +132,8 @@ fn merge_whole<
       number = number;
       cost = KC.COST + W.COST;
       keeps_undeclared = L.KEEPS;
-    }) (state (C.pairs map.old) (L.records keeper.old) ctx.entry.budget.now) entry.now
+    } in IfErr result (RefusesWhole rules
+        (state (C.pairs map.old) (L.records keeper.old) ctx.entry.budget.now) entry.now
         (state (C.pairs map.new) (L.records keeper.new) (budget_left ctx.exit))) }
     ensures room { L.room keeper.old ≤ L.room keeper.new }
 {
@@ -166,7 +168,7 @@ pub(crate) fn merge_entry_by<
     keeper: &mut L,
 ) -> Result<(), DecodeError>
     requires { W.may how.now ctx.depth }
-    ensures ok { OnOk result (MergesEntry (record {
+    ensures ok { let rules : Rules _ _ = record {
       key = KC.reading;
       val = W.reading;
       same = C.equal;
@@ -175,9 +177,10 @@ pub(crate) fn merge_entry_by<
       number = number;
       cost = KC.COST + W.COST;
       keeps_undeclared = L.KEEPS;
-    }) (state (C.pairs map.old) (L.records keeper.old) ctx.entry.budget.now) (B.unread buf.old)
+    } in OnOk result (MergesEntry rules
+        (state (C.pairs map.old) (L.records keeper.old) ctx.entry.budget.now) (B.unread buf.old)
         (state (C.pairs map.new) (L.records keeper.new) (budget_left ctx.exit)) (B.unread buf.new)) }
-    ensures err { IfErr result (RefusesEntry (record {
+    ensures err { let rules : Rules _ _ = record {
       key = KC.reading;
       val = W.reading;
       same = C.equal;
@@ -186,7 +189,8 @@ pub(crate) fn merge_entry_by<
       number = number;
       cost = KC.COST + W.COST;
       keeps_undeclared = L.KEEPS;
-    }) (state (C.pairs map.old) (L.records keeper.old) ctx.entry.budget.now) (B.unread buf.old)
+    } in IfErr result (RefusesEntry rules
+        (state (C.pairs map.old) (L.records keeper.old) ctx.entry.budget.now) (B.unread buf.old)
         (state (C.pairs map.new) (L.records keeper.new) (budget_left ctx.exit)) (B.unread buf.new)) }
     ensures room { L.room keeper.old ≤ L.room keeper.new }
     ensures kept { B.beyond buf.new ≡ B.beyond buf.old }
@@ -231,7 +235,7 @@ pub fn merge_entry<
     C: MapStorage<Key = KC::Value, Value = VC::Value>,
     B: Buf,
 >(alloc: Global, map: &mut C, buf: &mut B, ctx: DecodeContext<'_>) -> Result<(), DecodeError>
-    ensures ok { OnOk result (MergesEntry (record {
+    ensures ok { let rules : Rules _ _ = record {
       key = KC.reading;
       val = VC.reading;
       same = C.equal;
@@ -240,9 +244,10 @@ pub fn merge_entry<
       number = 0;
       cost = KC.COST + VC.COST;
       keeps_undeclared = false;
-    }) (state (C.pairs map.old) [] ctx.entry.budget.now) (B.unread buf.old)
+    } in OnOk result (MergesEntry rules
+        (state (C.pairs map.old) [] ctx.entry.budget.now) (B.unread buf.old)
         (state (C.pairs map.new) [] (budget_left ctx.exit)) (B.unread buf.new)) }
-    ensures err { IfErr result (RefusesEntry (record {
+    ensures err { let rules : Rules _ _ = record {
       key = KC.reading;
       val = VC.reading;
       same = C.equal;
@@ -251,7 +256,8 @@ pub fn merge_entry<
       number = 0;
       cost = KC.COST + VC.COST;
       keeps_undeclared = false;
-    }) (state (C.pairs map.old) [] ctx.entry.budget.now) (B.unread buf.old)
+    } in IfErr result (RefusesEntry rules
+        (state (C.pairs map.old) [] ctx.entry.budget.now) (B.unread buf.old)
         (state (C.pairs map.new) [] (budget_left ctx.exit)) (B.unread buf.new)) }
     ensures kept { B.beyond buf.new ≡ B.beyond buf.old }
 {
@@ -294,7 +300,7 @@ pub fn merge_entry_with_unknowns<
     number: u32,
     unknown: Option<&mut UnknownFields>,
 ) -> Result<(), DecodeError>
-    ensures ok { OnOk result (MergesEntry (record {
+    ensures ok { let rules : Rules _ _ = record {
       key = KC.reading;
       val = VC.reading;
       same = C.equal;
@@ -303,9 +309,10 @@ pub fn merge_entry_with_unknowns<
       number = number;
       cost = KC.COST + VC.COST;
       keeps_undeclared = is_some unknown.entry;
-    }) (state (C.pairs map.old) (lent_records unknown.entry) ctx.entry.budget.now) (B.unread buf.old)
-        (state (C.pairs map.new) (records_left unknown.exit) (budget_left ctx.exit)) (B.unread buf.new)) }
-    ensures err { IfErr result (RefusesEntry (record {
+    } in OnOk result (MergesEntry rules
+        (state (C.pairs map.old) (records_before unknown.entry) ctx.entry.budget.now) (B.unread buf.old)
+        (state (C.pairs map.new) (records_after unknown.exit) (budget_left ctx.exit)) (B.unread buf.new)) }
+    ensures err { let rules : Rules _ _ = record {
       key = KC.reading;
       val = VC.reading;
       same = C.equal;
@@ -314,9 +321,10 @@ pub fn merge_entry_with_unknowns<
       number = number;
       cost = KC.COST + VC.COST;
       keeps_undeclared = is_some unknown.entry;
-    }) (state (C.pairs map.old) (lent_records unknown.entry) ctx.entry.budget.now) (B.unread buf.old)
-        (state (C.pairs map.new) (records_left unknown.exit) (budget_left ctx.exit)) (B.unread buf.new)) }
-    ensures room { capacity_in unknown.entry ≤ capacity_left unknown.exit }
+    } in IfErr result (RefusesEntry rules
+        (state (C.pairs map.old) (records_before unknown.entry) ctx.entry.budget.now) (B.unread buf.old)
+        (state (C.pairs map.new) (records_after unknown.exit) (budget_left ctx.exit)) (B.unread buf.new)) }
+    ensures room { capacity_before unknown.entry ≤ capacity_after unknown.exit }
     ensures kept { B.beyond buf.new ≡ B.beyond buf.old }
 {
     let how = ByCodec::<VC>::new();

@@ -8,7 +8,7 @@ ghost use Rattle.buffa_wire.specs.BudgetLeft.{PaysAtMost, budget_left};
 ghost use Rattle.buffa_wire.specs.Message.{MergesBytes, MergesInside, MessageFault, cost_of_payload};
 ghost use Rattle.buffa_map.specs.Calls.{MergesMessages};
 ghost use Rattle.buffa_map.specs.Codec.{RefusesValue, Spends, ReadingTakesMemory, value_at, value_need};
-ghost use Rattle.buffa_map.specs.Merge.{MergesEntry, RefusesEntry, state};
+ghost use Rattle.buffa_map.specs.Merge.{MergesEntry, RefusesEntry, Rules, state};
 ghost use Rattle.buffa_map.specs.Message.{message_reading};
 
 use crate::codec::MapCodec;
@@ -133,7 +133,7 @@ pub fn merge_message_entry_by<
 ) -> Result<(), DecodeError>
     requires may { (x : _) (b : _) (d : _) (w : _) → d + 1 ≡ ctx.depth → F.pre merge x b d w }
     requires keeps { MergesMessages (F.post merge) M.meaning M.merged M.cost ctx.depth }
-    ensures ok { OnOk result (MergesEntry (record {
+    ensures ok { let rules : Rules _ _ = record {
       key = KC.reading;
       val = message_reading M.blank_is M.merged M.cost;
       same = C.equal;
@@ -142,9 +142,10 @@ pub fn merge_message_entry_by<
       number = 0;
       cost = KC.COST + M.COST;
       keeps_undeclared = false;
-    }) (state (C.pairs map.old) [] ctx.entry.budget.now) (B.unread buf.old)
+    } in OnOk result (MergesEntry rules
+        (state (C.pairs map.old) [] ctx.entry.budget.now) (B.unread buf.old)
         (state (C.pairs map.new) [] (budget_left ctx.exit)) (B.unread buf.new)) }
-    ensures err { IfErr result (RefusesEntry (record {
+    ensures err { let rules : Rules _ _ = record {
       key = KC.reading;
       val = message_reading M.blank_is M.merged M.cost;
       same = C.equal;
@@ -153,7 +154,8 @@ pub fn merge_message_entry_by<
       number = 0;
       cost = KC.COST + M.COST;
       keeps_undeclared = false;
-    }) (state (C.pairs map.old) [] ctx.entry.budget.now) (B.unread buf.old)
+    } in IfErr result (RefusesEntry rules
+        (state (C.pairs map.old) [] ctx.entry.budget.now) (B.unread buf.old)
         (state (C.pairs map.new) [] (budget_left ctx.exit)) (B.unread buf.new)) }
     ensures kept { B.beyond buf.new ≡ B.beyond buf.old }
 {

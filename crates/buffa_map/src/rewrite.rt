@@ -3,7 +3,7 @@
 ghost use Rattle.std.specs.Prelude.{◌≡◌, ◌+◌, [], IfErr, OnOk, true};
 ghost use Rattle.buffa_bytes.specs.Number.{IsNumber};
 ghost use Rattle.buffa_wire.specs.BudgetLeft.{budget_left};
-ghost use Rattle.buffa_map.specs.Merge.{ReadsRun, Rules, StopsRun, state};
+ghost use Rattle.buffa_map.specs.Merge.{ReadsRun, RefusesRun, Rules, state};
 ghost use Rattle.buffa_map.specs.Rewrite.{MatchRefusal, RefusesDecoding, RefusesEncoding, RewritesRun, WritesWalk, rewrite_error_text};
 
 use crate::codec::MapCodec;
@@ -54,7 +54,7 @@ fn read_anew<KC: MapCodec, VC: MapCodec, C: MapStorage<Key = KC::Value, Value = 
     ctx: DecodeContext<'_>,
     aside: &mut UnknownFields,
 ) -> Result<(), DecodeError>
-    ensures ok { OnOk result (ReadsRun (record {
+    ensures ok { let rules : Rules _ _ = record {
       key = KC.reading;
       val = VC.reading;
       same = C.equal;
@@ -63,9 +63,10 @@ fn read_anew<KC: MapCodec, VC: MapCodec, C: MapStorage<Key = KC::Value, Value = 
       number = number;
       cost = KC.COST + VC.COST;
       keeps_undeclared = true;
-    }) (state [] aside.old.records ctx.entry.budget.now) (B.unread buf.old)
+    } in OnOk result (ReadsRun rules
+        (state [] aside.old.records ctx.entry.budget.now) (B.unread buf.old)
         (state (C.pairs map.new) aside.new.records (budget_left ctx.exit)) (B.unread buf.new)) }
-    ensures err { IfErr result (StopsRun (record {
+    ensures err { let rules : Rules _ _ = record {
       key = KC.reading;
       val = VC.reading;
       same = C.equal;
@@ -74,7 +75,8 @@ fn read_anew<KC: MapCodec, VC: MapCodec, C: MapStorage<Key = KC::Value, Value = 
       number = number;
       cost = KC.COST + VC.COST;
       keeps_undeclared = true;
-    }) (state [] aside.old.records ctx.entry.budget.now) (B.unread buf.old)
+    } in IfErr result (RefusesRun rules
+        (state [] aside.old.records ctx.entry.budget.now) (B.unread buf.old)
         (state (C.pairs map.new) aside.new.records (budget_left ctx.exit)) (B.unread buf.new)) }
     ensures kept { B.beyond buf.new ≡ B.beyond buf.old }
 {

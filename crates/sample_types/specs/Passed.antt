@@ -7,7 +7,7 @@ use Rattle.buffa_wire.specs.Enums.{Numbers}
 use Rattle.buffa_wire.specs.Records.{Held}
 use Rattle.buffa_map.specs.Codec.{Reading, Writing}
 use Rattle.buffa_map.specs.Enums.{ClosedFits, closed_reading, closed_writing}
-use Rattle.buffa_map.specs.Merge.{ReadsRun, Rules, StopsRun, state}
+use Rattle.buffa_map.specs.Merge.{ReadsRun, Rules, RefusesRun, state}
 use Rattle.buffa_map.specs.Pairs.{SamePairs}
 use Rattle.buffa_map.specs.Rewrite.{MatchRefusal, Ordered, RefusesDecoding, RefusesEncoding, RewritesRun}
 use Rattle.buffa_map.specs.Run.{EntryRecord, Run, fold_entries, undeclared_records}
@@ -102,5 +102,5 @@ module _ {K : Type 0} (p : Proxy K) (KeyFits : K → Type 0) (d n : ℕ) (bytes 
     pub unread : List ℕ
     pub run : IsRun
     pub rewritten : IsRewrittenByOlder filled out
-    pub stops : StopsRun (p.newer d n) (state old before.records defaults) out (state new after.records over) unread f
+    pub stops : RefusesRun (p.newer d n) (state old before.records defaults) out (state new after.records over) unread f
     pub short : IsShortage f

@@ -8,7 +8,7 @@ use Rattle.buffa_bytes.specs.declared.error.EncodeError.TheVariants as encode
 use Rattle.buffa_map.specs.Codec.{Writing}
 use Rattle.buffa_map.specs.Scalars.{number_reading, text_reading, varint_writing}
 use Rattle.buffa_map.specs.Pairs.{InOrder, ListsOnce}
-use Rattle.buffa_map.specs.Merge.{Rules, StopsRun, state}
+use Rattle.buffa_map.specs.Merge.{Rules, RefusesRun, state}
 use Rattle.buffa_map.specs.Encoding.{HasEncoding, entry_encoding, field_encoding}
 use Rattle.buffa_bytes.specs.declared.error.DecodeError.{DecodeError}
 use Rattle.buffa_wire.specs.BudgetLeft.{BudgetLeft, units}
@@ -57,7 +57,7 @@ IfNotReadBack (Decode f) Q = Q f
 abbrev pub StopsInField : {K V : Type 0} → Rules K V → Writing K → Writing V → (List (K × V) → Type 0) → BudgetLeft → List (K × V) → DecodeError → Type 0
 StopsInField {K} {V} r key val Walk left pairs f =
     (l : List (K × V)) × Walk l × (over : BudgetLeft) × (unread : List ℕ)
-    × StopsRun r (state [] [] left) (field_encoding key val r.number l) (state pairs [] over) unread f
+    × RefusesRun r (state [] [] left) (field_encoding key val r.number l) (state pairs [] over) unread f
 
 -- the same, where the map was written, from the units that a budget starts with
 abbrev pub StopsTrip : {K V : Type 0} → Rules K V → Writing K → Writing V → (List (K × V) → Type 0) → List (K × V) → TripFault → Type 0
