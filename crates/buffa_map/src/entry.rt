@@ -10,7 +10,7 @@ ghost use Rattle.buffa_map.specs.Pairs.{InOrder, SamePairs, put};
 ghost use Rattle.buffa_map.specs.Parts.{ReadsCut, ReadsParts, RefusesCut, RefusesParts};
 
 use crate::codec::{MapCodec, MapValueDecode};
-use crate::fields::merge_fields;
+use crate::entry_fields::merge_fields;
 use crate::keep::{Dropped, Keeper};
 use crate::map_entry::MapEntry;
 use crate::merge_value::{ByCodec, MergeValue};
