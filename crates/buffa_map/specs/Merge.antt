@@ -26,9 +26,9 @@ pub record State (K V : Type 0) : Type 0 where
 abbrev pub state : {K V : Type 0} → List (K × V) → List (ℕ × Datum) → BudgetLeft → State K V
 state pairs records left = record { pairs = pairs; records = records; left = left }
 
--- How entries are read: how a key is and a value, which keys are the same, whether the map keeps the order in which keys
--- came, how deep groups and messages may nest, of which number the field is, how many units of element memory an entry
--- costs; and whether one with an undeclared value is kept, as a record, or dropped.
+-- By which rules entries are read: how a key is read, and how a value; which keys are the same; whether the map keeps the
+-- order in which keys came; how deep groups and messages may nest; the field's number; how many units of element memory
+-- an entry costs; and whether one with an undeclared value is kept, as a record, or dropped.
 pub record Rules (K V : Type 0) : Type 0 where
   pub key : Reading K
   pub val : Reading V
