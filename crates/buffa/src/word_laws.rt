@@ -151,7 +151,7 @@ pub fn map_relations_are_these<K, V, M, T, A, W>()
     ensures merges_entry { AreAlike5 (map_fields.MergesEntry {K = K} {V = V}) (merge.MergesEntry {K = K} {V = V}) }
     ensures refuses_entry { AreAlike6 (map_fields.RefusesEntry {K = K} {V = V}) (merge.RefusesEntry {K = K} {V = V}) }
     ensures reads_run { AreAlike5 (map_fields.ReadsRun {K = K} {V = V}) (merge.ReadsRun {K = K} {V = V}) }
-    ensures stops_run { AreAlike6 (map_fields.StopsRun {K = K} {V = V}) (merge.StopsRun {K = K} {V = V}) }
+    ensures stops_run { AreAlike6 (map_fields.RefusesRun {K = K} {V = V}) (merge.RefusesRun {K = K} {V = V}) }
     ensures always_declared { AreAlike1 (map_fields.AlwaysDeclared {V = V}) (codec.AlwaysDeclared {V = V}) }
     ensures holds_nothing { AreAlike3 (map_fields.HoldsNothing {V = V}) (codec.HoldsNothing {V = V}) }
     ensures is_whole { AreAlike3 (map_fields.IsWhole {V = V}) (codec.IsWhole {V = V}) }
@@ -172,14 +172,10 @@ pub fn map_words_are_these<V, K, M, A, B, W>()
     ensures is_known { map_fields.is_known ≡ codec.is_known }
     ensures level { map_fields.level ≡ codec.level }
     ensures value_at { (map_fields.value_at {V = V}) ≡ (codec.value_at {V = V}) }
-    ensures lent_records { map_fields.lent_records ≡ lent.lent_records }
-    ensures records_left { map_fields.records_left ≡ lent.records_left }
-    ensures capacity_in { map_fields.capacity_in ≡ lent.capacity_in }
-    ensures capacity_left { map_fields.capacity_left ≡ lent.capacity_left }
-    ensures dropping { (map_fields.dropping {K = K} {V = V}) ≡ (merge.dropping {K = K} {V = V}) }
-    ensures keeping { (map_fields.keeping {K = K} {V = V}) ≡ (merge.keeping {K = K} {V = V}) }
-    ensures lending { (map_fields.lending {K = K} {V = V} {X = A}) ≡ (merge.lending {K = K} {V = V} {X = A}) }
-    ensures rules { (map_fields.rules {K = K} {V = V}) ≡ (merge.rules {K = K} {V = V}) }
+    ensures records_before { map_fields.records_before ≡ lent.records_before }
+    ensures records_after { map_fields.records_after ≡ lent.records_after }
+    ensures capacity_before { map_fields.capacity_before ≡ lent.capacity_before }
+    ensures capacity_after { map_fields.capacity_after ≡ lent.capacity_after }
     ensures state { (map_fields.state {K = K} {V = V}) ≡ (merge.state {K = K} {V = V}) }
     ensures field_slots { (map_fields.field_slots {K = K} {M = M}) ≡ (message_field.field_slots {K = K} {M = M}) }
     ensures mean { (map_fields.mean {K = K} {V = V} {A = A} {B = B}) ≡ (pairs.mean {K = K} {V = V} {A = A} {B = B}) }

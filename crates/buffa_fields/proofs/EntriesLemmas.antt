@@ -17,7 +17,7 @@ use Rattle.buffa_map.proofs.EntryLemmas.{entry_complete, entry_faulty}
 use Rattle.buffa_map.specs.Codec.{Reading}
 use Rattle.buffa_map.specs.Entry.{EntryFault, FaultOf, IsEntry, inner_need, need_of}
 use Rattle.buffa_map.specs.Laws.{LimitsAreTrue}
-use Rattle.buffa_map.specs.Merge.{MergesEntry, RefusesEntry, Rules, State}
+use Rattle.buffa_map.specs.Merge.{MergesEntry, RefusesEntry, Rules, State, unknown_cost}
 use Rattle.buffa_map.specs.declared.map_entry.MapEntry.{MapEntry}
 use Rattle.buffa_fields.specs.Entries.{entry_cost, entry_taken}
 use Rattle.buffa_fields.proofs.ValueLemmas.{wire_refused}
@@ -35,7 +35,7 @@ IsCost {K} {V} key val d cost extra costs =
     × ((s : MapEntry K V) → IsEntry key val d e s → costs e ≡ plus (need_of key val d cost e) (unknown_fields (cond s.known 0 extra)))
 
 -- ---- an entry is read by rules, and does so
-module _ {K V X : Type 0} (r : Rules K V) (does : X → List ℕ → MapEntry K V → X) (costs : ℕ → List ℕ → BudgetLeft) (is_cost : IsCost r.key r.val r.depth r.cost r.extra (costs r.depth))
+module _ {K V X : Type 0} (r : Rules K V) (does : X → List ℕ → MapEntry K V → X) (costs : ℕ → List ℕ → BudgetLeft) (is_cost : IsCost r.key r.val r.depth r.cost (unknown_cost r) (costs r.depth))
     (n : ℕ) (w : WireType) (old new : X) (bs rest : List ℕ) (s t : State K V) (checked : check_wire n LengthDelimited w ≡ Ok tt) where
   wire : w ≡ LengthDelimited
   wire = checked_same n LengthDelimited w checked
@@ -66,22 +66,22 @@ module _ {K V X : Type 0} (r : Rules K V) (does : X → List ℕ → MapEntry K 
     more_lacked a b c (inr x) = inr (omega (arith, x, c.1))
 
     lacked : (e : List ℕ) → Lacks s.left (need_of r.key r.val r.depth r.cost e)
-        ⊎ ((m : MapEntry K V) × IsEntry r.key r.val r.depth e m × (m.known ≡ false) × Lacks s.left (plus (need_of r.key r.val r.depth r.cost e) (unknown_fields r.extra))) →
+        ⊎ ((m : MapEntry K V) × IsEntry r.key r.val r.depth e m × (m.known ≡ false) × Lacks s.left (plus (need_of r.key r.val r.depth r.cost e) (unknown_fields (unknown_cost r)))) →
         Lacks s.left (costs r.depth e)
     lacked e (inl h) = more_lacked (need_of r.key r.val r.depth r.cost e) (costs r.depth e) (is_cost e).0 h
     lacked e (inr (m, entry, known, h)) = rw ((is_cost e).1 m entry, known) h
 
-    why : (f : DecodeError) → EntryFault r.key r.val r.depth r.cost r.extra s.left bs f →
+    why : (f : DecodeError) → EntryFault r.key r.val r.depth r.cost (unknown_cost r) s.left bs f →
         Lacks s.left (entry_cost costs r.depth n w bs) ⊎ (Untaken (entry_taken r.key r.val does) r.depth old n w bs × NoLimit f)
     unfolding entry_cost
     why f h = elim (is_limit f) [
       | inl limit ↦
-          let q = limits r.depth r.cost r.extra s.left bs f h limit in
+          let q = limits r.depth r.cost (unknown_cost r) s.left bs f h limit in
           inl (rw (wire, delimited_taken bs q.0 q.1 q.2) (lacked q.0 q.3))
       | inr unlimited ↦ at unlimited h
     ]
       where
-        at : NoLimit f → EntryFault r.key r.val r.depth r.cost r.extra s.left bs f →
+        at : NoLimit f → EntryFault r.key r.val r.depth r.cost (unknown_cost r) s.left bs f →
             Lacks s.left (entry_cost costs r.depth n w bs) ⊎ (Untaken (entry_taken r.key r.val does) r.depth old n w bs × NoLimit f)
         at unlimited (inl len) = inr ((λ p more payload split. absurd (no_payload r.depth n w p more bs f (delimited_faulty bs f len) wire payload split)), unlimited)
         at unlimited (inr (v, e, more, varint, split, inl (few, is))) = absurd (unlimited (subst (λ z. IsLimit z) (sym is) tt))

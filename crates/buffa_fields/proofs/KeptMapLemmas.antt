@@ -13,7 +13,8 @@ use Rattle.buffa_map.proofs.EntryLemmas.{entry_complete}
 use Rattle.buffa_map.specs.Codec.{Reading}
 use Rattle.buffa_map.specs.Entry.{EntryFault}
 use Rattle.buffa_map.specs.Fields.{EntryFieldsTakeMemory}
-use Rattle.buffa_map.specs.Merge.{EntryTakesMemory, MergesEntry, RefusesEntry, Rules, State, keeping}
+use Rattle.buffa_map.specs.Merge.{EntryTakesMemory, MergesEntry, RefusesEntry, Rules, State}
+use Rattle.buffa_map.proofs.ReaderRules.{keeping}
 use Rattle.buffa_map.specs.Laws.{LimitsAreTrue}
 use Rattle.buffa_fields.proofs.EntriesLemmas.{IsCost, entry_err, entry_ok, entry_wire_err}
 use Rattle.buffa_fields.specs.KeptMaps.{KeptPairTakesMemory, RefusesKeptPair, kept_pair_cost, kept_pair_taken, put_or_keep, put_or_keep_cost}
@@ -48,7 +49,7 @@ module _ {K V : Type 0} (key : Reading K) (val : Reading V) (same : K → K → 
   kept_full left checked f full (e, rest, is, inl copied) = (checked_same n LengthDelimited w checked, e, rest, is, inl (copied.1, copied.2))
   kept_full left checked f full (e, rest, is, inr (enough, inl field)) = (checked_same n LengthDelimited w checked, e, rest, is, inr (inl (subst (λ z. EntryFieldsTakeMemory key val d e z) full field)))
   kept_full left checked f full (e, rest, is, inr (enough, inr (s, entry, inl known))) = (checked_same n LengthDelimited w checked, e, rest, is, inr (inr (s, entry, inl known)))
-  kept_full left checked f full (e, rest, is, inr (enough, inr (s, entry, inr kept))) = (checked_same n LengthDelimited w checked, e, rest, is, inr (inr (s, entry, inr kept.1)))
+  kept_full left checked f full (e, rest, is, inr (enough, inr (s, entry, inr kept))) = (checked_same n LengthDelimited w checked, e, rest, is, inr (inr (s, entry, inr (omega (arith, kept.1)))))
 
   -- ---- what is told of a refused one
   pub kept_other : (ps : List (K × V)) (left : BudgetLeft) (f e : DecodeError) → check_wire n LengthDelimited w ≡ Err f → f ≡ e → RefusesKeptPair key val cost d ps n w bs left e ps

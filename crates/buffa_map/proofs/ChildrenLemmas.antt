@@ -25,7 +25,7 @@ use Rattle.buffa_map.proofs.SizeLemmas.{length-field_encoding}
 use Rattle.buffa_map.specs.Codec.{Writing, level}
 use Rattle.buffa_map.specs.Encoding.{field_encoding, field_size}
 use Rattle.buffa_map.specs.Entry.{IsEntry}
-use Rattle.buffa_map.specs.Merge.{MergesEntry, RefusesEntry, Rules, dropping, state}
+use Rattle.buffa_map.specs.Merge.{MergesEntry, RefusesEntry, Rules, state}
 use Rattle.buffa_map.specs.Message.{meant, message_reading}
 use Rattle.buffa_map.specs.MessageFacts.{meant_no_limit}
 use Rattle.buffa_map.specs.MessageField.{field_slots}
@@ -105,7 +105,7 @@ module _ {V : Type 0} (blank : V) (merged : ℕ → V → List ℕ → Option V)
   -- from the children old to those of new, where an entry costs so many units
   module _ (units : ℕ) (old new : List (ℤ × V)) (bs rest : List ℕ) (before after : BudgetLeft) (d : ℕ) where
     abbrev child_rules : Rules ℤ V
-    child_rules = dropping int32_reading (message_reading blank merged cost) int_eq false d 0 units
+    child_rules = record { key = int32_reading; val = message_reading blank merged cost; same = int_eq; keeps_order = false; depth = d; number = 0; cost = units; keeps_undeclared = false }
 
     abbrev pub ChildPut : Type 0
     ChildPut = MergesEntry child_rules (state (meant_children old) [] before) bs (state (meant_children new) [] after) rest

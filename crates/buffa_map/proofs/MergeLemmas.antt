@@ -1,6 +1,6 @@
 -- An entry that was merged, or refused, at each place where reading it ends.
-use Rattle.std.specs.Prelude.{IsOk}
-use Rattle.std.proofs.Common.{arith, ◌≡◌, ◌≢◌, ◌+◌, ◌<◌, ◌≤◌, ◌++◌, ◌⊎◌, inl, inr, ℕ, true, false, List, [], Result, Ok, Err, ap, append-nil, length, refl, subst, sym, take, ◌∙◌}
+use Rattle.std.specs.Prelude.{IsOk, if◌then◌else◌}
+use Rattle.std.proofs.Common.{arith, ◌≡◌, ◌≢◌, ◌+◌, ◌<◌, ◌≤◌, ◌++◌, ◌∷◌, ◌⊎◌, inl, inr, ℕ, true, false, List, [], Result, Ok, Err, ap, append-nil, length, refl, subst, sym, take, ◌∙◌}
 use Rattle.buffa_bytes.specs.declared.error.DecodeError.{DecodeError}
 use Rattle.buffa_bytes.specs.declared.error.DecodeError.TheVariants.{ElementMemoryLimitExceeded, OutOfMemory, UnexpectedEof, UnknownFieldLimitExceeded}
 use Rattle.buffa_bytes.specs.Left.{past_no_delimited}
@@ -9,10 +9,10 @@ use Rattle.buffa_wire.specs.BudgetLeft.{BudgetLeft, Lacks, need_by}
 use Rattle.buffa_bytes.specs.Front.{delimited_at, taken, varint_at}
 use Rattle.buffa_bytes.proofs.DelimitedLemmas.{taken_sound}
 use Rattle.buffa_bytes.proofs.StepLemmas.{agree_ok}
-use Rattle.buffa_wire.specs.Records.{Datum}
+use Rattle.buffa_wire.specs.Records.{Datum, bytes}
 use Rattle.buffa_map.specs.Entry.{EntryFault, FaultOf, IsEntry, blanks, inner_need, need_at, need_of}
 use Rattle.buffa_map.specs.Fields.{EntryFieldsTakeMemory}
-use Rattle.buffa_map.specs.Merge.{EntryTakesMemory, MergesEntry, RefusesEntry, Rules, state}
+use Rattle.buffa_map.specs.Merge.{EntryTakesMemory, MergesEntry, RefusesEntry, Rules, state, unknown_cost}
 use Rattle.buffa_map.specs.Parts.{ReadsParts, RefusesCut, RefusesParts}
 use Rattle.buffa_map.specs.Pairs.{InOrder, SamePairs, put}
 use Rattle.buffa_map.specs.declared.map_entry.MapEntry.{MapEntry}
@@ -21,6 +21,7 @@ use Rattle.buffa_map.proofs.TailLemmas.{cut_front, cut_short, delimited_tail, on
 use Rattle.buffa_bytes.specs.Unread.{IsTailOf}
 use Rattle.buffa_bytes.proofs.TailLemmas.{tail_whole}
 use Rattle.buffa_bytes.specs.Field.{TakesDelimited}
+use Rattle.buffa_map.proofs.RunLemmas.{none_kept}
 use Rattle.buffa_map.proofs.NeedLemmas.{entry_charged, entry_found, entry_refused, entry_short, entry_without, no_length}
 
 module _ {K V : Type 0} (r : Rules K V) (pairs : List (K × V)) (records : List (ℕ × Datum)) (left : BudgetLeft) (bs : List ℕ) where
@@ -30,7 +31,7 @@ module _ {K V : Type 0} (r : Rules K V) (pairs : List (K × V)) (records : List 
   pub no_entry : (unread : List ℕ) (f : DecodeError) → IsTailOf unread bs → (f ≢ OutOfMemory → delimited_at bs ≡ Err f) → (f ≡ OutOfMemory → EntryTakesMemory r left bs f) → ((e rest : List ℕ) → TakesDelimited bs e rest → IsTailOf rest unread) → ((x : DecodeError) → delimited_at bs ≡ Err x → unread ≡ past_no_delimited bs) →
       RefusesEntry r (state pairs records left) bs (state pairs records left) unread f
   no_entry unread f tail h full near short = record {
-    fault = λ ne. entry_short r.key r.val r.depth r.cost r.extra left bs f (h ne);
+    fault = λ ne. entry_short r.key r.val r.depth r.cost (unknown_cost r) left bs f (h ne);
     memory = full;
     pairs = refl;
     records = refl;
@@ -51,12 +52,12 @@ module _ {K V : Type 0} (r : Rules K V) (pairs : List (K × V)) (records : List 
   }
 
   -- the bytes of an entry are copied, of which there are some
-  copy_takes : (n : ℕ) (mid : List ℕ) (f : DecodeError) (x : Result (List ℕ × List ℕ) DecodeError) → taken n mid ≡ x → (r.extra ≢ 0) × (r.val.undeclared ≡ true) → delimited_at bs ≡ taken n mid → IsOk x → (n ≡ 0 → ⊥) → EntryTakesMemory r left bs f
+  copy_takes : (n : ℕ) (mid : List ℕ) (f : DecodeError) (x : Result (List ℕ × List ℕ) DecodeError) → taken n mid ≡ x → (r.keeps_undeclared ≡ true) × (r.val.undeclared ≡ true) → delimited_at bs ≡ taken n mid → IsOk x → (n ≡ 0 → ⊥) → EntryTakesMemory r left bs f
   copy_takes n mid f (Ok p) is keeps same ok some =
       (p.0, p.1, same ∙ is, inl (keeps.0, keeps.1, λ none. some (sym (agree_ok (taken n mid) p (taken_sound n mid) is).0 ∙ ap length none)))
   copy_takes n mid f (Err x) is keeps same ok some = cc
 
-  pub no_copy : (n : ℕ) (mid unread : List ℕ) (f : DecodeError) → (r.extra ≢ 0) × (r.val.undeclared ≡ true) → delimited_at bs ≡ taken n mid → IsTailOf unread bs → (f ≢ OutOfMemory → taken n mid ≡ Err f) → (f ≡ OutOfMemory → IsOk (taken n mid)) → (n ≡ 0 → false ≡ true) →
+  pub no_copy : (n : ℕ) (mid unread : List ℕ) (f : DecodeError) → (r.keeps_undeclared ≡ true) × (r.val.undeclared ≡ true) → delimited_at bs ≡ taken n mid → IsTailOf unread bs → (f ≢ OutOfMemory → taken n mid ≡ Err f) → (f ≡ OutOfMemory → IsOk (taken n mid)) → (n ≡ 0 → false ≡ true) →
       ((e rest : List ℕ) → TakesDelimited bs e rest → IsTailOf rest unread) → ((x : DecodeError) → delimited_at bs ≡ Err x → unread ≡ past_no_delimited bs) →
       RefusesEntry r (state pairs records left) bs (state pairs records left) unread f
   no_copy n mid unread f keeps same tail reads full free near short =
@@ -71,9 +72,9 @@ module _ {K V : Type 0} (r : Rules K V) (pairs : List (K × V)) (records : List 
     parts_memory f (room, inr (s, h, known)) = (e, rest, is, inr (room, inr (s, h, inl known)))
 
     parts_fault : (f : DecodeError) → ((left.memory < r.cost) × (f ≡ ElementMemoryLimitExceeded)) ⊎ ((r.cost ≤ left.memory) × (Lacks left (need_of r.key r.val r.depth r.cost e) ⊎ FaultOf r.key r.val r.depth e f)) →
-        EntryFault r.key r.val r.depth r.cost r.extra left bs f
-    parts_fault f (inl few) = entry_charged r.key r.val r.depth r.cost r.extra left bs e rest f is few.0 few.1
-    parts_fault f (inr (room, bad)) = entry_refused r.key r.val r.depth r.cost r.extra left bs e rest f is room bad
+        EntryFault r.key r.val r.depth r.cost (unknown_cost r) left bs f
+    parts_fault f (inl few) = entry_charged r.key r.val r.depth r.cost (unknown_cost r) left bs e rest f is few.0 few.1
+    parts_fault f (inr (room, bad)) = entry_refused r.key r.val r.depth r.cost (unknown_cost r) left bs e rest f is room bad
 
     parts_units : (new : ℕ) → (new ≡ left.memory) ⊎ ((new + r.cost ≤ left.memory) × (left.memory ≤ new + (need_of r.key r.val r.depth r.cost e).memory)) →
         (new ≡ left.memory) ⊎ ((new + r.cost ≤ left.memory) × (left.memory ≤ new + (r.cost + (inner_need r.key r.val r.depth bs).memory)))
@@ -113,7 +114,7 @@ module _ {K V : Type 0} (r : Rules K V) (pairs : List (K × V)) (records : List 
         read = entry_found r.key r.val r.depth bs e rest s is h.entry;
         put = rw known same;
         order = rw known order;
-        keeps = rw known (sym (append-nil records));
+        keeps = rw known (none_kept r.keeps_undeclared records);
         pays = (rw known (omega (arith, h.pays)), omega (arith, h.pays));
       }
 
@@ -128,7 +129,7 @@ module _ {K V : Type 0} (r : Rules K V) (pairs : List (K × V)) (records : List 
             least = omega (arith, h.pays);
           }))
 
-      pub is_kept : s.known ≡ false → (kept : List (ℕ × Datum)) (last : BudgetLeft) → kept ≡ records ++ r.adds r.number e → last.unknown + r.extra ≡ over.unknown → last.memory ≡ over.memory → MergesEntry r (state pairs records left) bs (state pairs kept last) rest
+      pub is_kept : s.known ≡ false → (kept : List (ℕ × Datum)) (last : BudgetLeft) → kept ≡ records ++ (if r.keeps_undeclared then (r.number, bytes e) ∷ [] else []) → last.unknown + (unknown_cost r) ≡ over.unknown → last.memory ≡ over.memory → MergesEntry r (state pairs records left) bs (state pairs kept last) rest
       is_kept known kept last added extra unit = record {
         says = s;
         entry = e;
@@ -140,16 +141,16 @@ module _ {K V : Type 0} (r : Rules K V) (pairs : List (K × V)) (records : List 
       }
 
       -- where none is kept, the records and the budget stand
-      pub is_dropped : s.known ≡ false → r.extra ≡ 0 → ((n : ℕ) (x : List ℕ) → r.adds n x ≡ []) → MergesEntry r (state pairs records left) bs (state pairs records over) rest
-      is_dropped known no_unknown none = is_kept known records over (rw (none r.number e) (sym (append-nil records))) (omega (arith, no_unknown)) refl
+      pub is_dropped : s.known ≡ false → r.keeps_undeclared ≡ false → MergesEntry r (state pairs records left) bs (state pairs records over) rest
+      is_dropped known drops = is_kept known records over (rw drops (sym (append-nil records))) (rw drops (omega arith)) refl
 
-      pub not_kept : s.known ≡ false → (kept : List (ℕ × Datum)) (last : BudgetLeft) (f : DecodeError) → kept ≡ records → last.unknown ≤ over.unknown → over.unknown ≤ last.unknown + r.extra → last.memory ≡ over.memory →
-          (f ≢ OutOfMemory → (over.unknown < r.extra) × (f ≡ UnknownFieldLimitExceeded) × (last.unknown ≡ over.unknown)) → (f ≡ OutOfMemory → (r.extra ≢ 0) × (r.extra ≤ over.unknown)) → RefusesEntry r (state pairs records left) bs (state pairs kept last) rest f
+      pub not_kept : s.known ≡ false → (kept : List (ℕ × Datum)) (last : BudgetLeft) (f : DecodeError) → kept ≡ records → last.unknown ≤ over.unknown → over.unknown ≤ last.unknown + (unknown_cost r) → last.memory ≡ over.memory →
+          (f ≢ OutOfMemory → (r.keeps_undeclared ≡ true) × (over.unknown ≡ 0) × (f ≡ UnknownFieldLimitExceeded) × (last.unknown ≡ over.unknown)) → (f ≡ OutOfMemory → (r.keeps_undeclared ≡ true) × (0 < over.unknown)) → RefusesEntry r (state pairs records left) bs (state pairs kept last) rest f
       not_kept known kept last f same most least unit which keeps =
           let units = ap (λ (z : BudgetLeft). z.memory) inner in
           let taken = ap (λ (z : BudgetLeft). z.unknown) inner in
           record {
-            fault = λ ne. entry_without r.key r.val r.depth r.cost r.extra left bs e rest s f is (omega (arith, h.pays)) h.entry known (omega (arith, (which ne).0, h.pays)) (which ne).1;
+            fault = λ ne. entry_without r.key r.val r.depth r.cost (unknown_cost r) left bs e rest s f is (omega (arith, h.pays)) h.entry known (rw (which ne).0 (omega (arith, (which ne).1, h.pays))) (which ne).2;
             memory = λ out. (e, rest, is, inr (omega (arith, h.pays), inr (s, h.entry, inr ((keeps out).0, omega (arith, (keeps out).1, h.pays)))));
             pairs = refl;
             records = same;
@@ -165,7 +166,7 @@ module _ {K V : Type 0} (r : Rules K V) (pairs : List (K × V)) (records : List 
               unspent = λ no. absurd (no (rw is refl));
               most = omega (arith, h.pays, most);
               least = omega (arith, h.pays, least, taken);
-              no_unknown = λ ne. omega (arith, h.pays, (which ne).2, taken);
+              no_unknown = λ ne. omega (arith, h.pays, (which ne).3, taken);
             };
           }
 

@@ -19,7 +19,7 @@ use Rattle.buffa_wire.specs.Encoding.{records_encoding}
 use Rattle.buffa_bytes.specs.Values.{tag_encoding}
 use Rattle.buffa_map.specs.Codec.{Writing}
 use Rattle.buffa_map.specs.MessageField.{IsFieldSized, IsFieldWritten, IsSmallField}
-use Rattle.buffa_map.specs.Merge.{Rules, state}
+use Rattle.buffa_map.specs.Merge.{Rules, state, unknown_cost}
 use Rattle.buffa_map.specs.Pairs.{ListsOnce, SamePairs, put}
 use Rattle.buffa_map.specs.PinnedEncodings.{MapFieldIsPinned, MessagesArePinned, NoneIsFull, PutIsPinned, RewriteIsPinned}
 use Rattle.buffa_map.specs.Rewrite.{RefusesDecoding, RefusesEncoding, RefusesRewrite, RewritesRun}
@@ -107,13 +107,13 @@ module _ {K V : Type 0} (r : Rules K V) (laws : IsEquivalence r.same)
   abbrev Rewritten : ℕ → Type 0
   Rewritten m = RewritesRun r key val KeyFits ValFits A left bytes a over x old v room m
 
-  read_no_fault : (es : List (EntryRecord K V)) (f : DecodeError) → Run r.key r.val r.depth r.number bytes es → ArePaid r.key r.val r.depth r.cost r.extra left es over → RefusesDecoding r left bytes b last y old w f → f ≢ decoding.OutOfMemory → ⊥
+  read_no_fault : (es : List (EntryRecord K V)) (f : DecodeError) → Run r.key r.val r.depth r.number bytes es → ArePaid r.key r.val r.depth r.cost (unknown_cost r) left es over → RefusesDecoding r left bytes b last y old w f → f ≢ decoding.OutOfMemory → ⊥
   read_no_fault es f run paid k ne =
-      ok_no_err (sym (run_complete r.key r.val r.depth r.number r.cost r.extra key_free val_free left bytes es over run paid)
-      ∙ (run_faulty r.key r.val r.depth r.number r.cost r.extra key_free val_free left bytes f (fault_of r key_free val_free (state [] [] left) bytes (state b k.0 last) y f k.1 ne)).1)
+      ok_no_err (sym (run_complete r.key r.val r.depth r.number r.cost (unknown_cost r) key_free val_free left bytes es over run paid)
+      ∙ (run_faulty r.key r.val r.depth r.number r.cost (unknown_cost r) key_free val_free left bytes f (fault_of r key_free val_free (state [] [] left) bytes (state b k.0 last) y f k.1 ne)).1)
 
   same_runs : (es fs : List (EntryRecord K V)) → Run r.key r.val r.depth r.number bytes es → Run r.key r.val r.depth r.number bytes fs → es ≡ fs
-  same_runs es fs h k = run_one r.key r.val r.depth r.number r.cost r.extra key_free val_free bytes es fs h k
+  same_runs es fs h k = run_one r.key r.val r.depth r.number r.cost (unknown_cost r) key_free val_free bytes es fs h k
 
   once_more : (es fs : List (EntryRecord K V)) → es ≡ fs → (l : List (K × V)) → ListsOnce r.same (fold_entries r.same [] fs) l → ListsOnce r.same (fold_entries r.same [] es) l
   once_more es fs e l h = subst (λ z. ListsOnce r.same (fold_entries r.same [] z) l) (sym e) h
@@ -128,7 +128,7 @@ module _ {K V : Type 0} (r : Rules K V) (laws : IsEquivalence r.same)
       let second = ap length (k.encoding ∙ ap (λ z. old ++ z) k.rewrite.4) in
       let kept = ap (λ z. length (records_encoding (undeclared_records r.number z))) e in (
         λ q. sym (h.folded q) ∙ ap (λ z. lookup_entry (r.same q) (fold_entries r.same [] z)) e ∙ k.folded q,
-        one_over r.key r.val r.depth r.number r.cost r.extra key_free val_free left over last h.entries k.entries e h.paid k.paid,
+        one_over r.key r.val r.depth r.number r.cost (unknown_cost r) key_free val_free left over last h.entries k.entries e h.paid k.paid,
         h.whole ∙ sym k.whole,
         omega (
           arith,
@@ -170,7 +170,7 @@ module _ {K V : Type 0} (r : Rules K V) (laws : IsEquivalence r.same)
   two_encodings d e h k =
       let same = same_runs h.entries k.entries h.run k.run in (
         λ q. sym (h.folded q) ∙ ap (λ z. lookup_entry (r.same q) (fold_entries r.same [] z)) same ∙ k.folded q,
-        one_over r.key r.val r.depth r.number r.cost r.extra key_free val_free left over last h.entries k.entries same h.paid k.paid,
+        one_over r.key r.val r.depth r.number r.cost (unknown_cost r) key_free val_free left over last h.entries k.entries same h.paid k.paid,
         h.whole ∙ sym k.whole,
         one_error d e (undeclared_records r.number h.entries) (undeclared_records r.number k.entries) h.walk k.walk h.encoding k.encoding,
       )
@@ -181,8 +181,8 @@ module _ {K V : Type 0} (r : Rules K V) (laws : IsEquivalence r.same)
     read = λ m f h k ne. read_no_fault h.entries f h.run h.paid k ne;
     written = λ m e h k ne. written_no_refusal m h e k k.encoding ne;
     either = λ f e h k ne.
-        ok_no_err (sym (run_complete r.key r.val r.depth r.number r.cost r.extra key_free val_free left bytes k.entries last k.run k.paid)
-        ∙ (run_faulty r.key r.val r.depth r.number r.cost r.extra key_free val_free left bytes f (fault_of r key_free val_free (state [] [] left) bytes (state a h.0 over) x f h.1 ne)).1);
+        ok_no_err (sym (run_complete r.key r.val r.depth r.number r.cost (unknown_cost r) key_free val_free left bytes k.entries last k.run k.paid)
+        ∙ (run_faulty r.key r.val r.depth r.number r.cost (unknown_cost r) key_free val_free left bytes f (fault_of r key_free val_free (state [] [] left) bytes (state a h.0 over) x f h.1 ne)).1);
     faults = λ plain f g h k ne nf.
         let same = (run_is_pinned r key_free val_free).faults plain (state [] [] left) bytes (state a h.0 over) (state b k.0 last) x y f g h.1 k.1 ne nf in
         let stops = (run_is_pinned r key_free val_free).stops (state [] [] left) bytes (state a h.0 over) (state b k.0 last) x y f g h.1 k.1 ne nf in

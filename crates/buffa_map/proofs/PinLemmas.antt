@@ -16,10 +16,10 @@ use Rattle.buffa_bytes.specs.Field.{TakesDelimited}
 use Rattle.buffa_bytes.specs.Front.{delimited_at, tag_at}
 use Rattle.buffa_map.specs.Codec.{Reading, RefusesValue, Spends, value_at, value_need}
 use Rattle.buffa_map.specs.Entry.{EntryFault, inner_need, need_at, need_of, blanks}
-use Rattle.buffa_map.specs.Merge.{HasWholeRecord, RefusesEntry, Rules, State, StopsRun}
+use Rattle.buffa_map.specs.Merge.{HasWholeRecord, RefusesEntry, Rules, State, RefusesRun, unknown_cost, kept_of_entry, kept_of_run}
 use Rattle.buffa_map.specs.Pairs.{SamePairs}
 use Rattle.buffa_map.specs.Pinned.{SameState, EntryIsPinned, RunIsPinned, ValueIsPinned}
-use Rattle.buffa_map.specs.Run.{EntryRecord, ArePaid, RecordFault, Run, RunFault, added, fold_entries, inner_needs, record_at, record_need, step, undeclared}
+use Rattle.buffa_map.specs.Run.{EntryRecord, ArePaid, RecordFault, Run, RunFault, fold_entries, inner_needs, record_at, record_need, step, undeclared}
 use Rattle.buffa_map.proofs.EntryLemmas.{Plain, need_by-nothing, value_faulty}
 use Rattle.buffa_map.proofs.FrontLemmas.{paid_no_fault, same_front, same_taken}
 use Rattle.buffa_map.proofs.NeedLemmas.{need_free}
@@ -152,7 +152,7 @@ module _ {K V : Type 0} (r : Rules K V)
     refused_left : (z : Result (List ℕ × List ℕ) DecodeError) → delimited_at bs ≡ z → a.left ≡ b.left
     refused_left (Ok p) is =
         let t = agree_ok (delimited_at bs) p (delimited_sound bs) is in
-        let none = inner_none r.key r.val r.depth r.number r.cost r.extra key_free val_free plain bs in
+        let none = inner_none r.key r.val r.depth r.number r.cost (unknown_cost r) key_free val_free plain bs in
         let unit = ap (λ (z : BudgetLeft). z.memory) none in
         let taken = ap (λ (z : BudgetLeft). z.unknown) none in
         same_left a.left b.left (omega (arith, h.spent.most, k.spent.most, h.spent.no_unknown ne, k.spent.no_unknown nf, taken))
@@ -162,7 +162,7 @@ module _ {K V : Type 0} (r : Rules K V)
     refused_one : (f ≡ g) × SameState r a b
     refused_one =
         let pairs : a.pairs ≡ b.pairs = h.pairs ∙ sym k.pairs in (
-          entry_one r.key r.val r.depth r.number r.cost r.extra key_free val_free plain old.left bs f g (h.fault ne) (k.fault nf),
+          entry_one r.key r.val r.depth r.number r.cost (unknown_cost r) key_free val_free plain old.left bs f g (h.fault ne) (k.fault nf),
           record {
             pairs = λ q. ap (lookup_entry (r.same q)) pairs;
             records = h.records ∙ sym k.records;
@@ -182,11 +182,11 @@ module _ {K V : Type 0} (r : Rules K V)
         let same = same_front r.key r.val r.depth bs h.entry x h.says k.entry y k.says h.read k.read in
         let e = same.0 in
         let s = same.2 in
-        let need : plus (need_of r.key r.val r.depth r.cost h.entry) (unknown_fields (cond h.says.known 0 r.extra)) ≡ plus (need_of r.key r.val r.depth r.cost k.entry) (unknown_fields (cond k.says.known 0 r.extra)) =
-        ap (λ z. plus (need_of r.key r.val r.depth r.cost z) (unknown_fields (cond h.says.known 0 r.extra))) e ∙ ap (λ z. plus (need_of r.key r.val r.depth r.cost k.entry) (unknown_fields (cond z.known 0 r.extra))) s in (
+        let need : plus (need_of r.key r.val r.depth r.cost h.entry) (unknown_fields (cond h.says.known 0 (unknown_cost r))) ≡ plus (need_of r.key r.val r.depth r.cost k.entry) (unknown_fields (cond k.says.known 0 (unknown_cost r))) =
+        ap (λ z. plus (need_of r.key r.val r.depth r.cost z) (unknown_fields (cond h.says.known 0 (unknown_cost r)))) e ∙ ap (λ z. plus (need_of r.key r.val r.depth r.cost k.entry) (unknown_fields (cond z.known 0 (unknown_cost r)))) s in (
           record {
             pairs = λ q. sym (h.put q) ∙ ap (λ z. lookup_entry (r.same q) (step r.same old.pairs z)) s ∙ k.put q;
-            records = h.keeps ∙ ap (λ z. old.records ++ cond z.known [] (r.adds r.number h.entry)) s ∙ ap (λ z. old.records ++ cond k.says.known [] (r.adds r.number z)) e ∙ sym k.keeps;
+            records = h.keeps ∙ ap (λ z. old.records ++ kept_of_entry r h.entry z) s ∙ ap (λ z. old.records ++ kept_of_entry r z k.says) e ∙ sym k.keeps;
             left = same_need old.left _ _ a.left b.left need h.pays k.pays;
             order = λ o. h.order o ∙ ap (λ z. step r.same old.pairs z) s ∙ sym (k.order o);
           },
@@ -194,7 +194,7 @@ module _ {K V : Type 0} (r : Rules K V)
         );
     refused = λ old bs a b x y f h k ne.
         let paid = h.pays in
-        paid_no_fault r.key r.val r.depth r.cost r.extra old.left bs h.entry x h.says f h.read
+        paid_no_fault r.key r.val r.depth r.cost (unknown_cost r) old.left bs h.entry x h.says f h.read
         (omega (arith, paid.1)) (omega (arith, paid.0)) (k.fault ne);
     leaves = λ old bs a b x y f g h k ne nf. one_rest old bs a b x y f g h k ne nf (delimited_at bs) refl;
     faults = λ plain old bs a b x y f g h k ne nf. refused_one plain old bs a b x y f g h k ne nf;
@@ -202,25 +202,25 @@ module _ {K V : Type 0} (r : Rules K V)
 
   -- one state, after the same entries
   after_same : (old a b : State K V) (es fs : List (EntryRecord K V)) → es ≡ fs → SamePairs r.same (fold_entries r.same old.pairs es) a.pairs → SamePairs r.same (fold_entries r.same old.pairs fs) b.pairs →
-      a.records ≡ old.records ++ added r.adds r.number es → b.records ≡ old.records ++ added r.adds r.number fs → SamePairs r.same a.pairs b.pairs × (a.records ≡ b.records)
+      a.records ≡ old.records ++ kept_of_run r es → b.records ≡ old.records ++ kept_of_run r fs → SamePairs r.same a.pairs b.pairs × (a.records ≡ b.records)
   after_same old a b es fs e h k l m = (
     λ q. sym (h q) ∙ ap (λ z. lookup_entry (r.same q) (fold_entries r.same old.pairs z)) e ∙ k q,
-    l ∙ ap (λ z. old.records ++ added r.adds r.number z) e ∙ sym m,
+    l ∙ ap (λ z. old.records ++ kept_of_run r z) e ∙ sym m,
   )
 
-  pub fault_of : (old : State K V) (bs : List ℕ) (a : State K V) (x : List ℕ) (f : DecodeError) → StopsRun r old bs a x f → f ≢ OutOfMemory → RunFault r.key r.val r.depth r.number r.cost r.extra old.left bs f
-  fault_of old bs a x f h ne = (h.entries, h.rest, h.over, h.begins, h.some, h.fault ne)
+  pub fault_of : (old : State K V) (bs : List ℕ) (a : State K V) (x : List ℕ) (f : DecodeError) → RefusesRun r old bs a x f → f ≢ OutOfMemory → RunFault r.key r.val r.depth r.number r.cost (unknown_cost r) old.left bs f
+  fault_of old bs a x f h ne = (h.entries, h.rest, h.left_after, h.begins, h.some, h.fault ne)
 
   module _ (old : State K V) (bs : List ℕ) (a b : State K V) (x y : List ℕ) (f g : DecodeError)
-      (h : StopsRun r old bs a x f) (k : StopsRun r old bs b y g) (ne : f ≢ OutOfMemory) (nf : g ≢ OutOfMemory) where
+      (h : RefusesRun r old bs a x f) (k : RefusesRun r old bs b y g) (ne : f ≢ OutOfMemory) (nf : g ≢ OutOfMemory) where
     stopped_same : (h.entries ≡ k.entries) × (h.rest ≡ k.rest)
-    stopped_same = stop_one r.key r.val r.depth r.number r.cost r.extra key_free val_free h.entries k.entries old.left h.over k.over bs h.begins.0 h.rest k.begins.0 k.rest f g
+    stopped_same = stop_one r.key r.val r.depth r.number r.cost (unknown_cost r) key_free val_free h.entries k.entries old.left h.left_after k.left_after bs h.begins.0 h.rest k.begins.0 k.rest f g
         h.begins.1 h.begins.2 h.begins.3 (h.fault ne) k.begins.1 k.begins.2 k.begins.3 (k.fault nf)
 
     stopped_after : SamePairs r.same a.pairs b.pairs × (a.records ≡ b.records)
     stopped_after = after_same old a b h.entries k.entries stopped_same.0 h.folded k.folded h.keeps k.keeps
 
-    one_unread : RecordFault r.key r.val r.depth r.number r.cost r.extra h.over h.rest f → x ≡ y
+    one_unread : RecordFault r.key r.val r.depth r.number r.cost (unknown_cost r) h.left_after h.rest f → x ≡ y
     one_unread (inl bad) =
         let is = tag_faulty h.rest f bad in
         let same = stopped_same.1 in
@@ -240,15 +240,15 @@ module _ {K V : Type 0} (r : Rules K V)
         h.unread.past ne m e after is (u, v, split) ∙ sym (k.unread.past nf m e after (ap tag_at (sym stopped_same.1) ∙ is) (u, v, split))
 
     module _ (plain : Plain r.key r.val r.depth) where
-      stopped_over : h.over ≡ k.over
-      stopped_over = one_over r.key r.val r.depth r.number r.cost r.extra key_free val_free old.left h.over k.over h.entries k.entries stopped_same.0 h.begins.3 k.begins.3
+      stopped_over : h.left_after ≡ k.left_after
+      stopped_over = one_over r.key r.val r.depth r.number r.cost (unknown_cost r) key_free val_free old.left h.left_after k.left_after h.entries k.entries stopped_same.0 h.begins.3 k.begins.3
 
       stopped_left : a.left ≡ b.left
       stopped_left =
-          let none = record_none r.key r.val r.depth r.number r.cost r.extra key_free val_free plain h.rest in
-          let nil = record_none r.key r.val r.depth r.number r.cost r.extra key_free val_free plain k.rest in
+          let none = record_none r.key r.val r.depth r.number r.cost (unknown_cost r) key_free val_free plain h.rest in
+          let nil = record_none r.key r.val r.depth r.number r.cost (unknown_cost r) key_free val_free plain k.rest in
           let rest = stopped_same.1 in
-          elim (record_there r.key r.val r.depth r.number r.cost r.extra key_free val_free h.over h.rest f (h.fault ne)) [
+          elim (record_there r.key r.val r.depth r.number r.cost (unknown_cost r) key_free val_free h.left_after h.rest f (h.fault ne)) [
             | inl away ↦ h.spent.unspent away ∙ stopped_over ∙ sym (k.spent.unspent (λ z. away (subst (HasWholeRecord r.number) (sym rest) z)))
             | inr (mid, e, after, tag, t) ↦
                 let one = ap (λ (z : BudgetLeft). z.memory) stopped_over in
@@ -256,13 +256,13 @@ module _ {K V : Type 0} (r : Rules K V)
                 let hc = h.spent.charged ne mid e after tag t in
                 let kc = k.spent.charged nf mid e after (subst (λ z. tag_at z ≡ Ok (r.number, LengthDelimited, mid)) rest tag) t in
                 same_left a.left b.left (omega (arith, h.spent.most, k.spent.most, h.spent.no_unknown ne, k.spent.no_unknown nf, two, ap (λ (z : BudgetLeft). z.unknown) none, ap (λ (z : BudgetLeft). z.unknown) nil))
-                (spent_one h.over.memory k.over.memory r.cost (record_need r.key r.val r.depth h.rest).memory (record_need r.key r.val r.depth k.rest).memory a.left.memory b.left.memory one (ap (λ (z : BudgetLeft). z.memory) none) (ap (λ (z : BudgetLeft). z.memory) nil) h.spent.units k.spent.units hc kc)
+                (spent_one h.left_after.memory k.left_after.memory r.cost (record_need r.key r.val r.depth h.rest).memory (record_need r.key r.val r.depth k.rest).memory a.left.memory b.left.memory one (ap (λ (z : BudgetLeft). z.memory) none) (ap (λ (z : BudgetLeft). z.memory) nil) h.spent.units k.spent.units hc kc)
           ]
 
       stopped_one : (f ≡ g) × SameState r a b
       stopped_one =
-          let p = run_faulty r.key r.val r.depth r.number r.cost r.extra key_free val_free old.left bs f (fault_of old bs a x f h ne) in
-          let q = run_faulty r.key r.val r.depth r.number r.cost r.extra key_free val_free old.left bs g (fault_of old bs b y g k nf) in (
+          let p = run_faulty r.key r.val r.depth r.number r.cost (unknown_cost r) key_free val_free old.left bs f (fault_of old bs a x f h ne) in
+          let q = run_faulty r.key r.val r.depth r.number r.cost (unknown_cost r) key_free val_free old.left bs g (fault_of old bs b y g k nf) in (
             p.2 plain ∙ err_one p.1 q.1 ∙ sym (q.2 plain),
             record {
               pairs = stopped_after.0;
@@ -275,19 +275,19 @@ module _ {K V : Type 0} (r : Rules K V)
   pub run_is_pinned : RunIsPinned r
   run_is_pinned = record {
     read = λ old bs a b x y h k.
-        let e = run_one r.key r.val r.depth r.number r.cost r.extra key_free val_free bs h.entries k.entries h.run k.run in
+        let e = run_one r.key r.val r.depth r.number r.cost (unknown_cost r) key_free val_free bs h.entries k.entries h.run k.run in
         let after = after_same old a b h.entries k.entries e h.folded k.folded h.keeps k.keeps in (
           record {
             pairs = after.0;
             records = after.1;
-            left = one_over r.key r.val r.depth r.number r.cost r.extra key_free val_free old.left a.left b.left h.entries k.entries e h.paid k.paid;
+            left = one_over r.key r.val r.depth r.number r.cost (unknown_cost r) key_free val_free old.left a.left b.left h.entries k.entries e h.paid k.paid;
             order = λ o. h.order o ∙ ap (fold_entries r.same old.pairs) e ∙ sym (k.order o);
           },
           h.whole ∙ sym k.whole,
         );
     refused = λ old bs a b x y f h k ne.
-        ok_no_err (sym (run_complete r.key r.val r.depth r.number r.cost r.extra key_free val_free old.left bs h.entries a.left h.run h.paid)
-        ∙ (run_faulty r.key r.val r.depth r.number r.cost r.extra key_free val_free old.left bs f (fault_of old bs b y f k ne)).1);
+        ok_no_err (sym (run_complete r.key r.val r.depth r.number r.cost (unknown_cost r) key_free val_free old.left bs h.entries a.left h.run h.paid)
+        ∙ (run_faulty r.key r.val r.depth r.number r.cost (unknown_cost r) key_free val_free old.left bs f (fault_of old bs b y f k ne)).1);
     stops = λ old bs a b x y f g h k ne nf.
         let same = stopped_same old bs a b x y f g h k ne nf in
         let after = stopped_after old bs a b x y f g h k ne nf in

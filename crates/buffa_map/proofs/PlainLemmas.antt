@@ -3,7 +3,7 @@ use Rattle.std.proofs.Common.{arith, ◌≡◌, ◌+◌, ◌≤◌, ◌⊎◌, i
 use Rattle.buffa_bytes.specs.declared.error.DecodeError.{DecodeError}
 use Rattle.buffa_wire.specs.BudgetLeft.{BudgetLeft, nothing, units}
 use Rattle.buffa_map.specs.Entry.{EntryFault, inner_need, need_of}
-use Rattle.buffa_map.specs.Merge.{RefusesEntry, Rules, State}
+use Rattle.buffa_map.specs.Merge.{RefusesEntry, Rules, State, unknown_cost}
 use Rattle.buffa_map.specs.Plain.{MergesExactly, PlainFault, SpendsExactly}
 
 exact : (a b cost n : ℕ) → (b ≡ a) ⊎ ((b + cost ≤ a) × (a ≤ b + (cost + n))) → n ≡ 0 → b + cost ≤ a → b + cost ≡ a
@@ -15,7 +15,7 @@ either a b cost n (inl h) z = inl h
 either a b cost n (inr h) z = inr (omega (arith, h, z))
 
 module _ {K V : Type 0} (r : Rules K V) (need : (e : List ℕ) → need_of r.key r.val r.depth r.cost e ≡ units r.cost) (old : State K V) (bs : List ℕ) where
-  fault_of_plain : (left : BudgetLeft) (f : DecodeError) → EntryFault r.key r.val r.depth r.cost r.extra left bs f → PlainFault r.key r.val r.depth r.cost r.extra left bs f
+  fault_of_plain : (left : BudgetLeft) (f : DecodeError) → EntryFault r.key r.val r.depth r.cost (unknown_cost r) left bs f → PlainFault r.key r.val r.depth r.cost (unknown_cost r) left bs f
   fault_of_plain left f (inl h) = inl h
   fault_of_plain left f (inr (t, e, rest, v, is, inl h)) = inr (t, e, rest, v, is, inl h)
   fault_of_plain left f (inr (t, e, rest, v, is, inr (many, inl (inl few)))) = absurd (omega (arith, few, ap (λ (z : BudgetLeft). z.unknown) (need e)))

@@ -1,6 +1,7 @@
 -- Records one after another: what is read of them, and the grammar; and what they mean.
-use Rattle.std.proofs.Common.{◌≡◌, ◌≢◌, ◌⊎◌, inl, inr, ℕ, ◌+◌, ◌-◌, ◌*◌, ◌==◌, nat_lt, ◌<◌, ◌≤◌, Bool, true, false, ◌&&◌, not, cond, List, [], ◌∷◌, ◌++◌, length, map, Ok, Err, refl, sym, ap, subst, ◌∙◌, arith, append_assoc, append-nil, length-append}
+use Rattle.std.proofs.Common.{◌≡◌, ◌≢◌, ◌⊎◌, inl, inr, ℕ, ◌+◌, ◌-◌, ◌*◌, ◌==◌, nat_lt, ◌<◌, ◌≤◌, Bool, true, false, ◌&&◌, not, cond, if◌then◌else◌, List, [], ◌∷◌, ◌++◌, length, map, Ok, Err, refl, sym, ap, subst, ◌∙◌, arith, append_assoc, append-nil, length-append}
 use Rattle.std.proofs.lemmas.Bool.{cases_lt, eqb-true, eqb-false, eq-eqb, ne_eqb, lt-ltb, le-ltb, ltb-true, ltb-false, or_cases, or_parts, or_right}
+use Rattle.std.proofs.lemmas.List.{map-append}
 use Rattle.std.specs.Cmp.{IsEquivalence}
 use Rattle.buffa_bytes.specs.Field.{IsTag, TakesTag}
 use Rattle.buffa_bytes.specs.Front.{tag_at, check_wire, delimited_at}
@@ -19,7 +20,8 @@ use Rattle.buffa_wire.specs.Sequence.{join, ParsesEach}
 use Rattle.buffa_map.specs.Codec.{Reading}
 use Rattle.buffa_map.specs.Entry.{IsEntry, FaultOf, EntryOf, EntryFault, blanks, inner_need, need_at, need_of}
 use Rattle.buffa_map.specs.Pairs.{InOrder, put, SamePairs}
-use Rattle.buffa_map.specs.Run.{EntryRecord, IsRecord, Run, ArePaid, RecordFault, RunFault, entry_in, inner_needs, lacks, record_need, record_at, after_entry, next_record, run_of, step, fold_entries, undeclared, added, undeclared_record, undeclared_records}
+use Rattle.buffa_map.specs.Run.{EntryRecord, IsRecord, Run, ArePaid, RecordFault, RunFault, entry_in, inner_needs, lacks, record_need, record_at, after_entry, next_record, run_of, step, fold_entries, undeclared, undeclared_record, undeclared_records}
+use Rattle.buffa_map.specs.Merge.{Rules, kept_of_entry, kept_of_run}
 use Rattle.buffa_map.specs.declared.map_entry.MapEntry.{MapEntry}
 use Rattle.buffa_wire.proofs.SequenceLemmas.{Answers, answer, answers_as, along_sound, along_complete, along_faulty}
 use Rattle.buffa_map.proofs.EntryLemmas.{Plain, entry_sound, entry_complete, entry_faulty}
@@ -316,24 +318,27 @@ pub undeclared-append : {K V : Type 0} (es fs : List (EntryRecord K V)) → unde
 undeclared-append [] fs = refl
 undeclared-append (x ∷ es) fs = kept_first x.parts.known x.bytes es fs (undeclared-append es fs)
 
--- ---- what the entries that are undeclared add
-pub added-append : {K V X : Type 0} (adds : ℕ → List ℕ → List X) (n : ℕ) (es fs : List (EntryRecord K V)) → added adds n (es ++ fs) ≡ added adds n es ++ added adds n fs
-added-append adds n [] fs = refl
-added-append adds n (x ∷ es) fs = ap (λ z. cond x.parts.known [] (adds n x.bytes) ++ z) (added-append adds n es fs) ∙ sym (append_assoc (cond x.parts.known [] (adds n x.bytes)) (added adds n es) (added adds n fs))
+-- ---- what is kept of one entry more
+record_last : (n : ℕ) (known : Bool) (e : List ℕ) → map (λ k. (n, bytes k)) (cond known [] (e ∷ [])) ≡ undeclared_record n e known
+record_last n true e = refl
+record_last n false e = refl
 
--- one entry more
-pub added-more : {K V X : Type 0} (adds : ℕ → List ℕ → List X) (n : ℕ) (a b c : List X) (es : List (EntryRecord K V)) (x : EntryRecord K V) → b ≡ a ++ added adds n es → c ≡ b ++ cond x.parts.known [] (adds n x.bytes) → c ≡ a ++ added adds n (es ++ x ∷ [])
-added-more adds n a b c es x h k =
-    let one = cond x.parts.known [] (adds n x.bytes) in
-    k ∙ ap (λ z. z ++ one) h ∙ append_assoc a (added adds n es) one ∙ ap (λ z. a ++ z) (ap (λ z. added adds n es ++ z) (sym (append-nil one)) ∙ sym (added-append adds n es (x ∷ [])))
+undeclared_records-last : {K V : Type 0} (n : ℕ) (es : List (EntryRecord K V)) (x : EntryRecord K V) → undeclared_records n (es ++ x ∷ []) ≡ undeclared_records n es ++ undeclared_record n x.bytes x.parts.known
+undeclared_records-last n es x =
+    let last : List (List ℕ) = cond x.parts.known [] (x.bytes ∷ []) in
+    ap (map (λ k. (n, bytes k))) (undeclared-append es (x ∷ [])) ∙ map-append (λ k. (n, bytes k)) (undeclared es) last ∙ ap (λ z. undeclared_records n es ++ z) (record_last n x.parts.known x.bytes)
 
-record_first : (n : ℕ) (b : Bool) (e : List ℕ) (ks : List (List ℕ)) (rs : List (ℕ × Datum)) → rs ≡ map (λ k. (n, bytes k)) ks → undeclared_record n e b ++ rs ≡ map (λ k. (n, bytes k)) (cond b ks (e ∷ ks))
-record_first n true e ks rs h = h
-record_first n false e ks rs h = ap (λ z. (n, bytes e) ∷ z) h
+pub none_kept : (keeps : Bool) (records : List (ℕ × Datum)) → records ≡ records ++ (if keeps then [] else [])
+none_kept true records = sym (append-nil records)
+none_kept false records = sym (append-nil records)
 
-pub added_records : {K V : Type 0} (n : ℕ) (es : List (EntryRecord K V)) → added (λ m e. (m, bytes e) ∷ []) n es ≡ undeclared_records n es
-added_records n [] = refl
-added_records n (x ∷ es) = record_first n x.parts.known x.bytes (undeclared es) (added (λ m e. (m, bytes e) ∷ []) n es) (added_records n es)
+kept_too : (keeps : Bool) (a b c all one last : List (ℕ × Datum)) → last ≡ all ++ one → b ≡ a ++ (if keeps then all else []) → c ≡ b ++ (if keeps then one else []) → c ≡ a ++ (if keeps then last else [])
+kept_too true a b c all one last is h k = k ∙ ap (λ z. z ++ one) h ∙ append_assoc a all one ∙ ap (λ z. a ++ z) (sym is)
+kept_too false a b c all one last is h k = k ∙ append-nil b ∙ h
+
+pub kept-more : {K V : Type 0} (r : Rules K V) (a b c : List (ℕ × Datum)) (es : List (EntryRecord K V)) (x : EntryRecord K V) → b ≡ a ++ kept_of_run r es → c ≡ b ++ kept_of_entry r x.bytes x.parts → c ≡ a ++ kept_of_run r (es ++ x ∷ [])
+kept-more r a b c es x h k =
+    kept_too r.keeps_undeclared a b c (undeclared_records r.number es) (undeclared_record r.number x.bytes x.parts.known) (undeclared_records r.number (es ++ x ∷ [])) (undeclared_records-last r.number es x) h k
 
 -- ---- one entry more is paid
 inner_needs-last : {K V : Type 0} (key : Reading K) (val : Reading V) (d : ℕ) (xs : List (EntryRecord K V)) (x : EntryRecord K V) →

@@ -12,15 +12,15 @@ use Rattle.buffa_bytes.specs.Left.{past_no_tag, past_no_delimited}
 use Rattle.buffa_wire.proofs.SequenceLemmas.{not_nil, ok_no_err}
 use Rattle.buffa_wire.specs.BudgetLeft.{BudgetLeft}
 use Rattle.buffa_bytes.specs.Front.{check_wire, delimited_at, tag_at}
-use Rattle.buffa_map.specs.Merge.{MergesEntry, ReadsRun, RefusesEntry, Rules, State, StopsRun}
+use Rattle.buffa_map.specs.Merge.{MergesEntry, ReadsRun, RefusesEntry, Rules, State, RefusesRun, kept_of_run, unknown_cost}
 use Rattle.buffa_map.specs.Pairs.{InOrder, SamePairs}
-use Rattle.buffa_map.specs.Run.{fold_entries, ArePaid, RecordFault, Run, EntryRecord, added}
+use Rattle.buffa_map.specs.Run.{fold_entries, ArePaid, RecordFault, Run, EntryRecord}
 use Rattle.buffa_bytes.proofs.TailLemmas.{tail_more}
 use Rattle.buffa_bytes.specs.Unread.{IsTailOf}
 use Rattle.buffa_bytes.specs.Field.{TakesDelimited}
 use Rattle.buffa_bytes.proofs.WireLemmas.{checked_same, checked_other, other_not_full}
 use Rattle.buffa_map.proofs.TailLemmas.{no_tag, one_after, one_number, one_wire, tag_tail}
-use Rattle.buffa_map.proofs.RunLemmas.{fold_entries-more, fold_entries-order, Paid-more, Run-last, added-more, entry_falls, record_entry, record_found, record_mismatch, record_needs, record_other, record_tag}
+use Rattle.buffa_map.proofs.RunLemmas.{fold_entries-more, fold_entries-order, Paid-more, Run-last, kept-more, none_kept, entry_falls, record_entry, record_found, record_mismatch, record_needs, record_other, record_tag}
 
 module _ {K V : Type 0} (r : Rules K V) (old : State K V) (bs : List ℕ) where
   -- the records of some entries begin the bytes, and were read; rest follows them
@@ -31,11 +31,11 @@ module _ {K V : Type 0} (r : Rules K V) (old : State K V) (bs : List ℕ) where
     pub run : Run r.key r.val r.depth r.number front entries
     pub folded : SamePairs r.same (fold_entries r.same old.pairs entries) now.pairs
     pub order : InOrder r.keeps_order (fold_entries r.same old.pairs entries) now.pairs
-    pub keeps : now.records ≡ old.records ++ added r.adds r.number entries
-    pub paid : ArePaid r.key r.val r.depth r.cost r.extra old.left entries now.left
+    pub keeps : now.records ≡ old.records ++ kept_of_run r entries
+    pub paid : ArePaid r.key r.val r.depth r.cost (unknown_cost r) old.left entries now.left
 
   pub none_reached : Reached old bs
-  none_reached = record { front = []; entries = []; split = refl; run = refl; folded = λ q. refl; order = λ keeps. refl; keeps = sym (append-nil old.records); paid = (omega arith, omega arith) }
+  none_reached = record { front = []; entries = []; split = refl; run = refl; folded = λ q. refl; order = λ keeps. refl; keeps = none_kept r.keeps_undeclared old.records; paid = (omega arith, omega arith) }
 
   module _ (now : State K V) (rest : List ℕ) (h : Reached now rest) where
     pub all_reached : length rest ≡ 0 → ReadsRun r old bs now rest
@@ -58,11 +58,11 @@ module _ {K V : Type 0} (r : Rules K V) (old : State K V) (bs : List ℕ) where
         × ((mid : List ℕ) → tag_at rest ≡ Ok (r.number, LengthDelimited, mid) → ⊥)
 
     -- the next record is refused before its entry
-    stop_here : (unread : List ℕ) (f : DecodeError) → IsTailOf unread rest → Unread unread → ((x : DecodeError) → tag_at rest ≡ Err x → unread ≡ past_no_tag rest) → 0 < length rest → (f ≡ OutOfMemory → ⊥) → (f ≢ OutOfMemory → RecordFault r.key r.val r.depth r.number r.cost r.extra now.left rest f) → StopsRun r old bs now unread f
+    stop_here : (unread : List ℕ) (f : DecodeError) → IsTailOf unread rest → Unread unread → ((x : DecodeError) → tag_at rest ≡ Err x → unread ≡ past_no_tag rest) → 0 < length rest → (f ≡ OutOfMemory → ⊥) → (f ≢ OutOfMemory → RecordFault r.key r.val r.depth r.number r.cost (unknown_cost r) now.left rest f) → RefusesRun r old bs now unread f
     stop_here unread f tail past short more full fault = record {
       entries = h.entries;
       rest = rest;
-      over = now.left;
+      left_after = now.left;
       begins = (h.front, h.split, h.run, h.paid);
       folded = h.folded;
       order = h.order;
@@ -88,20 +88,20 @@ module _ {K V : Type 0} (r : Rules K V) (old : State K V) (bs : List ℕ) where
       };
     }
 
-    pub stop_tag : (unread : List ℕ) (f : DecodeError) → IsTailOf unread rest → unread ≡ past_no_tag rest → 0 < length rest → tag_at rest ≡ Err f → StopsRun r old bs now unread f
-    stop_tag unread f tail left more is = stop_here unread f tail (λ g w mid k. no_tag rest f is g w mid k, λ mid k. no_tag rest f is r.number LengthDelimited mid k) (λ x no. left) more (tag_no_full rest f is) (λ ne. record_tag r.key r.val r.depth r.number r.cost r.extra now.left rest f is)
+    pub stop_tag : (unread : List ℕ) (f : DecodeError) → IsTailOf unread rest → unread ≡ past_no_tag rest → 0 < length rest → tag_at rest ≡ Err f → RefusesRun r old bs now unread f
+    stop_tag unread f tail left more is = stop_here unread f tail (λ g w mid k. no_tag rest f is g w mid k, λ mid k. no_tag rest f is r.number LengthDelimited mid k) (λ x no. left) more (tag_no_full rest f is) (λ ne. record_tag r.key r.val r.depth r.number r.cost (unknown_cost r) now.left rest f is)
 
     module _ (mid : List ℕ) (g : ℕ) (w : WireType) (more : 0 < length rest) (tag : tag_at rest ≡ Ok (g, w, mid)) where
-      pub stop_other : g ≢ r.number → StopsRun r old bs now mid (UnexpectedField g)
-      stop_other other = stop_here mid (UnexpectedField g) (tag_tail rest mid g w tag) (λ h v m k _. one_after rest mid m g h w v tag k, λ m k. other (one_number rest mid m g r.number w LengthDelimited tag k)) (λ x no. absurd (ok_no_err (sym tag ∙ no))) more (λ out. cc) (λ ne. record_other r.key r.val r.depth r.number r.cost r.extra now.left rest mid g w tag other)
+      pub stop_other : g ≢ r.number → RefusesRun r old bs now mid (UnexpectedField g)
+      stop_other other = stop_here mid (UnexpectedField g) (tag_tail rest mid g w tag) (λ h v m k _. one_after rest mid m g h w v tag k, λ m k. other (one_number rest mid m g r.number w LengthDelimited tag k)) (λ x no. absurd (ok_no_err (sym tag ∙ no))) more (λ out. cc) (λ ne. record_other r.key r.val r.depth r.number r.cost (unknown_cost r) now.left rest mid g w tag other)
 
-      pub stop_mismatch : (f : DecodeError) → g ≡ r.number → check_wire g LengthDelimited w ≡ Err f → StopsRun r old bs now mid f
+      pub stop_mismatch : (f : DecodeError) → g ≡ r.number → check_wire g LengthDelimited w ≡ Err f → RefusesRun r old bs now mid f
       stop_mismatch f same is =
           let differs = (checked_other g LengthDelimited w f is).0 in
-          stop_here mid f (tag_tail rest mid g w tag) (λ h v m k _. one_after rest mid m g h w v tag k, λ m k. differs (one_wire rest mid m g r.number w LengthDelimited tag k)) (λ x no. absurd (ok_no_err (sym tag ∙ no))) more (other_not_full g LengthDelimited w f is) (λ ne. record_mismatch r.key r.val r.depth r.number r.cost r.extra now.left rest mid g w f tag same is)
+          stop_here mid f (tag_tail rest mid g w tag) (λ h v m k _. one_after rest mid m g h w v tag k, λ m k. differs (one_wire rest mid m g r.number w LengthDelimited tag k)) (λ x no. absurd (ok_no_err (sym tag ∙ no))) more (other_not_full g LengthDelimited w f is) (λ ne. record_mismatch r.key r.val r.depth r.number r.cost (unknown_cost r) now.left rest mid g w f tag same is)
 
       module _ (same : g ≡ r.number) (wire : check_wire g LengthDelimited w ≡ Ok tt) where
-        pub stop_entry : (new : State K V) (unread : List ℕ) (f : DecodeError) → RefusesEntry r now mid new unread f → StopsRun r old bs new unread f
+        pub stop_entry : (new : State K V) (unread : List ℕ) (f : DecodeError) → RefusesEntry r now mid new unread f → RefusesRun r old bs new unread f
         stop_entry new unread f k =
             let is_wire : w ≡ LengthDelimited = checked_same g LengthDelimited w wire in
             let found = tag_at_as rest mid g r.number w LengthDelimited tag same is_wire in
@@ -111,13 +111,13 @@ module _ {K V : Type 0} (r : Rules K V) (old : State K V) (bs : List ℕ) where
             record {
               entries = h.entries;
               rest = rest;
-              over = now.left;
+              left_after = now.left;
               begins = (h.front, h.split, h.run, h.paid);
               folded = rw k.pairs h.folded;
               order = rw k.pairs h.order;
               keeps = rw k.records h.keeps;
               some = not_nil rest more;
-              fault = λ ne. record_entry r.key r.val r.depth r.number r.cost r.extra now.left rest mid g w f tag same wire (k.fault ne);
+              fault = λ ne. record_entry r.key r.val r.depth r.number r.cost (unknown_cost r) now.left rest mid g w f tag same wire (k.fault ne);
               memory = λ out. (mid, found, k.memory out);
               unread = record {
                 tail = tail_more rest mid unread k.unread.tail (tag_tail rest mid g w tag);
@@ -148,8 +148,8 @@ module _ {K V : Type 0} (r : Rules K V) (old : State K V) (bs : List ℕ) where
               run = Run-last r.key r.val r.depth r.number h.front h.entries one.0 x h.run one.1;
               order = fold_entries-order r.same r.keeps_order old.pairs now.pairs new.pairs h.entries x k.says refl h.order k.order;
               folded = fold_entries-more laws old.pairs now.pairs new.pairs h.entries x k.says refl h.folded k.put;
-              keeps = added-more r.adds r.number old.records now.records new.records h.entries x h.keeps k.keeps;
-              paid = Paid-more r.key r.val r.depth r.cost r.extra old.left now.left new.left h.entries x h.paid k.pays;
+              keeps = kept-more r old.records now.records new.records h.entries x h.keeps k.keeps;
+              paid = Paid-more r.key r.val r.depth r.cost (unknown_cost r) old.left now.left new.left h.entries x h.paid k.pays;
             }
 
         pub less : (new : State K V) (after : List ℕ) → MergesEntry r now mid new after → length after < length rest

@@ -106,12 +106,12 @@ module _ {K V : Type 0} (key : Reading K) (val : Reading V) (d : ℕ) where
   -- of the fields; of the unknown fields left. Where what the messages cost isn't left, a message may be refused with
   -- any error.
   abbrev pub EntryFault : ℕ → ℕ → BudgetLeft → List ℕ → DecodeError → Type 0
-  EntryFault cost extra left bs f =
+  EntryFault cost unknown_cost left bs f =
       LengthFault bs f
       ⊎ ((t : List ℕ) × (e : List ℕ) × (rest : List ℕ) × IsVarint t (length e) × (bs ≡ t ++ (e ++ rest))
       × (((left.memory < cost) × (f ≡ ElementMemoryLimitExceeded))
       ⊎ ((cost ≤ left.memory) × (Lacks left (need_of cost e) ⊎ (FaultOf e f
-      ⊎ ((s : MapEntry K V) × IsEntry e s × (s.known ≡ false) × (left.unknown < (need_of cost e).unknown + extra) × (f ≡ UnknownFieldLimitExceeded)))))))
+      ⊎ ((s : MapEntry K V) × IsEntry e s × (s.known ≡ false) × (left.unknown < (need_of cost e).unknown + unknown_cost) × (f ≡ UnknownFieldLimitExceeded)))))))
 
   -- what the length and the entry at the front need beyond the units, if they are there
   abbrev pub inner_need : List ℕ → BudgetLeft

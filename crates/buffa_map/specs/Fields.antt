@@ -21,23 +21,23 @@ module _ {K V : Type 0} (key : Reading K) (val : Reading V) (d : ℕ) where
   EntryFieldsTakeMemory bytes f = ParseStops (IsEntryField key val d) (λ s rest e. EntryFieldTakesMemory rest) (blanks key val d) bytes f
 
   -- the field at the front was merged, rest follows it, and what it costs is spent
-  pub record MergesEntryField (old : MapEntry K V) (left : BudgetLeft) (bytes : List ℕ) (new : MapEntry K V) (over : BudgetLeft) (rest : List ℕ) : Type 0 where
+  pub record MergesEntryField (old : MapEntry K V) (left : BudgetLeft) (bytes : List ℕ) (new : MapEntry K V) (left_after : BudgetLeft) (rest : List ℕ) : Type 0 where
     pub field : entry_field_at key val d old bytes ≡ Ok (new, rest)
-    pub pays : Pays left (field_need key val d bytes) over
+    pub pays : Pays left (field_need key val d bytes) left_after
 
   -- f is why not, and out of memory only where the field takes memory; at most what the field costs is spent
-  pub record RefusesEntryField (old : MapEntry K V) (left : BudgetLeft) (bytes : List ℕ) (over : BudgetLeft) (f : DecodeError) : Type 0 where
+  pub record RefusesEntryField (old : MapEntry K V) (left : BudgetLeft) (bytes : List ℕ) (left_after : BudgetLeft) (f : DecodeError) : Type 0 where
     pub fault : f ≢ OutOfMemory → Lacks left (field_need key val d bytes) ⊎ EntryFieldFault key val d old bytes f
     pub full : f ≡ OutOfMemory → EntryFieldTakesMemory bytes
-    pub pays : PaysAtMost left (field_need key val d bytes) over
+    pub pays : PaysAtMost left (field_need key val d bytes) left_after
 
   -- the bytes are an entry that says so, and what its fields cost is spent
-  pub record MergesFields (bytes : List ℕ) (left : BudgetLeft) (says : MapEntry K V) (over : BudgetLeft) : Type 0 where
+  pub record MergesFields (bytes : List ℕ) (left : BudgetLeft) (says : MapEntry K V) (left_after : BudgetLeft) : Type 0 where
     pub entry : IsEntry key val d bytes says
-    pub pays : Pays left (need_at key val d (blanks key val d) bytes) over
+    pub pays : Pays left (need_at key val d (blanks key val d) bytes) left_after
 
   -- f is why not, and out of memory only at a field that takes memory; at most what its fields cost is spent
-  pub record RefusesFields (bytes : List ℕ) (left over : BudgetLeft) (f : DecodeError) : Type 0 where
+  pub record RefusesFields (bytes : List ℕ) (left left_after : BudgetLeft) (f : DecodeError) : Type 0 where
     pub fault : f ≢ OutOfMemory → Lacks left (need_at key val d (blanks key val d) bytes) ⊎ FaultOf key val d bytes f
     pub full : f ≡ OutOfMemory → EntryFieldsTakeMemory bytes f
-    pub pays : PaysAtMost left (need_at key val d (blanks key val d) bytes) over
+    pub pays : PaysAtMost left (need_at key val d (blanks key val d) bytes) left_after

@@ -46,12 +46,12 @@ module _ {K V : Type 0} (key : Reading K) (val : Reading V) where
 
   -- the same of a run of records, of which each is paid
   pub record RunsAreRead : Type 0 where
-    pub ok : (d n cost extra : ℕ) (left : BudgetLeft) (bs : List ℕ) (es : List (EntryRecord K V)) (over : BudgetLeft) →
-        (run_of key val d n cost extra left bs ≡ Ok (es, over)) ↔ (Run key val d n bs es × ArePaid key val d cost extra left es over)
-    pub err : ArePlain → (d n cost extra : ℕ) (left : BudgetLeft) (bs : List ℕ) (f : DecodeError) →
-        (run_of key val d n cost extra left bs ≡ Err f) ↔ RunFault key val d n cost extra left bs f
-    pub refused : (d n cost extra : ℕ) (left : BudgetLeft) (bs : List ℕ) (f : DecodeError) →
-        RunFault key val d n cost extra left bs f → (x : DecodeError) × (run_of key val d n cost extra left bs ≡ Err x)
+    pub ok : (d n cost unknown_cost : ℕ) (left : BudgetLeft) (bs : List ℕ) (es : List (EntryRecord K V)) (left_after : BudgetLeft) →
+        (run_of key val d n cost unknown_cost left bs ≡ Ok (es, left_after)) ↔ (Run key val d n bs es × ArePaid key val d cost unknown_cost left es left_after)
+    pub err : ArePlain → (d n cost unknown_cost : ℕ) (left : BudgetLeft) (bs : List ℕ) (f : DecodeError) →
+        (run_of key val d n cost unknown_cost left bs ≡ Err f) ↔ RunFault key val d n cost unknown_cost left bs f
+    pub refused : (d n cost unknown_cost : ℕ) (left : BudgetLeft) (bs : List ℕ) (f : DecodeError) →
+        RunFault key val d n cost unknown_cost left bs f → (x : DecodeError) × (run_of key val d n cost unknown_cost left bs ≡ Err x)
 
   -- where no payload is a message, units are all that is needed
   pub record NeedsUnits : Type 0 where
@@ -64,9 +64,9 @@ module _ {K V : Type 0} (key : Reading K) (val : Reading V) where
   -- cost, and the unknown fields of one that is undeclared
   abbrev pub LimitsAreTrue : Type 0
   LimitsAreTrue =
-      (d cost extra : ℕ) (left : BudgetLeft) (bs : List ℕ) (f : DecodeError) → EntryFault key val d cost extra left bs f → IsLimit f →
+      (d cost unknown_cost : ℕ) (left : BudgetLeft) (bs : List ℕ) (f : DecodeError) → EntryFault key val d cost unknown_cost left bs f → IsLimit f →
       (e : List ℕ) × (rest : List ℕ) × TakesDelimited bs e rest × (Lacks left (need_of key val d cost e)
-      ⊎ ((s : MapEntry K V) × IsEntry key val d e s × (s.known ≡ false) × Lacks left (plus (need_of key val d cost e) (unknown_fields extra))))
+      ⊎ ((s : MapEntry K V) × IsEntry key val d e s × (s.known ≡ false) × Lacks left (plus (need_of key val d cost e) (unknown_fields unknown_cost))))
 
   -- bytes are an entry, or a run, in one way only, and not while they have a fault
   pub record OneReading : Type 0 where
@@ -75,13 +75,13 @@ module _ {K V : Type 0} (key : Reading K) (val : Reading V) where
     -- one length, one entry and one rest begin the bytes
     pub front : (d : ℕ) (bs e a : List ℕ) (s : MapEntry K V) (f b : List ℕ) (t : MapEntry K V) → EntryOf key val d bs e s a → EntryOf key val d bs f t b → (e ≡ f) × (a ≡ b) × (s ≡ t)
     -- an entry that is paid has no fault
-    pub front_or_fault : (d cost extra : ℕ) (left : BudgetLeft) (bs e rest : List ℕ) (s : MapEntry K V) (f : DecodeError) → EntryOf key val d bs e s rest →
-        (need_of key val d cost e).memory ≤ left.memory → (need_of key val d cost e).unknown + cond s.known 0 extra ≤ left.unknown →
-        EntryFault key val d cost extra left bs f → ⊥
+    pub front_or_fault : (d cost unknown_cost : ℕ) (left : BudgetLeft) (bs e rest : List ℕ) (s : MapEntry K V) (f : DecodeError) → EntryOf key val d bs e s rest →
+        (need_of key val d cost e).memory ≤ left.memory → (need_of key val d cost e).unknown + cond s.known 0 unknown_cost ≤ left.unknown →
+        EntryFault key val d cost unknown_cost left bs f → ⊥
     pub run : (d n : ℕ) (bs : List ℕ) (es fs : List (EntryRecord K V)) → Run key val d n bs es → Run key val d n bs fs → es ≡ fs
     -- a run that is paid has no fault
-    pub run_or_fault : (d n cost extra : ℕ) (left over : BudgetLeft) (bs : List ℕ) (es : List (EntryRecord K V)) (f : DecodeError) →
-        Run key val d n bs es → ArePaid key val d cost extra left es over → RunFault key val d n cost extra left bs f → ⊥
+    pub run_or_fault : (d n cost unknown_cost : ℕ) (left left_after : BudgetLeft) (bs : List ℕ) (es : List (EntryRecord K V)) (f : DecodeError) →
+        Run key val d n bs es → ArePaid key val d cost unknown_cost left es left_after → RunFault key val d n cost unknown_cost left bs f → ⊥
 
   -- Two runs, one after the other, are a run of the entries of both; it makes of a map what the second one makes of
   -- what the first one makes of it, and keeps what both keep, in order.

@@ -1,5 +1,5 @@
 -- What reading entries does to a map, to the records that are kept beside it, and to a budget.
-use Rattle.std.specs.Prelude.{◌≡◌, ◌≢◌, ℕ, ◌+◌, ◌≤◌, Bool, List, [], ◌∷◌, ◌++◌, ◌⊎◌, cond, true, Option, None, Some, Ok, Err, IsOk}
+use Rattle.std.specs.Prelude.{◌≡◌, ◌≢◌, ℕ, ◌+◌, ◌<◌, ◌≤◌, Bool, List, [], ◌++◌, ◌⊎◌, cond, if◌then◌else◌, true, Ok, Err, IsOk}
 use Rattle.buffa_bytes.specs.declared.error.DecodeError.{DecodeError}
 use Rattle.buffa_bytes.specs.declared.error.DecodeError.TheVariants.{OutOfMemory}
 use Rattle.buffa_bytes.specs.Left.{past_no_tag, past_no_delimited}
@@ -8,13 +8,13 @@ use Rattle.buffa_bytes.specs.declared.wire_type.WireType.{WireType}
 use Rattle.buffa_bytes.specs.Field.{TakesDelimited}
 use Rattle.buffa_wire.specs.BudgetLeft.{BudgetLeft, Pays, plus, unknown_fields}
 use Rattle.buffa_bytes.specs.Front.{delimited_at, tag_at}
-use Rattle.buffa_wire.specs.Records.{Datum, bytes}
+use Rattle.buffa_wire.specs.Records.{Datum}
 use Rattle.buffa_bytes.specs.declared.wire_type.WireType.TheVariants.{LengthDelimited}
 use Rattle.buffa_map.specs.Codec.{Reading}
 use Rattle.buffa_map.specs.Entry.{EntryFault, EntryOf, IsEntry, inner_need, need_of}
 use Rattle.buffa_map.specs.Fields.{EntryFieldsTakeMemory}
 use Rattle.buffa_map.specs.Pairs.{InOrder, SamePairs}
-use Rattle.buffa_map.specs.Run.{fold_entries, ArePaid, RecordFault, Run, RunBegins, EntryRecord, added, record_need, step}
+use Rattle.buffa_map.specs.Run.{fold_entries, ArePaid, RecordFault, Run, RunBegins, EntryRecord, record_need, step, undeclared_record, undeclared_records}
 use Rattle.buffa_map.specs.declared.map_entry.MapEntry.{MapEntry}
 
 -- the pairs of the map, the records that are kept, and what is left of the budget
@@ -26,8 +26,9 @@ pub record State (K V : Type 0) : Type 0 where
 abbrev pub state : {K V : Type 0} → List (K × V) → List (ℕ × Datum) → BudgetLeft → State K V
 state pairs records left = record { pairs = pairs; records = records; left = left }
 
--- how entries are read: by which codecs, under which equality of keys, in which order, how deep, under which number, at
--- which cost; and what one with an undeclared value adds to the records, and takes of the unknown fields left
+-- By which rules entries are read: how a key is read, and how a value; which keys are the same; whether the map keeps the
+-- order in which keys came; how deep groups and messages may nest; the field's number; how many units of element memory
+-- an entry costs; and whether one with an undeclared value is kept, as a record, or dropped.
 pub record Rules (K V : Type 0) : Type 0 where
   pub key : Reading K
   pub val : Reading V
@@ -36,25 +37,18 @@ pub record Rules (K V : Type 0) : Type 0 where
   pub depth : ℕ
   pub number : ℕ
   pub cost : ℕ
-  pub extra : ℕ
-  pub adds : ℕ → List ℕ → List (ℕ × Datum)
+  pub keeps_undeclared : Bool
 
-abbrev pub rules : {K V : Type 0} → Reading K → Reading V → (K → K → Bool) → Bool → ℕ → ℕ → ℕ → ℕ → (ℕ → List ℕ → List (ℕ × Datum)) → Rules K V
-rules key val same ordered depth number cost extra adds =
-    record { key = key; val = val; same = same; keeps_order = ordered; depth = depth; number = number; cost = cost; extra = extra; adds = adds }
+-- the record that is kept of an entry, and those of a run's entries, in order
+abbrev pub kept_of_entry : {K V : Type 0} → Rules K V → List ℕ → MapEntry K V → List (ℕ × Datum)
+kept_of_entry r entry says = if r.keeps_undeclared then undeclared_record r.number entry says.known else []
 
--- entries with an undeclared value are dropped
-abbrev pub dropping : {K V : Type 0} → Reading K → Reading V → (K → K → Bool) → Bool → ℕ → ℕ → ℕ → Rules K V
-dropping key val same ordered depth number cost = rules key val same ordered depth number cost 0 (λ n e. [])
+abbrev pub kept_of_run : {K V : Type 0} → Rules K V → List (EntryRecord K V) → List (ℕ × Datum)
+kept_of_run r entries = if r.keeps_undeclared then undeclared_records r.number entries else []
 
--- they are kept, each as a record, and each takes one of the unknown fields left
-abbrev pub keeping : {K V : Type 0} → Reading K → Reading V → (K → K → Bool) → Bool → ℕ → ℕ → ℕ → Rules K V
-keeping key val same ordered depth number cost = rules key val same ordered depth number cost 1 (λ n e. (n, bytes e) ∷ [])
-
--- they are kept where a list was lent
-abbrev pub lending : {K V X : Type 0} → Reading K → Reading V → (K → K → Bool) → Bool → ℕ → ℕ → ℕ → Option X → Rules K V
-lending key val same ordered depth number cost None = dropping key val same ordered depth number cost
-lending key val same ordered depth number cost (Some list) = keeping key val same ordered depth number cost
+-- how many of the unknown fields left an undeclared entry costs: one, where it is kept
+abbrev pub unknown_cost : {K V : Type 0} → Rules K V → ℕ
+unknown_cost r = if r.keeps_undeclared then 1 else 0
 
 -- the entry at the front of the bytes was read, and rest follows it: it is one step of the fold, or it is kept
 pub record MergesEntry {K V : Type 0} (r : Rules K V) (old : State K V) (bytes : List ℕ) (new : State K V) (rest : List ℕ) : Type 0 where
@@ -63,12 +57,12 @@ pub record MergesEntry {K V : Type 0} (r : Rules K V) (old : State K V) (bytes :
   pub read : EntryOf r.key r.val r.depth bytes entry says rest
   pub put : SamePairs r.same (step r.same old.pairs says) new.pairs
   pub order : InOrder r.keeps_order (step r.same old.pairs says) new.pairs
-  pub keeps : new.records ≡ old.records ++ cond says.known [] (r.adds r.number entry)
-  pub pays : Pays old.left (plus (need_of r.key r.val r.depth r.cost entry) (unknown_fields (cond says.known 0 r.extra))) new.left
+  pub keeps : new.records ≡ old.records ++ kept_of_entry r entry says
+  pub pays : Pays old.left (plus (need_of r.key r.val r.depth r.cost entry) (unknown_fields (cond says.known 0 (unknown_cost r)))) new.left
 
 -- what keeping an entry takes is left: an unknown field, behind what its fields cost
 abbrev pub HasUnknownLeft : {K V : Type 0} → Rules K V → BudgetLeft → List ℕ → Type 0
-HasUnknownLeft r left e = (r.extra ≢ 0) × ((need_of r.key r.val r.depth r.cost e).unknown + r.extra ≤ left.unknown)
+HasUnknownLeft r left e = (r.keeps_undeclared ≡ true) × ((need_of r.key r.val r.depth r.cost e).unknown < left.unknown)
 
 -- Where merging an entry takes memory, of which f is told: its length and so many bytes are there; these are copied,
 -- if an entry may be undeclared and is kept then; or its units are left, and a field takes memory, or the whole entry is
@@ -76,7 +70,7 @@ HasUnknownLeft r left e = (r.extra ≢ 0) × ((need_of r.key r.val r.depth r.cos
 abbrev pub EntryTakesMemory : {K V : Type 0} → Rules K V → BudgetLeft → List ℕ → DecodeError → Type 0
 EntryTakesMemory {K} {V} r left bs f =
     (e : List ℕ) × (rest : List ℕ) × (delimited_at bs ≡ Ok (e, rest))
-    × (((r.extra ≢ 0) × (r.val.undeclared ≡ true) × (e ≢ []))
+    × (((r.keeps_undeclared ≡ true) × (r.val.undeclared ≡ true) × (e ≢ []))
     ⊎ ((r.cost ≤ left.memory) × (EntryFieldsTakeMemory r.key r.val r.depth e f
     ⊎ ((s : MapEntry K V) × IsEntry r.key r.val r.depth e s × ((s.known ≡ true) ⊎ HasUnknownLeft r left e)))))
 
@@ -91,20 +85,20 @@ pub record LeavesEntry (bytes : List ℕ) (f : DecodeError) (unread : List ℕ) 
 -- What a refused entry spends of a budget: at most its cost, the unknown field that keeping it takes and what the
 -- messages in it cost. The cost is gone where the entry was there and had a fault; the unknown field is not, where f is
 -- a fault; nothing is, where no length and so many bytes were there.
-pub record SpendsOnEntry {K V : Type 0} (r : Rules K V) (left : BudgetLeft) (bytes : List ℕ) (f : DecodeError) (over : BudgetLeft) : Type 0 where
-  pub units : (over.memory ≡ left.memory)
-      ⊎ ((over.memory + r.cost ≤ left.memory)
-      × (left.memory ≤ over.memory + (r.cost + (inner_need r.key r.val r.depth bytes).memory)))
-  pub charged : f ≢ OutOfMemory → (e rest : List ℕ) → TakesDelimited bytes e rest → r.cost ≤ left.memory → over.memory + r.cost ≤ left.memory
-  pub unspent : (IsOk (delimited_at bytes) → ⊥) → over ≡ left
-  pub most : over.unknown ≤ left.unknown
-  pub least : left.unknown ≤ over.unknown + (r.extra + (inner_need r.key r.val r.depth bytes).unknown)
-  pub no_unknown : f ≢ OutOfMemory → left.unknown ≤ over.unknown + (inner_need r.key r.val r.depth bytes).unknown
+pub record SpendsOnEntry {K V : Type 0} (r : Rules K V) (left : BudgetLeft) (bytes : List ℕ) (f : DecodeError) (left_after : BudgetLeft) : Type 0 where
+  pub units : (left_after.memory ≡ left.memory)
+      ⊎ ((left_after.memory + r.cost ≤ left.memory)
+      × (left.memory ≤ left_after.memory + (r.cost + (inner_need r.key r.val r.depth bytes).memory)))
+  pub charged : f ≢ OutOfMemory → (e rest : List ℕ) → TakesDelimited bytes e rest → r.cost ≤ left.memory → left_after.memory + r.cost ≤ left.memory
+  pub unspent : (IsOk (delimited_at bytes) → ⊥) → left_after ≡ left
+  pub most : left_after.unknown ≤ left.unknown
+  pub least : left.unknown ≤ left_after.unknown + (unknown_cost r + (inner_need r.key r.val r.depth bytes).unknown)
+  pub no_unknown : f ≢ OutOfMemory → left.unknown ≤ left_after.unknown + (inner_need r.key r.val r.depth bytes).unknown
 
 -- The entry at the front was refused, and f is why: its first fault; or memory ran out, which it does only where merging
 -- the entry takes memory. Map and records stand.
 pub record RefusesEntry {K V : Type 0} (r : Rules K V) (old : State K V) (bytes : List ℕ) (new : State K V) (tail : List ℕ) (f : DecodeError) : Type 0 where
-  pub fault : f ≢ OutOfMemory → EntryFault r.key r.val r.depth r.cost r.extra old.left bytes f
+  pub fault : f ≢ OutOfMemory → EntryFault r.key r.val r.depth r.cost (unknown_cost r) old.left bytes f
   pub memory : f ≡ OutOfMemory → EntryTakesMemory r old.left bytes f
   pub pairs : new.pairs ≡ old.pairs
   pub records : new.records ≡ old.records
@@ -128,8 +122,8 @@ pub record ReadsRun {K V : Type 0} (r : Rules K V) (old : State K V) (bytes : Li
   pub run : Run r.key r.val r.depth r.number bytes entries
   pub folded : SamePairs r.same (fold_entries r.same old.pairs entries) new.pairs
   pub order : InOrder r.keeps_order (fold_entries r.same old.pairs entries) new.pairs
-  pub keeps : new.records ≡ old.records ++ added r.adds r.number entries
-  pub paid : ArePaid r.key r.val r.depth r.cost r.extra old.left entries new.left
+  pub keeps : new.records ≡ old.records ++ kept_of_run r entries
+  pub paid : ArePaid r.key r.val r.depth r.cost (unknown_cost r) old.left entries new.left
   pub whole : rest ≡ []
 
 -- What a refused record leaves unread: a tail of what was. It is what follows the tag, where it is another; what follows
@@ -144,29 +138,29 @@ pub record LeavesRecord (n : ℕ) (bytes : List ℕ) (f : DecodeError) (unread :
   pub past_no_delimited : (mid : List ℕ) (x : DecodeError) → tag_at bytes ≡ Ok (n, LengthDelimited, mid) → delimited_at mid ≡ Err x → unread ≡ past_no_delimited mid
 
 -- What a refused record spends of a budget: what its entry does, and nothing where no record of the number was there.
-pub record SpendsOnRecord {K V : Type 0} (r : Rules K V) (left : BudgetLeft) (bytes : List ℕ) (f : DecodeError) (over : BudgetLeft) : Type 0 where
-  pub units : (over.memory ≡ left.memory)
-      ⊎ ((over.memory + r.cost ≤ left.memory)
-      × (left.memory ≤ over.memory + (r.cost + (record_need r.key r.val r.depth bytes).memory)))
-  pub charged : f ≢ OutOfMemory → (mid e after : List ℕ) → tag_at bytes ≡ Ok (r.number, LengthDelimited, mid) → TakesDelimited mid e after → r.cost ≤ left.memory → over.memory + r.cost ≤ left.memory
-  pub unspent : (HasWholeRecord r.number bytes → ⊥) → over ≡ left
-  pub most : over.unknown ≤ left.unknown
-  pub one_unknown : left.unknown ≤ over.unknown + (r.extra + (record_need r.key r.val r.depth bytes).unknown)
-  pub no_unknown : f ≢ OutOfMemory → left.unknown ≤ over.unknown + (record_need r.key r.val r.depth bytes).unknown
+pub record SpendsOnRecord {K V : Type 0} (r : Rules K V) (left : BudgetLeft) (bytes : List ℕ) (f : DecodeError) (left_after : BudgetLeft) : Type 0 where
+  pub units : (left_after.memory ≡ left.memory)
+      ⊎ ((left_after.memory + r.cost ≤ left.memory)
+      × (left.memory ≤ left_after.memory + (r.cost + (record_need r.key r.val r.depth bytes).memory)))
+  pub charged : f ≢ OutOfMemory → (mid e after : List ℕ) → tag_at bytes ≡ Ok (r.number, LengthDelimited, mid) → TakesDelimited mid e after → r.cost ≤ left.memory → left_after.memory + r.cost ≤ left.memory
+  pub unspent : (HasWholeRecord r.number bytes → ⊥) → left_after ≡ left
+  pub most : left_after.unknown ≤ left.unknown
+  pub one_unknown : left.unknown ≤ left_after.unknown + (unknown_cost r + (record_need r.key r.val r.depth bytes).unknown)
+  pub no_unknown : f ≢ OutOfMemory → left.unknown ≤ left_after.unknown + (record_need r.key r.val r.depth bytes).unknown
 
 -- The records of some entries begin the bytes, and were read: they are folded over the old map, kept, and paid. What
 -- follows them was refused, and f is why: the record's first fault; or memory ran out, which it does only where merging
 -- the entry of a record takes memory.
-pub record StopsRun {K V : Type 0} (r : Rules K V) (old : State K V) (bytes : List ℕ) (new : State K V) (tail : List ℕ) (f : DecodeError) : Type 0 where
+pub record RefusesRun {K V : Type 0} (r : Rules K V) (old : State K V) (bytes : List ℕ) (new : State K V) (tail : List ℕ) (f : DecodeError) : Type 0 where
   pub entries : List (EntryRecord K V)
   pub rest : List ℕ
-  pub over : BudgetLeft
-  pub begins : RunBegins r.key r.val r.depth r.number r.cost r.extra old.left bytes entries rest over
+  pub left_after : BudgetLeft
+  pub begins : RunBegins r.key r.val r.depth r.number r.cost (unknown_cost r) old.left bytes entries rest left_after
   pub some : rest ≢ []
   pub folded : SamePairs r.same (fold_entries r.same old.pairs entries) new.pairs
   pub order : InOrder r.keeps_order (fold_entries r.same old.pairs entries) new.pairs
-  pub keeps : new.records ≡ old.records ++ added r.adds r.number entries
-  pub fault : f ≢ OutOfMemory → RecordFault r.key r.val r.depth r.number r.cost r.extra over rest f
-  pub memory : f ≡ OutOfMemory → (mid : List ℕ) × (tag_at rest ≡ Ok (r.number, LengthDelimited, mid)) × EntryTakesMemory r over mid f
+  pub keeps : new.records ≡ old.records ++ kept_of_run r entries
+  pub fault : f ≢ OutOfMemory → RecordFault r.key r.val r.depth r.number r.cost (unknown_cost r) left_after rest f
+  pub memory : f ≡ OutOfMemory → (mid : List ℕ) × (tag_at rest ≡ Ok (r.number, LengthDelimited, mid)) × EntryTakesMemory r left_after mid f
   pub unread : LeavesRecord r.number rest f tail
-  pub spent : SpendsOnRecord r over rest f new.left
+  pub spent : SpendsOnRecord r left_after rest f new.left

@@ -5,8 +5,7 @@ use Rattle.buffa_bytes.specs.declared.error.DecodeError.TheVariants.{OutOfMemory
 use Rattle.buffa_wire.specs.BudgetLeft.{BudgetLeft}
 use Rattle.buffa_map.specs.Codec.{Reading, RefusesValue, Spends, value_at, value_need}
 use Rattle.buffa_map.specs.Laws.{ArePlain}
-use Rattle.buffa_wire.specs.Records.{Datum}
-use Rattle.buffa_map.specs.Merge.{MergesEntry, ReadsRun, RefusesEntry, Rules, State, StopsRun, rules}
+use Rattle.buffa_map.specs.Merge.{MergesEntry, ReadsRun, RefusesEntry, Rules, State, RefusesRun}
 use Rattle.buffa_map.specs.Pairs.{SamePairs}
 
 -- two states are one: the maps find the same pairs
@@ -41,22 +40,24 @@ module _ {K V : Type 0} (r : Rules K V) where
     pub read : (old : State K V) (bs : List ℕ) (a b : State K V) (x y : List ℕ) →
         ReadsRun r old bs a x → ReadsRun r old bs b y → SameState r a b × (x ≡ y)
     pub refused : (old : State K V) (bs : List ℕ) (a b : State K V) (x y : List ℕ) (f : DecodeError) →
-        ReadsRun r old bs a x → StopsRun r old bs b y f → (f ≢ OutOfMemory) → ⊥
+        ReadsRun r old bs a x → RefusesRun r old bs b y f → (f ≢ OutOfMemory) → ⊥
     pub stops : (old : State K V) (bs : List ℕ) (a b : State K V) (x y : List ℕ) (f g : DecodeError) →
-        (h : StopsRun r old bs a x f) (k : StopsRun r old bs b y g) → (f ≢ OutOfMemory) → (g ≢ OutOfMemory) →
+        (h : RefusesRun r old bs a x f) (k : RefusesRun r old bs b y g) → (f ≢ OutOfMemory) → (g ≢ OutOfMemory) →
         (h.entries ≡ k.entries) × (h.rest ≡ k.rest) × SamePairs r.same a.pairs b.pairs × (a.records ≡ b.records) × (x ≡ y)
     pub faults : ArePlainRules → (old : State K V) (bs : List ℕ) (a b : State K V) (x y : List ℕ) (f g : DecodeError) →
-        StopsRun r old bs a x f → StopsRun r old bs b y g → (f ≢ OutOfMemory) → (g ≢ OutOfMemory) → (f ≡ g) × SameState r a b
+        RefusesRun r old bs a x f → RefusesRun r old bs b y g → (f ≢ OutOfMemory) → (g ≢ OutOfMemory) → (f ≡ g) × SameState r a b
 
 -- by these codecs, whatever the rules beside them
 module _ {K V : Type 0} (key : Reading K) (val : Reading V) where
   abbrev pub EntriesArePinned : Type 0
   EntriesArePinned =
-      (same : K → K → Bool) (ordered : Bool) (d n cost extra : ℕ) (adds : ℕ → List ℕ → List (ℕ × Datum)) → EntryIsPinned (rules key val same ordered d n cost extra adds)
+      (same : K → K → Bool) (ordered : Bool) (d n cost : ℕ) (keeps : Bool) →
+      EntryIsPinned (record { key = key; val = val; same = same; keeps_order = ordered; depth = d; number = n; cost = cost; keeps_undeclared = keeps })
 
   abbrev pub RunsArePinned : Type 0
   RunsArePinned =
-      (same : K → K → Bool) (ordered : Bool) (d n cost extra : ℕ) (adds : ℕ → List ℕ → List (ℕ × Datum)) → RunIsPinned (rules key val same ordered d n cost extra adds)
+      (same : K → K → Bool) (ordered : Bool) (d n cost : ℕ) (keeps : Bool) →
+      RunIsPinned (record { key = key; val = val; same = same; keeps_order = ordered; depth = d; number = n; cost = cost; keeps_undeclared = keeps })
 
 -- the payload at the front was merged, and what it costs was spent
 abbrev pub IsPaid : {V : Type 0} → Reading V → ℕ → List ℕ → BudgetLeft → BudgetLeft → Type 0

@@ -1,5 +1,5 @@
 -- What the contracts of sizes, encodings, rewrites and storages leave open: nothing, but for what is said here.
-use Rattle.std.specs.Prelude.{◌≡◌, ◌≢◌, ℕ, Bool, false, List, Some, None, Result, Err, length}
+use Rattle.std.specs.Prelude.{◌≡◌, ◌≢◌, ℕ, Bool, false, true, List, Some, None, Result, Err, length}
 use Rattle.std.specs.Map.{lookup_entry}
 use Rattle.buffa_bytes.specs.declared.error.DecodeError.{DecodeError}
 use Rattle.buffa_bytes.specs.declared.error.DecodeError.TheVariants as decoding
@@ -10,7 +10,7 @@ use Rattle.buffa_wire.specs.Cache.{Cache}
 use Rattle.buffa_map.specs.Codec.{Reading, Writing}
 use Rattle.buffa_map.specs.Laws.{ArePlain}
 use Rattle.buffa_map.specs.MessageField.{IsFieldSized, IsFieldWritten, IsSmallField}
-use Rattle.buffa_map.specs.Merge.{Rules, keeping}
+use Rattle.buffa_map.specs.Merge.{Rules}
 use Rattle.buffa_map.specs.Pairs.{InOrder, ListsOnce, SamePairs, put}
 use Rattle.buffa_map.specs.Rewrite.{RefusesDecoding, RefusesEncoding, RewritesRun}
 use Rattle.buffa_map.specs.Encoding.{WritesField, field_size, saturated}
@@ -55,7 +55,8 @@ module _ {K V M : Type 0} (key : Reading K) (val : Reading V) (eq : K → K → 
   abbrev pub RewritesArePinned : Type 0
   RewritesArePinned =
       (d n cost : ℕ) (one other : M) (left : BudgetLeft) (bytes : List ℕ) (a b : List (K × V)) (over last : BudgetLeft) (x y old v w : List ℕ) (room : ℕ) →
-      RewriteIsPinned (keeping key val eq keeps d n cost) kw vw KeyFits ValFits (Walks one) (Walks other) left bytes a b over last x y old v w room
+      RewriteIsPinned (record { key = key; val = val; same = eq; keeps_order = keeps; depth = d; number = n; cost = cost; keeps_undeclared = true })
+      kw vw KeyFits ValFits (Walks one) (Walks other) left bytes a b over last x y old v w room
 
 -- A storage puts in one way only: a key that is there stays as it is stored, and finds the value; a new key is stored as
 -- it is; other keys find what they found. Where the order is kept, two maps after one put are one list.

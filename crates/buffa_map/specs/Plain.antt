@@ -7,34 +7,33 @@ use Rattle.buffa_bytes.specs.declared.error.DecodeError.{DecodeError}
 use Rattle.buffa_bytes.specs.declared.error.DecodeError.TheVariants.{ElementMemoryLimitExceeded, OutOfMemory, UnknownFieldLimitExceeded}
 use Rattle.buffa_map.specs.Codec.{Reading}
 use Rattle.buffa_map.specs.Entry.{FaultOf, IsEntry}
-use Rattle.buffa_wire.specs.Records.{Datum}
-use Rattle.buffa_map.specs.Merge.{MergesEntry, RefusesEntry, Rules, State, rules}
+use Rattle.buffa_map.specs.Merge.{MergesEntry, RefusesEntry, Rules, State, unknown_cost}
 use Rattle.buffa_map.specs.declared.map_entry.MapEntry.{MapEntry}
 
 -- f is the first fault: of the length; of the units; of the fields; of the unknown fields left
 abbrev pub PlainFault : {K V : Type 0} → Reading K → Reading V → ℕ → ℕ → ℕ → BudgetLeft → List ℕ → DecodeError → Type 0
-PlainFault {K} {V} key val d cost extra left bs f =
+PlainFault {K} {V} key val d cost unknown_cost left bs f =
     LengthFault bs f
     ⊎ ((t : List ℕ) × (e : List ℕ) × (rest : List ℕ) × IsVarint t (length e) × (bs ≡ t ++ (e ++ rest))
     × (((left.memory < cost) × (f ≡ ElementMemoryLimitExceeded))
     ⊎ ((cost ≤ left.memory) × (FaultOf key val d e f
-    ⊎ ((s : MapEntry K V) × IsEntry key val d e s × (s.known ≡ false) × (left.unknown < extra) × (f ≡ UnknownFieldLimitExceeded))))))
+    ⊎ ((s : MapEntry K V) × IsEntry key val d e s × (s.known ≡ false) × (left.unknown < unknown_cost) × (f ≡ UnknownFieldLimitExceeded))))))
 
 module _ {K V : Type 0} (r : Rules K V) (old : State K V) (bytes : List ℕ) where
   -- a merged entry spends its cost, and its unknown fields where its value is undeclared
   abbrev pub MergesExactly : State K V → List ℕ → Type 0
   MergesExactly new rest =
       (m : MergesEntry r old bytes new rest) →
-      (new.left.memory + r.cost ≡ old.left.memory) × (new.left.unknown + cond m.says.known 0 r.extra ≡ old.left.unknown)
+      (new.left.memory + r.cost ≡ old.left.memory) × (new.left.unknown + cond m.says.known 0 (unknown_cost r) ≡ old.left.unknown)
 
   -- A refused one spends its cost or nothing. A fault is the first; it spends the cost where the entry was there and
   -- the units were, and no unknown field.
   pub record SpendsExactly (new : State K V) (f : DecodeError) : Type 0 where
-    pub which : f ≢ OutOfMemory → PlainFault r.key r.val r.depth r.cost r.extra old.left bytes f
+    pub which : f ≢ OutOfMemory → PlainFault r.key r.val r.depth r.cost (unknown_cost r) old.left bytes f
     pub units : (new.left.memory ≡ old.left.memory) ⊎ (new.left.memory + r.cost ≡ old.left.memory)
     pub charged : f ≢ OutOfMemory → (e rest : List ℕ) → TakesDelimited bytes e rest → r.cost ≤ old.left.memory → new.left.memory + r.cost ≡ old.left.memory
     pub most : new.left.unknown ≤ old.left.unknown
-    pub least : old.left.unknown ≤ new.left.unknown + r.extra
+    pub least : old.left.unknown ≤ new.left.unknown + unknown_cost r
     pub no_unknown : f ≢ OutOfMemory → new.left.unknown ≡ old.left.unknown
 
 -- entries under these rules are exact
@@ -46,4 +45,5 @@ IsExact {K} {V} r =
 -- so are entries by these codecs, whatever the rules beside them
 abbrev pub EntriesAreExact : {K V : Type 0} → Reading K → Reading V → Type 0
 EntriesAreExact {K} {V} key val =
-    (same : K → K → Bool) (ordered : Bool) (d n cost extra : ℕ) (adds : ℕ → List ℕ → List (ℕ × Datum)) → IsExact (rules key val same ordered d n cost extra adds)
+    (same : K → K → Bool) (ordered : Bool) (d n cost : ℕ) (keeps : Bool) →
+    IsExact (record { key = key; val = val; same = same; keeps_order = ordered; depth = d; number = n; cost = cost; keeps_undeclared = keeps })

@@ -30,11 +30,6 @@ undeclared (x ∷ xs) = cond x.parts.known (undeclared xs) (x.bytes ∷ undeclar
 abbrev pub undeclared_record : ℕ → List ℕ → Bool → List (ℕ × Datum)
 undeclared_record n e known = cond known [] ((n, bytes e) ∷ [])
 
--- what is added for the undeclared entries, in order: for one of bytes e, `adds n e`
-abbrev pub added : {K V X : Type 0} → (ℕ → List ℕ → List X) → ℕ → List (EntryRecord K V) → List X
-added adds n [] = []
-added adds n (x ∷ xs) = cond x.parts.known [] (adds n x.bytes) ++ added adds n xs
-
 -- the undeclared entries as length-delimited records of number n
 abbrev pub undeclared_records : {K V : Type 0} → ℕ → List (EntryRecord K V) → List (ℕ × Datum)
 undeclared_records n es = map (λ e. (n, bytes e)) (undeclared es)
@@ -53,12 +48,12 @@ module _ {K V : Type 0} (key : Reading K) (val : Reading V) (d : ℕ) where
   inner_needs [] = nothing
   inner_needs (x ∷ xs) = plus (need_at key val d (blanks key val d) x.bytes) (inner_needs xs)
 
-  -- over is what is left of left after these entries, each of which costs some units of element memory and what the
+  -- left_after is what is left of left after these entries, each of which costs some units of element memory and what the
   -- messages in it cost, and each one that is undeclared some of the unknown fields left
   abbrev pub ArePaid : ℕ → ℕ → BudgetLeft → List (EntryRecord K V) → BudgetLeft → Type 0
-  ArePaid cost extra left es over =
-      (over.memory + (length es * cost + (inner_needs es).memory) ≡ left.memory)
-      × (over.unknown + (length (undeclared es) * extra + (inner_needs es).unknown) ≡ left.unknown)
+  ArePaid cost unknown_cost left es left_after =
+      (left_after.memory + (length es * cost + (inner_needs es).memory) ≡ left.memory)
+      × (left_after.unknown + (length (undeclared es) * unknown_cost + (inner_needs es).unknown) ≡ left.unknown)
 
   -- what the messages cost that are merged in the record at the front, if a tag, a length and an entry are there
   abbrev pub record_need : List ℕ → BudgetLeft
@@ -67,17 +62,17 @@ module _ {K V : Type 0} (key : Reading K) (val : Reading V) (d : ℕ) where
   -- What the entry e says, if left pays for it. Where a fault inside a message isn't named, or what the messages cost
   -- isn't left, the error stands for any that may be told.
   abbrev pub entry_in : ℕ → ℕ → BudgetLeft → List ℕ → Result (MapEntry K V) DecodeError
-  entry_in cost extra left e =
+  entry_in cost unknown_cost left e =
       let need : BudgetLeft = need_of key val d cost e in
       if lacks left need then Err ElementMemoryLimitExceeded else (do
         s ← entry_of key val d e
-        if not s.known && nat_lt left.unknown (need.unknown + extra) then Err UnknownFieldLimitExceeded else Ok s)
+        if not s.known && nat_lt left.unknown (need.unknown + unknown_cost) then Err UnknownFieldLimitExceeded else Ok s)
 
   -- what is left of the budget after an entry
   abbrev pub after_entry : ℕ → ℕ → BudgetLeft → EntryRecord K V → BudgetLeft
-  after_entry cost extra left x =
+  after_entry cost unknown_cost left x =
       let need : BudgetLeft = need_of key val d cost x.bytes in
-      record { unknown = left.unknown - (need.unknown + cond x.parts.known 0 extra); memory = left.memory - need.memory }
+      record { unknown = left.unknown - (need.unknown + cond x.parts.known 0 unknown_cost); memory = left.memory - need.memory }
 
 module _ {K V : Type 0} (key : Reading K) (val : Reading V) (d n : ℕ) where
   -- r is a tag of number n, a length, and the entry x of that length
@@ -94,36 +89,36 @@ module _ {K V : Type 0} (key : Reading K) (val : Reading V) (d n : ℕ) where
   -- f is why no record begins these bytes, in this order: the tag's fault, another number, another wire
   -- type, the fault of the length and the entry
   abbrev pub RecordFault : ℕ → ℕ → BudgetLeft → List ℕ → DecodeError → Type 0
-  RecordFault cost extra left bs f =
+  RecordFault cost unknown_cost left bs f =
       TagFault bs f
       ⊎ (((g : ℕ) × (w : WireType) × (rest : List ℕ) × TakesTag bs g w rest × (g ≢ n) × (f ≡ UnexpectedField g))
       ⊎ (((w : WireType) × (rest : List ℕ) × TakesTag bs n w rest × (w ≢ LengthDelimited) × (f ≡ WireTypeMismatch n LengthDelimited w))
-      ⊎ ((rest : List ℕ) × TakesTag bs n LengthDelimited rest × EntryFault key val d cost extra left rest f)))
+      ⊎ ((rest : List ℕ) × TakesTag bs n LengthDelimited rest × EntryFault key val d cost unknown_cost left rest f)))
 
   -- records of the entries es begin the bytes, rest follows, and they are paid
   abbrev pub RunBegins : ℕ → ℕ → BudgetLeft → List ℕ → List (EntryRecord K V) → List ℕ → BudgetLeft → Type 0
-  RunBegins cost extra left bs es rest over = (front : List ℕ) × (bs ≡ front ++ rest) × Run front es × ArePaid key val d cost extra left es over
+  RunBegins cost unknown_cost left bs es rest left_after = (front : List ℕ) × (bs ≡ front ++ rest) × Run front es × ArePaid key val d cost unknown_cost left es left_after
 
   -- after the records of some entries, f is the first fault of what is left
   abbrev pub RunFault : ℕ → ℕ → BudgetLeft → List ℕ → DecodeError → Type 0
-  RunFault cost extra left bs f =
-      (es : List (EntryRecord K V)) × (rest : List ℕ) × (over : BudgetLeft) × RunBegins cost extra left bs es rest over × (rest ≢ []) × RecordFault cost extra over rest f
+  RunFault cost unknown_cost left bs f =
+      (es : List (EntryRecord K V)) × (rest : List ℕ) × (left_after : BudgetLeft) × RunBegins cost unknown_cost left bs es rest left_after × (rest ≢ []) × RecordFault cost unknown_cost left_after rest f
 
-  -- the readings: of the record at the front, and of a whole run, which answers the entries and what is over
+  -- the readings: of the record at the front, and of a whole run, which answers the entries and what is left after them
   abbrev pub record_at : ℕ → ℕ → BudgetLeft → List ℕ → Result (EntryRecord K V × List ℕ) DecodeError
-  record_at cost extra left bs = do
+  record_at cost unknown_cost left bs = do
     t ← tag_at bs
     if t.0 == n then (do
       _ ← check_wire n LengthDelimited t.1
       e ← delimited_at t.2
-      s ← entry_in key val d cost extra left e.0
+      s ← entry_in key val d cost unknown_cost left e.0
       Ok (record { bytes = e.0; parts = s }, e.1)) else Err (UnexpectedField t.0)
 
   abbrev pub next_record : ℕ → ℕ → List (EntryRecord K V) × BudgetLeft → List ℕ → Result ((List (EntryRecord K V) × BudgetLeft) × List ℕ) DecodeError
-  next_record cost extra s bs = record_at cost extra s.1 bs >>= (λ x. Ok ((s.0 ++ x.0 ∷ [], after_entry key val d cost extra s.1 x.0), x.1))
+  next_record cost unknown_cost s bs = record_at cost unknown_cost s.1 bs >>= (λ x. Ok ((s.0 ++ x.0 ∷ [], after_entry key val d cost unknown_cost s.1 x.0), x.1))
 
   abbrev pub run_of : ℕ → ℕ → BudgetLeft → List ℕ → Result (List (EntryRecord K V) × BudgetLeft) DecodeError
-  run_of cost extra left bs = parse_all (next_record cost extra) ([], left) bs
+  run_of cost unknown_cost left bs = parse_all (next_record cost unknown_cost) ([], left) bs
 
 module _ {K V : Type 0} (eq : K → K → Bool) where
   -- the pairs after an entry that said s: a declared one is put

@@ -1,16 +1,16 @@
 //! One entry of a map field.
 
-ghost use Rattle.std.specs.Prelude.{◌≡◌, ◌+◌, ◌<◌, ◌≤◌, [], IfErr, IfOk, OnErr, OnOk};
+ghost use Rattle.std.specs.Prelude.{◌≡◌, ◌+◌, ◌<◌, ◌≤◌, [], IfErr, IfOk, OnErr, OnOk, false, is_some};
 ghost use Rattle.buffa_bytes.specs.declared.error.DecodeError.TheVariants.{ElementMemoryLimitExceeded, OutOfMemory};
 ghost use Rattle.buffa_wire.specs.BudgetLeft.{budget_left};
 ghost use Rattle.buffa_map.specs.Entry.{meant_entry};
-ghost use Rattle.buffa_map.specs.Lent.{lent_records, records_left, capacity_in, capacity_left};
-ghost use Rattle.buffa_map.specs.Merge.{MergesEntry, MergesWhole, RefusesEntry, RefusesWhole, dropping, lending, rules, state};
+ghost use Rattle.buffa_map.specs.Lent.{records_before, records_after, capacity_before, capacity_after};
+ghost use Rattle.buffa_map.specs.Merge.{MergesEntry, MergesWhole, RefusesEntry, RefusesWhole, Rules, state};
 ghost use Rattle.buffa_map.specs.Pairs.{InOrder, SamePairs, put};
 ghost use Rattle.buffa_map.specs.Parts.{ReadsCut, ReadsParts, RefusesCut, RefusesParts};
 
 use crate::codec::{MapCodec, MapValueDecode};
-use crate::fields::merge_fields;
+use crate::entry_fields::merge_fields;
 use crate::keep::{Dropped, Keeper};
 use crate::map_entry::MapEntry;
 use crate::merge_value::{ByCodec, MergeValue};
@@ -111,12 +111,28 @@ fn merge_whole<
     keeper: &mut L,
 ) -> Result<(), DecodeError>
     requires { W.may how.now ctx.depth }
-    ensures ok { OnOk result (MergesWhole (rules KC.reading W.reading C.equal C.keeps_order ctx.entry.depth number
-        (KC.COST + W.COST) L.extra L.adds)
+    ensures ok { let rules : Rules _ _ = record {
+      key = KC.reading;
+      val = W.reading;
+      same = C.equal;
+      keeps_order = C.keeps_order;
+      depth = ctx.entry.depth;
+      number = number;
+      cost = KC.COST + W.COST;
+      keeps_undeclared = L.KEEPS;
+    } in OnOk result (MergesWhole rules
         (state (C.pairs map.old) (L.records keeper.old) ctx.entry.budget.now) entry.now
         (state (C.pairs map.new) (L.records keeper.new) (budget_left ctx.exit))) }
-    ensures err { IfErr result (RefusesWhole (rules KC.reading W.reading C.equal C.keeps_order ctx.entry.depth number
-        (KC.COST + W.COST) L.extra L.adds)
+    ensures err { let rules : Rules _ _ = record {
+      key = KC.reading;
+      val = W.reading;
+      same = C.equal;
+      keeps_order = C.keeps_order;
+      depth = ctx.entry.depth;
+      number = number;
+      cost = KC.COST + W.COST;
+      keeps_undeclared = L.KEEPS;
+    } in IfErr result (RefusesWhole rules
         (state (C.pairs map.old) (L.records keeper.old) ctx.entry.budget.now) entry.now
         (state (C.pairs map.new) (L.records keeper.new) (budget_left ctx.exit))) }
     ensures room { L.room keeper.old ≤ L.room keeper.new }
@@ -152,12 +168,28 @@ pub(crate) fn merge_entry_by<
     keeper: &mut L,
 ) -> Result<(), DecodeError>
     requires { W.may how.now ctx.depth }
-    ensures ok { OnOk result (MergesEntry (rules KC.reading W.reading C.equal C.keeps_order ctx.entry.depth number
-        (KC.COST + W.COST) L.extra L.adds)
+    ensures ok { let rules : Rules _ _ = record {
+      key = KC.reading;
+      val = W.reading;
+      same = C.equal;
+      keeps_order = C.keeps_order;
+      depth = ctx.entry.depth;
+      number = number;
+      cost = KC.COST + W.COST;
+      keeps_undeclared = L.KEEPS;
+    } in OnOk result (MergesEntry rules
         (state (C.pairs map.old) (L.records keeper.old) ctx.entry.budget.now) (B.unread buf.old)
         (state (C.pairs map.new) (L.records keeper.new) (budget_left ctx.exit)) (B.unread buf.new)) }
-    ensures err { IfErr result (RefusesEntry (rules KC.reading W.reading C.equal C.keeps_order ctx.entry.depth number
-        (KC.COST + W.COST) L.extra L.adds)
+    ensures err { let rules : Rules _ _ = record {
+      key = KC.reading;
+      val = W.reading;
+      same = C.equal;
+      keeps_order = C.keeps_order;
+      depth = ctx.entry.depth;
+      number = number;
+      cost = KC.COST + W.COST;
+      keeps_undeclared = L.KEEPS;
+    } in IfErr result (RefusesEntry rules
         (state (C.pairs map.old) (L.records keeper.old) ctx.entry.budget.now) (B.unread buf.old)
         (state (C.pairs map.new) (L.records keeper.new) (budget_left ctx.exit)) (B.unread buf.new)) }
     ensures room { L.room keeper.old ≤ L.room keeper.new }
@@ -203,12 +235,28 @@ pub fn merge_entry<
     C: MapStorage<Key = KC::Value, Value = VC::Value>,
     B: Buf,
 >(alloc: Global, map: &mut C, buf: &mut B, ctx: DecodeContext<'_>) -> Result<(), DecodeError>
-    ensures ok { OnOk result (MergesEntry (dropping KC.reading VC.reading C.equal C.keeps_order ctx.entry.depth 0
-        (KC.COST + VC.COST))
+    ensures ok { let rules : Rules _ _ = record {
+      key = KC.reading;
+      val = VC.reading;
+      same = C.equal;
+      keeps_order = C.keeps_order;
+      depth = ctx.entry.depth;
+      number = 0;
+      cost = KC.COST + VC.COST;
+      keeps_undeclared = false;
+    } in OnOk result (MergesEntry rules
         (state (C.pairs map.old) [] ctx.entry.budget.now) (B.unread buf.old)
         (state (C.pairs map.new) [] (budget_left ctx.exit)) (B.unread buf.new)) }
-    ensures err { IfErr result (RefusesEntry (dropping KC.reading VC.reading C.equal C.keeps_order ctx.entry.depth 0
-        (KC.COST + VC.COST))
+    ensures err { let rules : Rules _ _ = record {
+      key = KC.reading;
+      val = VC.reading;
+      same = C.equal;
+      keeps_order = C.keeps_order;
+      depth = ctx.entry.depth;
+      number = 0;
+      cost = KC.COST + VC.COST;
+      keeps_undeclared = false;
+    } in IfErr result (RefusesEntry rules
         (state (C.pairs map.old) [] ctx.entry.budget.now) (B.unread buf.old)
         (state (C.pairs map.new) [] (budget_left ctx.exit)) (B.unread buf.new)) }
     ensures kept { B.beyond buf.new ≡ B.beyond buf.old }
@@ -252,15 +300,31 @@ pub fn merge_entry_with_unknowns<
     number: u32,
     unknown: Option<&mut UnknownFields>,
 ) -> Result<(), DecodeError>
-    ensures ok { OnOk result (MergesEntry (lending KC.reading VC.reading C.equal C.keeps_order ctx.entry.depth number
-        (KC.COST + VC.COST) unknown.entry)
-        (state (C.pairs map.old) (lent_records unknown.entry) ctx.entry.budget.now) (B.unread buf.old)
-        (state (C.pairs map.new) (records_left unknown.exit) (budget_left ctx.exit)) (B.unread buf.new)) }
-    ensures err { IfErr result (RefusesEntry (lending KC.reading VC.reading C.equal C.keeps_order ctx.entry.depth number
-        (KC.COST + VC.COST) unknown.entry)
-        (state (C.pairs map.old) (lent_records unknown.entry) ctx.entry.budget.now) (B.unread buf.old)
-        (state (C.pairs map.new) (records_left unknown.exit) (budget_left ctx.exit)) (B.unread buf.new)) }
-    ensures room { capacity_in unknown.entry ≤ capacity_left unknown.exit }
+    ensures ok { let rules : Rules _ _ = record {
+      key = KC.reading;
+      val = VC.reading;
+      same = C.equal;
+      keeps_order = C.keeps_order;
+      depth = ctx.entry.depth;
+      number = number;
+      cost = KC.COST + VC.COST;
+      keeps_undeclared = is_some unknown.entry;
+    } in OnOk result (MergesEntry rules
+        (state (C.pairs map.old) (records_before unknown.entry) ctx.entry.budget.now) (B.unread buf.old)
+        (state (C.pairs map.new) (records_after unknown.exit) (budget_left ctx.exit)) (B.unread buf.new)) }
+    ensures err { let rules : Rules _ _ = record {
+      key = KC.reading;
+      val = VC.reading;
+      same = C.equal;
+      keeps_order = C.keeps_order;
+      depth = ctx.entry.depth;
+      number = number;
+      cost = KC.COST + VC.COST;
+      keeps_undeclared = is_some unknown.entry;
+    } in IfErr result (RefusesEntry rules
+        (state (C.pairs map.old) (records_before unknown.entry) ctx.entry.budget.now) (B.unread buf.old)
+        (state (C.pairs map.new) (records_after unknown.exit) (budget_left ctx.exit)) (B.unread buf.new)) }
+    ensures room { capacity_before unknown.entry ≤ capacity_after unknown.exit }
     ensures kept { B.beyond buf.new ≡ B.beyond buf.old }
 {
     let how = ByCodec::<VC>::new();

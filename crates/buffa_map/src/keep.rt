@@ -1,7 +1,7 @@
 //! Keepers: what becomes of a map entry whose value is undeclared.
 
 ghost use Rattle.std.specs.Prelude.{◌≡◌, ◌≢◌, ◌+◌, ◌<◌, ◌≤◌, ◌++◌, ◌∷◌, ℕ, Bool, List, [], true, false};
-ghost use Rattle.std.specs.Prelude.{IfErr, OnErr, OnOk, refl};
+ghost use Rattle.std.specs.Prelude.{IfErr, OnErr, OnOk, if◌then◌else◌};
 ghost use Rattle.buffa_bytes.specs.declared.error.DecodeError.TheVariants.{OutOfMemory, UnknownFieldLimitExceeded};
 ghost use Rattle.buffa_wire.specs.Records.{Datum, bytes};
 ghost use Rattle.buffa_map.specs.Lent.{capacity_of};
@@ -23,12 +23,6 @@ pub trait Keeper {
     /// How many records fit without new memory, those that are there included.
     ghost room: { Self → ℕ };
 
-    /// How many of the budget's unknown fields one entry takes.
-    ghost extra: { ℕ };
-
-    /// The records that are added for the bytes of an entry of the field of this number.
-    ghost adds: { ℕ → List ℕ → List (ℕ × Datum) };
-
     /// Takes a copy of the bytes of an entry, if it keeps them, as a record of the field's `number`, 1 to 536,870,911.
     ///
     /// # Errors
@@ -41,21 +35,15 @@ pub trait Keeper {
         entry: &[u8],
         budget: &mut Budget,
     ) -> Result<(), DecodeError>
-        ensures ok { OnOk result ((records self.new ≡ records self.old ++ adds number entry.now)
-            × (budget.new.unknown + extra ≡ budget.old.unknown)) }
+        ensures ok { OnOk result (records self.new ≡ records self.old ++ (if KEEPS then (number, bytes entry.now) ∷ [] else [])) }
+        ensures pays { OnOk result (budget.new.unknown + (if KEEPS then 1 else 0) ≡ budget.old.unknown) }
         ensures err { OnErr result ((records self.new ≡ records self.old) × (budget.new.unknown ≤ budget.old.unknown)
-            × (budget.old.unknown ≤ budget.new.unknown + extra)) }
-        ensures fault { IfErr result (λ f. f ≢ OutOfMemory → (budget.old.unknown < extra)
+            × (budget.old.unknown ≤ budget.new.unknown + (if KEEPS then 1 else 0))) }
+        ensures fault { IfErr result (λ f. f ≢ OutOfMemory → (KEEPS ≡ true) × (budget.old.unknown ≡ 0)
             × (f ≡ UnknownFieldLimitExceeded) × (budget.new.unknown ≡ budget.old.unknown)) }
-        ensures full { IfErr result (λ f. f ≡ OutOfMemory → (extra ≢ 0) × (extra ≤ budget.old.unknown)) }
+        ensures full { IfErr result (λ f. f ≡ OutOfMemory → (KEEPS ≡ true) × (0 < budget.old.unknown)) }
         ensures memory { budget.new.memory ≡ budget.old.memory }
         ensures room { room self.old ≤ room self.new };
-
-    /// Where it keeps none, an entry takes none of the unknown fields left, and adds nothing.
-    ghost drops: { KEEPS ≡ false → (extra ≡ 0) × ((n : ℕ) (entry : List ℕ) → adds n entry ≡ []) };
-
-    /// Where it keeps some, an entry takes some of the unknown fields left.
-    ghost keeps: { KEEPS ≡ true → extra ≢ 0 };
 }
 
 /// Entries are dropped, and take none of the unknown fields left.
@@ -71,10 +59,6 @@ impl Keeper for Dropped {
 
     ghost room = { λ _. 0 };
 
-    ghost extra = { 0 };
-
-    ghost adds = { λ _ _. [] };
-
     fn keep(
         &mut self,
         _alloc: Global,
@@ -85,10 +69,6 @@ impl Keeper for Dropped {
         // Nothing is kept, and nothing is spent.
         Ok(())
     }
-
-    ghost drops = { λ none. (refl, λ n entry. refl) };
-
-    ghost keeps = { λ some. cc };
 }
 
 impl Keeper for UnknownFields {
@@ -99,10 +79,6 @@ impl Keeper for UnknownFields {
     ghost records = { λ list. list.records };
 
     ghost room = { capacity_of };
-
-    ghost extra = { 1 };
-
-    ghost adds = { λ number entry. (number, bytes entry) ∷ [] };
 
     fn keep(
         &mut self,
@@ -115,8 +91,4 @@ impl Keeper for UnknownFields {
         let payload = UnknownFieldData::LengthDelimited(Vec::from_slice(alloc, entry)?);
         Ok(self.push(UnknownField { number, payload })?)
     }
-
-    ghost drops = { λ none. cc };
-
-    ghost keeps = { λ some none. cc };
 }

@@ -13,7 +13,7 @@ mod codec;
 mod codec_laws;
 mod codecs;
 mod entry;
-mod fields;
+mod entry_fields;
 mod hashed;
 mod indexed;
 mod keep;

@@ -1,6 +1,6 @@
 //! Entries of messages, merged by a function.
 
-ghost use Rattle.std.specs.Prelude.{◌≡◌, ◌≢◌, ◌+◌, ◌<◌, [], IfErr, IsOk, Ok, OnErr, OnOk, true};
+ghost use Rattle.std.specs.Prelude.{◌≡◌, ◌≢◌, ◌+◌, ◌<◌, [], IfErr, IsOk, Ok, OnErr, OnOk, true, false};
 ghost use Rattle.buffa_bytes.specs.Gives.{FullOnlyIf};
 ghost use Rattle.buffa_bytes.specs.Front.{delimited_at};
 ghost use Rattle.buffa_bytes.specs.declared.error.DecodeError.TheVariants.{OutOfMemory};
@@ -8,7 +8,7 @@ ghost use Rattle.buffa_wire.specs.BudgetLeft.{PaysAtMost, budget_left};
 ghost use Rattle.buffa_wire.specs.Message.{MergesBytes, MergesInside, MessageFault, cost_of_payload};
 ghost use Rattle.buffa_map.specs.Calls.{MergesMessages};
 ghost use Rattle.buffa_map.specs.Codec.{RefusesValue, Spends, ReadingTakesMemory, value_at, value_need};
-ghost use Rattle.buffa_map.specs.Merge.{MergesEntry, RefusesEntry, dropping, state};
+ghost use Rattle.buffa_map.specs.Merge.{MergesEntry, RefusesEntry, Rules, state};
 ghost use Rattle.buffa_map.specs.Message.{message_reading};
 
 use crate::codec::MapCodec;
@@ -133,12 +133,28 @@ pub fn merge_message_entry_by<
 ) -> Result<(), DecodeError>
     requires may { (x : _) (b : _) (d : _) (w : _) → d + 1 ≡ ctx.depth → F.pre merge x b d w }
     requires keeps { MergesMessages (F.post merge) M.meaning M.merged M.cost ctx.depth }
-    ensures ok { OnOk result (MergesEntry (dropping KC.reading (message_reading M.blank_is M.merged M.cost) C.equal C.keeps_order ctx.entry.depth 0
-        (KC.COST + M.COST))
+    ensures ok { let rules : Rules _ _ = record {
+      key = KC.reading;
+      val = message_reading M.blank_is M.merged M.cost;
+      same = C.equal;
+      keeps_order = C.keeps_order;
+      depth = ctx.entry.depth;
+      number = 0;
+      cost = KC.COST + M.COST;
+      keeps_undeclared = false;
+    } in OnOk result (MergesEntry rules
         (state (C.pairs map.old) [] ctx.entry.budget.now) (B.unread buf.old)
         (state (C.pairs map.new) [] (budget_left ctx.exit)) (B.unread buf.new)) }
-    ensures err { IfErr result (RefusesEntry (dropping KC.reading (message_reading M.blank_is M.merged M.cost) C.equal C.keeps_order ctx.entry.depth 0
-        (KC.COST + M.COST))
+    ensures err { let rules : Rules _ _ = record {
+      key = KC.reading;
+      val = message_reading M.blank_is M.merged M.cost;
+      same = C.equal;
+      keeps_order = C.keeps_order;
+      depth = ctx.entry.depth;
+      number = 0;
+      cost = KC.COST + M.COST;
+      keeps_undeclared = false;
+    } in IfErr result (RefusesEntry rules
         (state (C.pairs map.old) [] ctx.entry.budget.now) (B.unread buf.old)
         (state (C.pairs map.new) [] (budget_left ctx.exit)) (B.unread buf.new)) }
     ensures kept { B.beyond buf.new ≡ B.beyond buf.old }

@@ -1,9 +1,9 @@
 //! The rewrite of a map field by a reader that doesn't know all its values.
 
-ghost use Rattle.std.specs.Prelude.{◌≡◌, ◌+◌, [], IfErr, OnOk};
+ghost use Rattle.std.specs.Prelude.{◌≡◌, ◌+◌, [], IfErr, OnOk, true};
 ghost use Rattle.buffa_bytes.specs.Number.{IsNumber};
 ghost use Rattle.buffa_wire.specs.BudgetLeft.{budget_left};
-ghost use Rattle.buffa_map.specs.Merge.{ReadsRun, StopsRun, keeping, state};
+ghost use Rattle.buffa_map.specs.Merge.{ReadsRun, RefusesRun, Rules, state};
 ghost use Rattle.buffa_map.specs.Rewrite.{MatchRefusal, RefusesDecoding, RefusesEncoding, RewritesRun, WritesWalk, rewrite_error_text};
 
 use crate::codec::MapCodec;
@@ -54,12 +54,28 @@ fn read_anew<KC: MapCodec, VC: MapCodec, C: MapStorage<Key = KC::Value, Value = 
     ctx: DecodeContext<'_>,
     aside: &mut UnknownFields,
 ) -> Result<(), DecodeError>
-    ensures ok { OnOk result (ReadsRun (keeping KC.reading VC.reading C.equal C.keeps_order ctx.entry.depth number
-        (KC.COST + VC.COST))
+    ensures ok { let rules : Rules _ _ = record {
+      key = KC.reading;
+      val = VC.reading;
+      same = C.equal;
+      keeps_order = C.keeps_order;
+      depth = ctx.entry.depth;
+      number = number;
+      cost = KC.COST + VC.COST;
+      keeps_undeclared = true;
+    } in OnOk result (ReadsRun rules
         (state [] aside.old.records ctx.entry.budget.now) (B.unread buf.old)
         (state (C.pairs map.new) aside.new.records (budget_left ctx.exit)) (B.unread buf.new)) }
-    ensures err { IfErr result (StopsRun (keeping KC.reading VC.reading C.equal C.keeps_order ctx.entry.depth number
-        (KC.COST + VC.COST))
+    ensures err { let rules : Rules _ _ = record {
+      key = KC.reading;
+      val = VC.reading;
+      same = C.equal;
+      keeps_order = C.keeps_order;
+      depth = ctx.entry.depth;
+      number = number;
+      cost = KC.COST + VC.COST;
+      keeps_undeclared = true;
+    } in IfErr result (RefusesRun rules
         (state [] aside.old.records ctx.entry.budget.now) (B.unread buf.old)
         (state (C.pairs map.new) aside.new.records (budget_left ctx.exit)) (B.unread buf.new)) }
     ensures kept { B.beyond buf.new ≡ B.beyond buf.old }
@@ -116,19 +132,31 @@ pub fn rewrite_map_field<
     sink: &mut S,
 ) -> Result<(), RewriteError>
     requires { IsNumber number }
-    ensures ok { OnOk result (RewritesRun (keeping KC.reading VC.reading C.equal C.keeps_order ctx.entry.depth number
-        (KC.COST + VC.COST))
-        KC.writing VC.writing KC.fits VC.fits (C.walks map.new) ctx.entry.budget.now (B.unread buf.old) (C.pairs map.new)
-        (budget_left ctx.exit) (B.unread buf.new) (S.written sink.old) (S.written sink.new) (S.room sink.old)
-        (S.room sink.new)) }
-    ensures refused { IfErr result (λ e. MatchRefusal e
-        (RefusesDecoding (keeping KC.reading VC.reading C.equal C.keeps_order ctx.entry.depth number
-        (KC.COST + VC.COST))
-        ctx.entry.budget.now (B.unread buf.old) (C.pairs map.new) (budget_left ctx.exit) (B.unread buf.new)
-        (S.written sink.old) (S.written sink.new))
-        (RefusesEncoding (keeping KC.reading VC.reading C.equal C.keeps_order ctx.entry.depth number
-        (KC.COST + VC.COST))
-        KC.writing VC.writing (C.walks map.new) ctx.entry.budget.now (B.unread buf.old) (C.pairs map.new)
+    ensures ok { let rules : Rules _ _ = record {
+      key = KC.reading;
+      val = VC.reading;
+      same = C.equal;
+      keeps_order = C.keeps_order;
+      depth = ctx.entry.depth;
+      number = number;
+      cost = KC.COST + VC.COST;
+      keeps_undeclared = true;
+    } in OnOk result (RewritesRun rules KC.writing VC.writing KC.fits VC.fits (C.walks map.new) ctx.entry.budget.now
+        (B.unread buf.old) (C.pairs map.new) (budget_left ctx.exit) (B.unread buf.new)
+        (S.written sink.old) (S.written sink.new) (S.room sink.old) (S.room sink.new)) }
+    ensures refused { let rules : Rules _ _ = record {
+      key = KC.reading;
+      val = VC.reading;
+      same = C.equal;
+      keeps_order = C.keeps_order;
+      depth = ctx.entry.depth;
+      number = number;
+      cost = KC.COST + VC.COST;
+      keeps_undeclared = true;
+    } in IfErr result (λ e. MatchRefusal e
+        (RefusesDecoding rules ctx.entry.budget.now (B.unread buf.old) (C.pairs map.new) (budget_left ctx.exit)
+        (B.unread buf.new) (S.written sink.old) (S.written sink.new))
+        (RefusesEncoding rules KC.writing VC.writing (C.walks map.new) ctx.entry.budget.now (B.unread buf.old) (C.pairs map.new)
         (budget_left ctx.exit) (B.unread buf.new) (S.written sink.old) (S.written sink.new) (S.room sink.old))) }
     ensures kept { B.beyond buf.new ≡ B.beyond buf.old }
 {

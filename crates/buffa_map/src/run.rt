@@ -1,9 +1,9 @@
 //! A run of map records.
 
-ghost use Rattle.std.specs.Prelude.{◌≡◌, ◌+◌, ◌≤◌, IfErr, OnOk};
+ghost use Rattle.std.specs.Prelude.{◌≡◌, ◌+◌, ◌≤◌, IfErr, OnOk, is_some};
 ghost use Rattle.buffa_wire.specs.BudgetLeft.{budget_left};
-ghost use Rattle.buffa_map.specs.Lent.{lent_records, records_left, capacity_in, capacity_left};
-ghost use Rattle.buffa_map.specs.Merge.{ReadsRun, StopsRun, lending, rules, state};
+ghost use Rattle.buffa_map.specs.Lent.{records_before, records_after, capacity_before, capacity_after};
+ghost use Rattle.buffa_map.specs.Merge.{ReadsRun, RefusesRun, Rules, state};
 
 use crate::codec::{MapCodec, MapValueDecode};
 use crate::entry::merge_entry_by;
@@ -31,12 +31,28 @@ pub fn read_run_by<
     ctx: DecodeContext<'_>,
     keeper: &mut L,
 ) -> Result<(), DecodeError>
-    ensures ok { OnOk result (ReadsRun (rules KC.reading VC.reading C.equal C.keeps_order ctx.entry.depth number
-        (KC.COST + VC.COST) L.extra L.adds)
+    ensures ok { let rules : Rules _ _ = record {
+      key = KC.reading;
+      val = VC.reading;
+      same = C.equal;
+      keeps_order = C.keeps_order;
+      depth = ctx.entry.depth;
+      number = number;
+      cost = KC.COST + VC.COST;
+      keeps_undeclared = L.KEEPS;
+    } in OnOk result (ReadsRun rules
         (state (C.pairs map.old) (L.records keeper.old) ctx.entry.budget.now) (B.unread buf.old)
         (state (C.pairs map.new) (L.records keeper.new) (budget_left ctx.exit)) (B.unread buf.new)) }
-    ensures err { IfErr result (StopsRun (rules KC.reading VC.reading C.equal C.keeps_order ctx.entry.depth number
-        (KC.COST + VC.COST) L.extra L.adds)
+    ensures err { let rules : Rules _ _ = record {
+      key = KC.reading;
+      val = VC.reading;
+      same = C.equal;
+      keeps_order = C.keeps_order;
+      depth = ctx.entry.depth;
+      number = number;
+      cost = KC.COST + VC.COST;
+      keeps_undeclared = L.KEEPS;
+    } in IfErr result (RefusesRun rules
         (state (C.pairs map.old) (L.records keeper.old) ctx.entry.budget.now) (B.unread buf.old)
         (state (C.pairs map.new) (L.records keeper.new) (budget_left ctx.exit)) (B.unread buf.new)) }
     ensures room { L.room keeper.old ≤ L.room keeper.new }
@@ -88,15 +104,31 @@ pub fn read_map_field<
     ctx: DecodeContext<'_>,
     unknown: Option<&mut UnknownFields>,
 ) -> Result<(), DecodeError>
-    ensures ok { OnOk result (ReadsRun (lending KC.reading VC.reading C.equal C.keeps_order ctx.entry.depth number
-        (KC.COST + VC.COST) unknown.entry)
-        (state (C.pairs map.old) (lent_records unknown.entry) ctx.entry.budget.now) (B.unread buf.old)
-        (state (C.pairs map.new) (records_left unknown.exit) (budget_left ctx.exit)) (B.unread buf.new)) }
-    ensures err { IfErr result (StopsRun (lending KC.reading VC.reading C.equal C.keeps_order ctx.entry.depth number
-        (KC.COST + VC.COST) unknown.entry)
-        (state (C.pairs map.old) (lent_records unknown.entry) ctx.entry.budget.now) (B.unread buf.old)
-        (state (C.pairs map.new) (records_left unknown.exit) (budget_left ctx.exit)) (B.unread buf.new)) }
-    ensures room { capacity_in unknown.entry ≤ capacity_left unknown.exit }
+    ensures ok { let rules : Rules _ _ = record {
+      key = KC.reading;
+      val = VC.reading;
+      same = C.equal;
+      keeps_order = C.keeps_order;
+      depth = ctx.entry.depth;
+      number = number;
+      cost = KC.COST + VC.COST;
+      keeps_undeclared = is_some unknown.entry;
+    } in OnOk result (ReadsRun rules
+        (state (C.pairs map.old) (records_before unknown.entry) ctx.entry.budget.now) (B.unread buf.old)
+        (state (C.pairs map.new) (records_after unknown.exit) (budget_left ctx.exit)) (B.unread buf.new)) }
+    ensures err { let rules : Rules _ _ = record {
+      key = KC.reading;
+      val = VC.reading;
+      same = C.equal;
+      keeps_order = C.keeps_order;
+      depth = ctx.entry.depth;
+      number = number;
+      cost = KC.COST + VC.COST;
+      keeps_undeclared = is_some unknown.entry;
+    } in IfErr result (RefusesRun rules
+        (state (C.pairs map.old) (records_before unknown.entry) ctx.entry.budget.now) (B.unread buf.old)
+        (state (C.pairs map.new) (records_after unknown.exit) (budget_left ctx.exit)) (B.unread buf.new)) }
+    ensures room { capacity_before unknown.entry ≤ capacity_after unknown.exit }
     ensures kept { B.beyond buf.new ≡ B.beyond buf.old }
 {
     match unknown {

@@ -10,19 +10,19 @@ use Rattle.buffa_bytes.specs.declared.error.DecodeError.{DecodeError}
 use Rattle.buffa_wire.specs.BudgetLeft.{BudgetLeft}
 use Rattle.buffa_map.specs.Pairs.{SamePairs}
 use Rattle.buffa_wire.specs.Records.{Datum}
-use Rattle.buffa_map.specs.Run.{fold_entries, EntryRecord, added}
+use Rattle.buffa_map.specs.Run.{fold_entries, EntryRecord}
 use Rattle.buffamap.specs.Lines.{Pair, lines_of, pairs_of, same_key}
 use Rattle.buffamap.specs.Read.{ArePairsOfRun, RepliesToRun, run_from}
 use Rattle.buffamap.specs.Reply.{Reply, success}
 use Rattle.buffamap.proofs.OrderedLemmas.{in_order}
 
 -- nothing is kept
-abbrev NothingKept : ℕ → List (EntryRecord (List ℕ) ℤ) → Type 0
-NothingKept n es = [] ≡ [] ++ added {X = ℕ × Datum} (λ m e. []) n es
+abbrev NothingKept : Type 0
+NothingKept = let none : List (ℕ × Datum) = [] in none ≡ none ++ none
 
 -- the pairs that a run was folded into are what it means
 pub means : {X : Type 0} (r : Result X DecodeError) (n : ℕ) (bs : List ℕ) (new : List Pair) →
-    OnOk r ((es : List (EntryRecord (List ℕ) ℤ)) × (over : BudgetLeft) × (run_from n bs ≡ Ok (es, over)) × SamePairs (pointwise nat_eq) (fold_entries (pointwise nat_eq) [] es) new × NothingKept n es) →
+    OnOk r ((es : List (EntryRecord (List ℕ) ℤ)) × (over : BudgetLeft) × (run_from n bs ≡ Ok (es, over)) × SamePairs (pointwise nat_eq) (fold_entries (pointwise nat_eq) [] es) new × NothingKept) →
     OnOk r (ArePairsOfRun (run_from n bs) new)
 means r n bs new h = on_ok_weaker r (λ k. subst (λ z. ArePairsOfRun z new) (sym k.2) k.3) h
 

@@ -1,5 +1,5 @@
 -- What is answered of a run that is rewritten.
-use Rattle.std.proofs.Common.{◌≡◌, inl, ℕ, ◌^◌, ◌≤◌, ℤ, List, [], ◌∷◌, ◌++◌, Result, Ok, Err, false, refl, sym, ap, ◌∙◌, subst, length, arith}
+use Rattle.std.proofs.Common.{◌≡◌, inl, ℕ, ◌^◌, ◌≤◌, ℤ, List, [], ◌∷◌, ◌++◌, Result, Ok, Err, false, true, refl, sym, ap, ◌∙◌, subst, length, arith}
 use Rattle.std.specs.Prelude.{FitsSigned, OnOk, IfErr}
 use Rattle.std.specs.Int.{w32}
 use Rattle.std.specs.List.Sorted.{IsStrictlySortedBy}
@@ -9,9 +9,8 @@ use Rattle.std.proofs.lemmas.Result.{on_ok_weaker, IfErr-weaker}
 use Rattle.buffa_bytes.specs.declared.error.DecodeError.{DecodeError}
 use Rattle.buffa_bytes.specs.declared.error.EncodeError.TheVariants.{GroupRefused, MessageTooLarge, OutOfMemory}
 use Rattle.buffa_wire.specs.BudgetLeft.{BudgetLeft, defaults}
-use Rattle.buffa_wire.specs.Records.{bytes}
 use Rattle.buffa_map.specs.Enums.{ClosedFits, closed_writing}
-use Rattle.buffa_map.specs.Merge.{keeping}
+use Rattle.buffa_map.proofs.ReaderRules.{keeping}
 use Rattle.buffa_map.specs.Rewrite.{MatchRefusal, RefusesDecoding, RefusesEncoding, RewritesRun}
 use Rattle.buffa_map.specs.Run.{ArePaid, Run}
 use Rattle.buffa_map.specs.Encoding.{HasEncoding, entry_encoding}
@@ -70,7 +69,7 @@ module _ (d n : ℕ) (left over : BudgetLeft) (bs rest old new : List ℕ) (befo
           ((w.0, w.1, w.2, w.3, k.encoding ∙ ap (λ z. z ++ k.out) empty ∙ w.4), walked es w.0 sorted k.walks)
 
   why : (r : RewriteError) → Refuses r → IsRewriteError (choice_run n bs) r
-  why (Decode f) k = λ real. stops int32_reading choice_reading int_eq 8 1 (λ n e. (n, bytes e) ∷ []) (λ _ d c. refl) (λ _ d c. refl) refl refl (refusal f) d n left over bs [] pairs [] k.0 is_d is_left rest f k.1 real
+  why (Decode f) k = λ real. stops int32_reading choice_reading int_eq 8 true (λ _ d c. refl) (λ _ d c. refl) refl refl (refusal f) d n left over bs [] pairs [] k.0 is_d is_left rest f k.1 real
   why (Encode MessageTooLarge) k = λ real.
       let long = k.encoding in
       (refl, subst RunHasNoRewrite (sym (is_run k.entries k.run k.paid)) (k.walk, k.once, walked es k.walk sorted k.walks, λ h. too_long long.0 long.1 long.2 long.5 (subst (HasEncoding int32_writing closed_writing) long.3 h)))

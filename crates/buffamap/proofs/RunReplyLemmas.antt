@@ -9,37 +9,40 @@ use Rattle.buffa_bytes.specs.Content.{Content}
 use Rattle.buffa_wire.specs.Records.{Datum}
 use Rattle.buffa_map.specs.Codec.{Reading}
 use Rattle.buffa_map.specs.Pairs.{SamePairs}
-use Rattle.buffa_map.specs.Merge.{ReadsRun, StopsRun, rules, state}
-use Rattle.buffa_map.specs.Run.{fold_entries, ArePaid, Run, EntryRecord, added, run_of}
+use Rattle.buffa_map.specs.Merge.{ReadsRun, Rules, RefusesRun, kept_of_run, state, unknown_cost}
+use Rattle.buffa_map.specs.Run.{fold_entries, ArePaid, Run, EntryRecord, run_of}
 use Rattle.buffa_map.proofs.RunLemmas.{run_complete, run_faulty}
 
-module _ {K V : Type 0} (key : Reading K) (val : Reading V) (eq : K → K → Bool) (cost slot : ℕ) (adds : ℕ → List ℕ → List (ℕ × Datum))
+module _ {K V : Type 0} (key : Reading K) (val : Reading V) (eq : K → K → Bool) (cost : ℕ) (keeps : Bool)
     (key_free : key.nested ≡ false → (d : ℕ) (c : Content) → key.cost d c ≡ nothing) (val_free : val.nested ≡ false → (d : ℕ) (c : Content) → val.cost d c ≡ nothing)
     (key_plain : key.nested ≡ false) (val_plain : val.nested ≡ false)
     {X : Type 0} (r : Result X DecodeError) (d n : ℕ) (left over : BudgetLeft) (bs : List ℕ) (old new : List (K × V)) (records kept : List (ℕ × Datum)) (is_d : d ≡ 100) (is_left : left ≡ defaults) where
+  abbrev by : Rules K V
+  by = record { key = key; val = val; same = eq; keeps_order = false; depth = d; number = n; cost = cost; keeps_undeclared = keeps }
+
   -- the run of the entries, and what became of map and records
   abbrev pub IsRead : Type 0
   IsRead =
-      (es : List (EntryRecord K V)) × (over : BudgetLeft) × (run_of key val 100 n cost slot defaults bs ≡ Ok (es, over))
-      × SamePairs eq (fold_entries eq [] es) new × (kept ≡ records ++ added adds n es)
+      (es : List (EntryRecord K V)) × (over : BudgetLeft) × (run_of key val 100 n cost (unknown_cost by) defaults bs ≡ Ok (es, over))
+      × SamePairs eq (fold_entries eq [] es) new × (kept ≡ records ++ kept_of_run by es)
 
-  pub ran : (rest : List ℕ) → old ≡ [] → OnOk r (ReadsRun (rules key val eq false d n cost slot adds) (state old records left) bs (state new kept over) rest) → OnOk r IsRead
+  pub ran : (rest : List ℕ) → old ≡ [] → OnOk r (ReadsRun by (state old records left) bs (state new kept over) rest) → OnOk r IsRead
   ran rest is_old h = on_ok_weaker r (λ k. (
     k.entries,
     over,
-    run_complete key val 100 n cost slot key_free val_free defaults bs k.entries over (subst (λ z. Run key val z n bs k.entries) is_d k.run)
-        (subst (λ z. ArePaid key val z cost slot defaults k.entries over) is_d (subst (λ z. ArePaid key val d cost slot z k.entries over) is_left k.paid)),
+    run_complete key val 100 n cost (unknown_cost by) key_free val_free defaults bs k.entries over (subst (λ z. Run key val z n bs k.entries) is_d k.run)
+        (subst (λ z. ArePaid key val z cost (unknown_cost by) defaults k.entries over) is_d (subst (λ z. ArePaid key val d cost (unknown_cost by) z k.entries over) is_left k.paid)),
     subst (λ z. SamePairs eq (fold_entries eq z k.entries) new) is_old k.folded,
     k.keeps,
   )) h
 
-  pub stops : (unread : List ℕ) (f : DecodeError) → StopsRun (rules key val eq false d n cost slot adds) (state old records left) bs (state new kept over) unread f →
-      f ≢ OutOfMemory → run_of key val 100 n cost slot defaults bs ≡ Err f
+  pub stops : (unread : List ℕ) (f : DecodeError) → RefusesRun by (state old records left) bs (state new kept over) unread f →
+      f ≢ OutOfMemory → run_of key val 100 n cost (unknown_cost by) defaults bs ≡ Err f
   stops unread f k ne =
-      let q = run_faulty key val d n cost slot key_free val_free left bs f (k.entries, k.rest, k.over, k.begins, k.some, k.fault ne) in
-      let all : run_of key val d n cost slot left bs ≡ Err f = q.1 ∙ ap (λ z. Err z) (sym (q.2 (key_plain, val_plain))) in
-      subst (λ z. run_of key val z n cost slot defaults bs ≡ Err f) is_d (subst (λ z. run_of key val d n cost slot z bs ≡ Err f) is_left all)
+      let q = run_faulty key val d n cost (unknown_cost by) key_free val_free left bs f (k.entries, k.rest, k.left_after, k.begins, k.some, k.fault ne) in
+      let all : run_of key val d n cost (unknown_cost by) left bs ≡ Err f = q.1 ∙ ap (λ z. Err z) (sym (q.2 (key_plain, val_plain))) in
+      subst (λ z. run_of key val z n cost (unknown_cost by) defaults bs ≡ Err f) is_d (subst (λ z. run_of key val d n cost (unknown_cost by) z bs ≡ Err f) is_left all)
 
-  pub stopped : (unread : List ℕ) → IfErr r (StopsRun (rules key val eq false d n cost slot adds) (state old records left) bs (state new kept over) unread) →
-      IfErr r (λ f. f ≢ OutOfMemory → run_of key val 100 n cost slot defaults bs ≡ Err f)
+  pub stopped : (unread : List ℕ) → IfErr r (RefusesRun by (state old records left) bs (state new kept over) unread) →
+      IfErr r (λ f. f ≢ OutOfMemory → run_of key val 100 n cost (unknown_cost by) defaults bs ≡ Err f)
   stopped unread h = IfErr-weaker r _ _ (stops unread) h

@@ -9,7 +9,8 @@ use Rattle.buffa_map.specs.Codec.{Reading, Writing}
 use Rattle.buffa_map.specs.Entry.{EntryFault, need_of}
 use Rattle.buffa_map.specs.Enums.{closed_writing}
 use Rattle.buffa_map.specs.Laws.{OneReading}
-use Rattle.buffa_map.specs.Merge.{ReadsRun, State, StopsRun, keeping, state}
+use Rattle.buffa_map.specs.Merge.{ReadsRun, State, RefusesRun, state}
+use Rattle.buffa_map.proofs.ReaderRules.{keeping}
 use Rattle.buffa_map.specs.Rewrite.{MatchRefusal, RefusesDecoding, RefusesEncoding, RewritesRun}
 use Rattle.buffa_map.specs.Run.{EntryRecord, ArePaid, RecordFault, Run, RunBegins, inner_needs}
 use Rattle.buffa_map.specs.declared.rewrite.RewriteError.{RewriteError}
@@ -117,16 +118,16 @@ module _ {K V : Type 0} (key : Reading K) (val : Reading V) (d n cost extra : �
 module _ {K : Type 0} (rk : Reading K) (rv : Reading ℤ) (eq : K → K → Bool) (keeps : Bool) (n cost : ℕ) (pairs : List (K × ℤ)) (records : List (ℕ × Datum)) (new : State K ℤ) (unread : List ℕ) (f : DecodeError) where
   -- the same stop, by the names of the clause
   pub stopped : (d e : ℕ) (left given : BudgetLeft) (encoding out : List ℕ) → d ≡ e → left ≡ given → encoding ≡ out →
-      StopsRun (keeping rk rv eq keeps d n cost) (state pairs records left) encoding new unread f → StopsRun (keeping rk rv eq keeps e n cost) (state pairs records given) out new unread f
+      RefusesRun (keeping rk rv eq keeps d n cost) (state pairs records left) encoding new unread f → RefusesRun (keeping rk rv eq keeps e n cost) (state pairs records given) out new unread f
   stopped d e left given encoding out same is whole h =
-      subst (λ (z : List ℕ). StopsRun (keeping rk rv eq keeps e n cost) (state pairs records given) z new unread f) whole
-      (subst (λ (z : BudgetLeft). StopsRun (keeping rk rv eq keeps e n cost) (state pairs records z) encoding new unread f) is
-      (subst (λ (z : ℕ). StopsRun (keeping rk rv eq keeps z n cost) (state pairs records left) encoding new unread f) same h))
+      subst (λ (z : List ℕ). RefusesRun (keeping rk rv eq keeps e n cost) (state pairs records given) z new unread f) whole
+      (subst (λ (z : BudgetLeft). RefusesRun (keeping rk rv eq keeps e n cost) (state pairs records z) encoding new unread f) is
+      (subst (λ (z : ℕ). RefusesRun (keeping rk rv eq keeps z n cost) (state pairs records left) encoding new unread f) same h))
 
   pub stop_is_shortage : (d : ℕ) (left : BudgetLeft) (out : List ℕ) (gs : List (EntryRecord K ℤ)) → ((e : List ℕ) → need_of rk rv d cost e ≡ units cost) → OneReading rk rv → Run rk rv d n out gs →
-      StopsRun (keeping rk rv eq keeps d n cost) (state pairs records left) out new unread f → IsShortage f
+      RefusesRun (keeping rk rv eq keeps d n cost) (state pairs records left) out new unread f → IsShortage f
   stop_is_shortage d left out gs plain one run h =
-      is_shortage f (λ no. stop_is_limit rk rv d n cost 1 plain one left h.over out h.rest gs h.entries f run h.begins h.some (h.fault no))
+      is_shortage f (λ no. stop_is_limit rk rv d n cost 1 plain one left h.left_after out h.rest gs h.entries f run h.begins h.some (h.fault no))
 
 -- the same reading of the whole, by the names of the clause
 pub read_whole : {K : Type 0} (rk : Reading K) (rv : Reading ℤ) (eq : K → K → Bool) (keeps : Bool) (n cost : ℕ) (pairs : List (K × ℤ)) (records : List (ℕ × Datum)) (new : State K ℤ) (rest : List ℕ)

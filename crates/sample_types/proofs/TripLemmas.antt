@@ -10,7 +10,8 @@ use Rattle.buffa_bytes.specs.declared.error.EncodeError.TheVariants.{MessageTooL
 use Rattle.buffa_wire.specs.BudgetLeft.{BudgetLeft, nothing, units}
 use Rattle.buffa_map.specs.Entry.{need_of}
 use Rattle.buffa_map.specs.Codec.{Reading, Writing}
-use Rattle.buffa_map.specs.Merge.{ReadsRun, Rules, State, StopsRun, dropping, state}
+use Rattle.buffa_map.specs.Merge.{ReadsRun, Rules, State, RefusesRun, state, unknown_cost}
+use Rattle.buffa_map.proofs.ReaderRules.{dropping}
 use Rattle.buffa_map.specs.Run.{ArePaid, RecordFault, Run, RunFault, EntryRecord, fold_entries, inner_needs}
 use Rattle.buffa_map.specs.Encoding.{RefusesField, field_encoding}
 use Rattle.buffa_map.specs.Pairs.{InOrder, SamePairs}
@@ -58,12 +59,12 @@ module _ {K V : Type 0} (key : Reading K) (val : Reading V) (d n : ℕ)
 
 -- what a reading stopped at, where its start is known by equations
 pub stopped : {K V : Type 0} (rk : Reading K) (rv : Reading V) (same : K → K → Bool) (keeps : Bool) (d e n cost : ℕ) (left given : BudgetLeft) (pairs : List (K × V)) (bs encoding : List ℕ) (new : State K V) (unread : List ℕ) (f : DecodeError) →
-    d ≡ e → left ≡ given → pairs ≡ [] → bs ≡ encoding → StopsRun (dropping rk rv same keeps d n cost) (state pairs [] left) bs new unread f → StopsRun (dropping rk rv same keeps e n cost) (state [] [] given) encoding new unread f
+    d ≡ e → left ≡ given → pairs ≡ [] → bs ≡ encoding → RefusesRun (dropping rk rv same keeps d n cost) (state pairs [] left) bs new unread f → RefusesRun (dropping rk rv same keeps e n cost) (state [] [] given) encoding new unread f
 stopped rk rv same keeps d e n cost left given pairs bs encoding new unread f depth is none whole h =
-    subst (λ (z : List ℕ). StopsRun (dropping rk rv same keeps e n cost) (state [] [] given) z new unread f) whole
-    (subst (λ z. StopsRun (dropping rk rv same keeps e n cost) (state z [] given) bs new unread f) none
-    (subst (λ (z : BudgetLeft). StopsRun (dropping rk rv same keeps e n cost) (state pairs [] z) bs new unread f) is
-    (subst (λ (z : ℕ). StopsRun (dropping rk rv same keeps z n cost) (state pairs [] left) bs new unread f) depth h)))
+    subst (λ (z : List ℕ). RefusesRun (dropping rk rv same keeps e n cost) (state [] [] given) z new unread f) whole
+    (subst (λ z. RefusesRun (dropping rk rv same keeps e n cost) (state z [] given) bs new unread f) none
+    (subst (λ (z : BudgetLeft). RefusesRun (dropping rk rv same keeps e n cost) (state pairs [] z) bs new unread f) is
+    (subst (λ (z : ℕ). RefusesRun (dropping rk rv same keeps z n cost) (state pairs [] left) bs new unread f) depth h)))
 
 pub as_units : (b : BudgetLeft) (n : ℕ) → b.unknown ≡ 0 → b.memory ≡ n → b ≡ units n
 as_units b n u m = ap (λ (z : ℕ). record { unknown = z; memory = b.memory }) u ∙ ap (λ (z : ℕ). record { unknown = 0; memory = z }) m
@@ -100,4 +101,4 @@ module _ {K V : Type 0} {rules : Rules K V} {old new : State K V} {bytes rest : 
   order_came keeps = r.order keeps ∙ folds
 
   pub cost_came : (all : ℕ) → old.left.memory ≡ all → length l * rules.cost ≤ all
-  cost_came all memory = paid_for rules.key rules.val rules.depth rules.cost rules.extra old.left new.left r.entries all (length l) memory (ap length same ∙ back.many) r.paid
+  cost_came all memory = paid_for rules.key rules.val rules.depth rules.cost (unknown_cost rules) old.left new.left r.entries all (length l) memory (ap length same ∙ back.many) r.paid

@@ -1,5 +1,5 @@
 -- What is true where a map field wasn't passed on, and of the bytes where it was.
-use Rattle.std.specs.Prelude.{◌≡◌, ◌+◌, ◌++◌, ℕ, ℤ, Bool, List, []}
+use Rattle.std.specs.Prelude.{◌≡◌, ◌+◌, ◌++◌, ℕ, ℤ, Bool, true, List, []}
 use Rattle.buffa_bytes.specs.declared.error.DecodeError.{DecodeError}
 use Rattle.buffa_bytes.specs.declared.error.DecodeError.TheVariants.{ElementMemoryLimitExceeded, OutOfMemory, UnknownFieldLimitExceeded}
 use Rattle.buffa_wire.specs.BudgetLeft.{BudgetLeft, defaults}
@@ -7,7 +7,7 @@ use Rattle.buffa_wire.specs.Enums.{Numbers}
 use Rattle.buffa_wire.specs.Records.{Held}
 use Rattle.buffa_map.specs.Codec.{Reading, Writing}
 use Rattle.buffa_map.specs.Enums.{ClosedFits, closed_reading, closed_writing}
-use Rattle.buffa_map.specs.Merge.{ReadsRun, Rules, StopsRun, keeping, state}
+use Rattle.buffa_map.specs.Merge.{ReadsRun, Rules, RefusesRun, state}
 use Rattle.buffa_map.specs.Pairs.{SamePairs}
 use Rattle.buffa_map.specs.Rewrite.{MatchRefusal, Ordered, RefusesDecoding, RefusesEncoding, RewritesRun}
 use Rattle.buffa_map.specs.Run.{EntryRecord, Run, fold_entries, undeclared_records}
@@ -33,7 +33,8 @@ IfUnread P (Decode f) = P f
 
 -- how a reader of the enum e reads a field, where a key costs so many units, and the number of an enum four
 abbrev pub reader_of : {K : Type 0} → Reading K → ℕ → Numbers → (K → K → Bool) → Bool → ℕ → ℕ → Rules K ℤ
-reader_of key cost e same ordered d n = keeping key (closed_reading e) same ordered d n (cost + 4)
+reader_of key cost e same ordered d n =
+    record { key = key; val = closed_reading e; same = same; keeps_order = ordered; depth = d; number = n; cost = cost + 4; keeps_undeclared = true }
 
 -- A proxy: how the older reader, of the enum of these numbers, and the newer one read a field, at a depth and of a number;
 -- and how keys are written.
@@ -101,5 +102,5 @@ module _ {K : Type 0} (p : Proxy K) (KeyFits : K → Type 0) (d n : ℕ) (bytes 
     pub unread : List ℕ
     pub run : IsRun
     pub rewritten : IsRewrittenByOlder filled out
-    pub stops : StopsRun (p.newer d n) (state old before.records defaults) out (state new after.records over) unread f
+    pub stops : RefusesRun (p.newer d n) (state old before.records defaults) out (state new after.records over) unread f
     pub short : IsShortage f

@@ -8,7 +8,7 @@ use Rattle.buffa_bytes.specs.declared.error.EncodeError.TheVariants as encode
 use Rattle.buffa_map.specs.Codec.{Writing}
 use Rattle.buffa_map.specs.Scalars.{number_reading, text_reading, varint_writing}
 use Rattle.buffa_map.specs.Pairs.{InOrder, ListsOnce}
-use Rattle.buffa_map.specs.Merge.{Rules, StopsRun, dropping, state}
+use Rattle.buffa_map.specs.Merge.{Rules, RefusesRun, state}
 use Rattle.buffa_map.specs.Encoding.{HasEncoding, entry_encoding, field_encoding}
 use Rattle.buffa_bytes.specs.declared.error.DecodeError.{DecodeError}
 use Rattle.buffa_wire.specs.BudgetLeft.{BudgetLeft, units}
@@ -57,7 +57,7 @@ IfNotReadBack (Decode f) Q = Q f
 abbrev pub StopsInField : {K V : Type 0} → Rules K V → Writing K → Writing V → (List (K × V) → Type 0) → BudgetLeft → List (K × V) → DecodeError → Type 0
 StopsInField {K} {V} r key val Walk left pairs f =
     (l : List (K × V)) × Walk l × (over : BudgetLeft) × (unread : List ℕ)
-    × StopsRun r (state [] [] left) (field_encoding key val r.number l) (state pairs [] over) unread f
+    × RefusesRun r (state [] [] left) (field_encoding key val r.number l) (state pairs [] over) unread f
 
 -- the same, where the map was written, from the units that a budget starts with
 abbrev pub StopsTrip : {K V : Type 0} → Rules K V → Writing K → Writing V → (List (K × V) → Type 0) → List (K × V) → TripFault → Type 0
@@ -69,7 +69,16 @@ InWalkOrder {X} keeps Walk pairs = (l : List X) × Walk l × InOrder keeps l pai
 
 -- words as keys of flags, in a map whose order is open: how both are read in field 1, and how each is written
 abbrev pub word_rules : Rules (List ℕ) Bool
-word_rules = dropping text_reading (number_reading Varint false bool_of) same_letters false 0 1 25
+word_rules = record {
+  key = text_reading;
+  val = number_reading Varint false bool_of;
+  same = same_letters;
+  keeps_order = false;
+  depth = 0;
+  number = 1;
+  cost = 25;
+  keeps_undeclared = false;
+}
 
 abbrev pub flag_writing : Writing Bool
 flag_writing = varint_writing from_bool

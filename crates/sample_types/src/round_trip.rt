@@ -1,8 +1,7 @@
 //! A map through its bytes and back: whatever the codecs, the storage and the order of its walk.
 
-ghost use Rattle.std.specs.Prelude.{◌≡◌, ◌+◌, [], IfErr, OnOk, IsPermutation};
+ghost use Rattle.std.specs.Prelude.{◌≡◌, ◌+◌, [], IfErr, OnOk, IsPermutation, false};
 ghost use Rattle.buffa_bytes.specs.Number.{IsNumber};
-ghost use Rattle.buffa_map.specs.Merge.{dropping};
 ghost use Rattle.buffa_map.specs.Pairs.{SamePairs};
 ghost use Rattle.buffa_map.specs.Encoding.{AllHold};
 ghost use Rattle.sample_types.specs.Letters.{same_letters, spelled};
@@ -62,9 +61,16 @@ where
     ensures err { IfErr result (RefusesTrip KC.writing VC.writing (KC.COST + VC.COST) C.equal (C.pairs map.now)
         (C.walks map.now)) }
     ensures unchanged { IfErr result (λ fault. IfUnwritten fault (copy.new ≡ copy.old)) }
-    ensures stops { IfErr result (StopsTrip
-        (dropping KC.reading VC.reading C.equal C.keeps_order 0 number (KC.COST + VC.COST)) KC.writing VC.writing
-        (C.walks map.now) (C.pairs copy.new)) }
+    ensures stops { IfErr result (StopsTrip (record {
+      key = KC.reading;
+      val = VC.reading;
+      same = C.equal;
+      keeps_order = C.keeps_order;
+      depth = 0;
+      number = number;
+      cost = KC.COST + VC.COST;
+      keeps_undeclared = false;
+    }) KC.writing VC.writing (C.walks map.now) (C.pairs copy.new)) }
 {
     let mut encoding = Vec::new(alloc);
     match write_field::<KC, VC, C, _>(map, number, &mut encoding) {

@@ -1,4 +1,4 @@
-use Rattle.std.proofs.Common.{sym, ◌≡◌, ◌∙◌, true, false}
+use Rattle.std.proofs.Common.{sym, ◌∙◌}
 use Rattle.std.proofs.lemmas.Result.{err_from_is_err_and, on_ok_weaker, IfErr-weaker}
 use Rattle.std.proofs.lemmas.Bool.{false≢true}
 use Rattle.buffa_bytes.proofs.FullLemmas.{varint_no_full}
@@ -33,7 +33,7 @@ returns-in_err-entry-clause-err g c =
     let len = c.in_ok-len.ensures in
     let copy = c.in_err-entry.ensures in
     let same = after_length _ _ _ len.reads in
-    rw (p.1, p.2) (no_copy _ _ _ _ _ _ _ _ _ (g.met.L.Keeper.keeps (sym c.KEEPS.ensures ∙ c.if-KEEPS.true), g.met.W.MergeValue.undeclared ∙ sym c.MAY_RETURN_UNKNOWN.ensures ∙ c.if-MAY_RETURN_UNKNOWN.true) same (tail_more _ _ _ copy.tail len.tail) copy.reads copy.full copy.free (λ e rest t. near_rest _ _ _ _ e rest same t copy.within) (λ x no. past_copy _ _ _ _ x len.reads same copy.short no))
+    rw (p.1, p.2) (no_copy _ _ _ _ _ _ _ _ _ (sym c.KEEPS.ensures ∙ c.if-KEEPS.true, g.met.W.MergeValue.undeclared ∙ sym c.MAY_RETURN_UNKNOWN.ensures ∙ c.if-MAY_RETURN_UNKNOWN.true) same (tail_more _ _ _ copy.tail len.tail) copy.reads copy.full copy.free (λ e rest t. near_rest _ _ _ _ e rest same t copy.within) (λ x no. past_copy _ _ _ _ x len.reads same copy.short no))
 
 pub returns-in_err-parts-clause-err : goal.returns-in_err-parts-clause-err
 returns-in_err-parts-clause-err g c =
@@ -49,8 +49,8 @@ returns-then-not-parts-clause-ok g c =
           let all = g.met.W.MergeValue.declared (sym w.MAY_RETURN_UNKNOWN.ensures ∙ w.if-MAY_RETURN_UNKNOWN.false) in
           absurd (false≢true (sym c.if-not-parts.true ∙ entry_declared _ _ _ all cut.parts))
       | else-KEEPS-via-else-KEEPS w ↦
-          let none = g.met.L.Keeper.drops (sym c.KEEPS.ensures ∙ w.if-KEEPS.false) in
-          is_dropped _ _ _ _ _ _ _ (cut_front _ _ _ _ c.in_ok-len.ensures.reads cut.fits cut.follows) _ _ cut.parts c.if-not-parts.true none.0 none.1
+          let none = sym c.KEEPS.ensures ∙ w.if-KEEPS.false in
+          is_dropped _ _ _ _ _ _ _ (cut_front _ _ _ _ c.in_ok-len.ensures.reads cut.fits cut.follows) _ _ cut.parts c.if-not-parts.true none
     ]
 
 pub returns-clause-ok : goal.returns-clause-ok

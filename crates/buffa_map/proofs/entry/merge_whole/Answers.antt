@@ -1,4 +1,4 @@
-use Rattle.std.proofs.lemmas.Result.{err_from_is_err_and, on_ok_weaker}
+use Rattle.std.proofs.lemmas.Result.{err_from_is_err_and}
 use Rattle.buffa_map.proofs.MergeLemmas.{bad_parts, is_kept, is_put, not_kept, not_put}
 use Rattle.buffa_bytes.proofs.ResultLemmas.{IfErr-both, IfErr-with, OnOk-both}
 use Rattle.buffa_map.proofs.entry.merge_whole.Goals as goal
@@ -18,7 +18,7 @@ returns-clause-err g c =
 
 pub returns-then-not-parts-clause-ok : goal.returns-then-not-parts-clause-ok
 returns-then-not-parts-clause-ok g c =
-    on_ok_weaker c.keep.result (λ h. λ bytes rest is. is_kept _ _ _ _ _ _ _ is _ _ c.in_ok-parts.ensures.ok c.if-not-parts.true _ _ h.0 h.1 c.keep.ensures.memory) c.keep.ensures.ok
+    OnOk-both c.keep.result (λ h pays. λ bytes rest is. is_kept _ _ _ _ _ _ _ is _ _ c.in_ok-parts.ensures.ok c.if-not-parts.true _ _ h pays c.keep.ensures.memory) c.keep.ensures.ok c.keep.ensures.pays
 
 pub returns-then-not-parts-clause-err : goal.returns-then-not-parts-clause-err
 returns-then-not-parts-clause-err g c =

@@ -6,7 +6,6 @@ use Rattle.buffa_map.specs.Enums.{ClosedFits, closed_reading, closed_writing}
 use Rattle.buffa_map.specs.Pairs.{SamePairs}
 use Rattle.buffa_map.specs.Rewrite.{IsRewrite, Ordered}
 use Rattle.buffa_map.specs.Run.{fold_entries, undeclared, Run}
-use Rattle.buffa_map.proofs.RunLemmas.{added_records}
 use Rattle.sample_types.proofs.PassedLemmas.{left_is, not_rewritten, read_whole, rewritten, stop_is_shortage, stopped}
 use Rattle.sample_types.proofs.TripLemmas.{one_run, wrote}
 use Rattle.sample_types.proofs.passed_on.passed_on.Goals as goal
@@ -26,7 +25,7 @@ returns-in-Ok-read_map_field-clause-keeps g c fs k =
     let encoding : c.as_slice-written.result.now ≡ w.out = wrote w.out c.new-encoding.ensures.items w.encoding c.as_slice-written.ensures.value in
     let read = one_run c.one_reading-2.ensures c.new-ctx-2.result.depth depth n c.as_slice-written.result.now w.out r.entries t.0 c.new-ctx-2.ensures.depth encoding r.run t.1 in
     let kept : undeclared r.entries ≡ undeclared fs = ap undeclared read ∙ t.2.0 in
-    r.keeps ∙ ap (λ z. c.args.unknown.now.records ++ z) (added_records n r.entries) ∙ ap (λ z. c.args.unknown.now.records ++ map (λ (x : List ℕ). (n, bytes x)) z) kept
+    r.keeps ∙ ap (λ z. c.args.unknown.now.records ++ map (λ (x : List ℕ). (n, bytes x)) z) kept
 
 pub returns-in-Ok-read_map_field-clause-means : goal.returns-in-Ok-read_map_field-clause-means
 returns-in-Ok-read_map_field-clause-means g c es fs h k o q =

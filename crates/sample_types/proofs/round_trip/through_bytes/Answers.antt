@@ -61,7 +61,7 @@ returns-clause-err g c =
             let more = costs_more key val depth c.args.number
             (λ one e. c.plain_entries_need_units.ensures.entry (g.met.KC.MapCodec.plain, g.met.VC.MapCodec.plain) depth one e)
             (λ es. c.plain_entries_need_units.ensures.run (g.met.KC.MapCodec.plain, g.met.VC.MapCodec.plain) depth es) (c.one_reading.ensures.run_or_fault depth c.args.number) cost c.new-ctx.result.budget.now c.as_slice-rest.result.now t.entries c.in-Err-read_map_field.error run
-            (k.entries, k.rest, k.over, k.begins, k.some, k.fault named) in
+            (k.entries, k.rest, k.left_after, k.begins, k.some, k.fault named) in
             (more.0, subst (λ x. x < length w.0 * cost) memory (subst (λ x. c.new-ctx.result.budget.now.memory < x * cost) t.many more.1)),
       ),
     )

@@ -3,8 +3,8 @@ use Rattle.buffa_map.specs.declared.codec.MapValueDecodeStatus.{MapValueDecodeSt
 use Rattle.std.proofs.lemmas.Result.{err_from_is_err_and}
 use Rattle.buffa_map.specs.Codec.{is_known}
 use Rattle.buffa_map.proofs.FieldsLemmas.{bad_key, bad_other, bad_value, good_value, no_tag, not_known, wrong_key, wrong_value}
-use Rattle.buffa_map.proofs.fields.merge_field.Goals as goal
-use Rattle.buffa_map.proofs.fields.merge_field.Goals.{in-Known, in_default}
+use Rattle.buffa_map.proofs.entry_fields.merge_field.Goals as goal
+use Rattle.buffa_map.proofs.entry_fields.merge_field.Goals.{in-Known, in_default}
 
 pub returns-in_err-tag-clause-err : goal.returns-in_err-tag-clause-err
 returns-in_err-tag-clause-err g c =

@@ -1,7 +1,7 @@
 use Rattle.std.proofs.Common.{arith, ◌<◌, ◌∙◌, true, length, refl, sym}
 use Rattle.std.proofs.lemmas.Result.{err_from_is_err_and}
 use Rattle.buffa_map.proofs.FieldsLemmas.{all_fields, bad_field, fewer, no_field, one_field}
-use Rattle.buffa_map.proofs.fields.merge_fields.Goals as goal
+use Rattle.buffa_map.proofs.entry_fields.merge_fields.Goals as goal
 
 pub fields-init : goal.fields-init
 fields-init g c =

@@ -1,7 +1,7 @@
 use Rattle.std.proofs.Common.{◌≡◌, length}
 use Rattle.buffa_map.specs.Entry.{meant_entry}
 use Rattle.buffa_map.proofs.FieldsLemmas.{Merged}
-use Rattle.buffa_map.proofs.fields.merge_fields.Given as goal
+use Rattle.buffa_map.proofs.entry_fields.merge_fields.Given as goal
 
 -- the fields so far lead from the blanks to what the parts mean, and what they cost was spent
 abbrev pub invariant-fields : goal.invariant-fields
