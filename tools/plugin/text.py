@@ -203,6 +203,7 @@ def head_of_message(world, message):
     names = names.union(*[k.needs for k in members])
     names |= {"KeptFields", "UnknownFields"} if message.is_keeping else set()
     names |= {"Holds", "Nest"} if message.held else {"Blank", "Fields", "Formed", "Listed", "Listing"}
+    names |= {"Blank"} if any(" as Blank>" in k.means for k in members) else set()
     names |= {"Member"} if members else set()
     if members:
         names.add("And" if len(members) == 1 else f"And{min(len(members) + 1, 16)}")

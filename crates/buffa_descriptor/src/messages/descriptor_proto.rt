@@ -9,17 +9,18 @@ use crate::messages::enum_descriptor_proto::EnumDescriptorProto;
 use crate::messages::field_descriptor_proto::FieldDescriptorProto;
 use crate::messages::message_options::MessageOptions;
 use crate::messages::oneof_descriptor_proto::OneofDescriptorProto;
-use buffa_fields::held::{Holds, Nest};
+use buffa_fields::fields::Fields;
 use buffa_fields::kept::{self, KeptFields};
-use buffa_fields::meaning::And10;
+use buffa_fields::meaning::And11;
 use buffa_fields::member::Member;
+use buffa_fields::message::{Listed, Listing};
 use buffa_fields::nested::Nested;
 use buffa_fields::optional::Optional;
 use buffa_fields::repeated::Repeated;
 use buffa_fields::repeated_nested::RepeatedNested;
 use buffa_fields::visitor::Visitor;
-use buffa_map::map_codec::Str;
-use buffa_wire::{DecodeContext, DecodeError, Tag, UnknownFields};
+use buffa_map::map_codec::{BytesVec, Str};
+use buffa_wire::{Blank, DecodeContext, DecodeError, Formed, Tag, UnknownFields};
 use std::alloc::Global;
 use std::string::String;
 
@@ -38,19 +39,16 @@ use std::string::String;
 ///     repeated string reserved_name = 10;
 /// }
 ///
-/// Its `nested_type` are `inside`. Its other members are in `own`.
-///
-/// The message types that stand in it, each as its encoding: `nested_types` reads them. Those of maps'
-/// entries, and of groups, are among them.
-pub type DescriptorProto = Nest<DescriptorProtoOwn>;
-
-/// What `DescriptorProto` has beside `nested_type`.
+/// Held as the encodings of its messages, which merge_from_slice reads: nested_type = 3.
 #[derive(Drop)]
-pub struct DescriptorProtoOwn {
+pub struct DescriptorProto {
     /// Its name, without the package and the messages around it.
     pub name: Option<String>,
     /// Its fields, in the order of the text.
     pub field: Vec<FieldDescriptorProto>,
+    /// The message types that stand in it, each as its encoding: `nested_types` reads them. Those of maps'
+    /// entries, and of groups, are among them.
+    pub nested_type: Vec<Vec<u8>>,
     /// The enums that stand in it.
     pub enum_type: Vec<EnumDescriptorProto>,
     /// The ranges of numbers that are for extensions.
@@ -69,10 +67,11 @@ pub struct DescriptorProtoOwn {
     pub rest: UnknownFields,
 }
 
-impl Holds for DescriptorProtoOwn {
-    type Meaning = And10<
+impl Fields for DescriptorProto {
+    type Meaning = And11<
         Option<[u8; 0]>,
         [<FieldDescriptorProto as Blank>::Meaning; 0],
+        [[u8; 0]; 0],
         [<EnumDescriptorProto as Blank>::Meaning; 0],
         [<DescriptorProtoExtensionRange as Blank>::Meaning; 0],
         [<FieldDescriptorProto as Blank>::Meaning; 0],
@@ -89,12 +88,9 @@ impl Holds for DescriptorProtoOwn {
 
     ghost positive = { lit< tt };
 
-    const NUMBER: u32 = 3;
-
-    ghost NUMBER = { 3 };
-
     ghost layout = { field 1 (λ m. m.name) ⟦<Optional<Str> as Member>⟧.shape (
         field 2 (λ m. m.field) ⟦<RepeatedNested<FieldDescriptorProto> as Member>⟧.shape (
+        field 3 (λ m. m.nested_type) ⟦<Repeated<BytesVec> as Member>⟧.shape (
         field 4 (λ m. m.enum_type) ⟦<RepeatedNested<EnumDescriptorProto> as Member>⟧.shape (
         field 5 (λ m. m.extension_range) ⟦<RepeatedNested<DescriptorProtoExtensionRange> as Member>⟧.shape (
         field 6 (λ m. m.extension) ⟦<RepeatedNested<FieldDescriptorProto> as Member>⟧.shape (
@@ -102,33 +98,14 @@ impl Holds for DescriptorProtoOwn {
         field 8 (λ m. m.oneof_decl) ⟦<RepeatedNested<OneofDescriptorProto> as Member>⟧.shape (
         field 9 (λ m. m.reserved_range) ⟦<RepeatedNested<DescriptorProtoReservedRange> as Member>⟧.shape (
         field 10 (λ m. m.reserved_name) ⟦<Repeated<Str> as Member>⟧.shape (
-        keep (λ m. m.rest.records)))))))))) };
+        keep (λ m. m.rest.records))))))))))) };
 
     ghost sound = { refl };
 
-    ghost other = { refl };
-
-    fn blank(alloc: Global) -> DescriptorProtoOwn {
-        DescriptorProtoOwn {
-            name: None,
-            field: Vec::new(alloc),
-            enum_type: Vec::new(alloc),
-            extension_range: Vec::new(alloc),
-            extension: Vec::new(alloc),
-            options: None,
-            oneof_decl: Vec::new(alloc),
-            reserved_range: Vec::new(alloc),
-            reserved_name: Vec::new(alloc),
-            rest: UnknownFields::new(alloc),
-        }
-    }
-
-    fn front<V: Visitor>(&self, visitor: &mut V) {
+    fn visit<V: Visitor>(&self, visitor: &mut V) {
         visitor.visit::<Optional<Str>>(1, &self.name);
         visitor.visit::<RepeatedNested<FieldDescriptorProto>>(2, &self.field);
-    }
-
-    fn behind<V: Visitor>(&self, visitor: &mut V) {
+        visitor.visit::<Repeated<BytesVec>>(3, &self.nested_type);
         visitor.visit::<RepeatedNested<EnumDescriptorProto>>(4, &self.enum_type);
         visitor.visit::<RepeatedNested<DescriptorProtoExtensionRange>>(5, &self.extension_range);
         visitor.visit::<RepeatedNested<FieldDescriptorProto>>(6, &self.extension);
@@ -155,6 +132,7 @@ impl Holds for DescriptorProtoOwn {
                 buf,
                 ctx,
             ),
+            3 => Repeated::<BytesVec>::merge(&mut self.nested_type, alloc, tag, buf, ctx),
             4 => RepeatedNested::<EnumDescriptorProto>::merge(
                 &mut self.enum_type,
                 alloc,
@@ -195,4 +173,38 @@ impl Holds for DescriptorProtoOwn {
             _ => kept::keep(alloc, &mut self.rest, tag, buf, ctx),
         }
     }
+}
+
+impl Blank for DescriptorProto {
+    type Meaning = <DescriptorProto as Fields>::Meaning;
+
+    ghost meaning = { ⟦<DescriptorProto as Fields>⟧.layout.meaning };
+
+    ghost blank_is = { ⟦<DescriptorProto as Fields>⟧.layout.blank };
+
+    fn blank(alloc: Global) -> DescriptorProto {
+        DescriptorProto {
+            name: None,
+            field: Vec::new(alloc),
+            nested_type: Vec::new(alloc),
+            enum_type: Vec::new(alloc),
+            extension_range: Vec::new(alloc),
+            extension: Vec::new(alloc),
+            options: None,
+            oneof_decl: Vec::new(alloc),
+            reserved_range: Vec::new(alloc),
+            reserved_name: Vec::new(alloc),
+            rest: UnknownFields::new(alloc),
+        }
+    }
+}
+
+impl Listing for DescriptorProto {
+    ghost means = { λ m. refl };
+
+    ghost starts = { refl };
+}
+
+impl Formed for DescriptorProto {
+    type Form = Listed;
 }
