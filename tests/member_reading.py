@@ -54,10 +54,10 @@ def sifted(kind, number, buf, budget, kept):
 
 class ByMembers:
     """A type of messages: its members by their numbers, each with how it stands and of which kind it is. They are written in
-    this order, but the member `first`, a list of messages of the type itself, before the others."""
+    this order."""
 
-    def __init__(self, members, keeps=False, first=None):
-        self.members, self.keeps, self.first = members, keeps, first
+    def __init__(self, members, keeps=False):
+        self.members, self.keeps = members, keeps
 
     def blank(self):
         """The members' defaults, then what is kept."""
@@ -127,7 +127,7 @@ class ByMembers:
 
     def texts(self, message):
         """The encoding of each member's fields."""
-        for (number, how, kind), part in sorted(zip(self.members, message), key=lambda it: it[0][0] != self.first):
+        for (number, how, kind), part in zip(self.members, message):
             if how in MAPS:
                 yield field_encoding(kind, number, walked(how, part))
                 continue
@@ -168,9 +168,9 @@ class ByMembers:
         return "(" + "|".join(words + [message[-1].hex()] * self.keeps) + ")"
 
 
-def declare(kind, cost, members, keeps=False, first=None):
+def declare(kind, cost, members, keeps=False):
     """Declares a type, and what one of its messages costs in units where it is an element."""
-    BY_MEMBERS[kind] = ByMembers(members, keeps, first)
+    BY_MEMBERS[kind] = ByMembers(members, keeps)
     KINDS[kind] = (DELIMITED, cost)
     MESSAGES.add(kind)
     BLANKS[kind] = BY_MEMBERS[kind].blank()
@@ -214,4 +214,4 @@ declare("palette", 256, [
     (1, "plain", "int32"), (3, "map", ("int32", "old")), (4, "optional", "old"), (5, "repeated", "old"), (6, "packed", "old"),
     (7, "ordered", ("int32", "old")), (8, "optional", "swatch"), (9, "group", "swatch"),
 ], True)
-declare("branch", 96, [(1, "plain", "string"), (2, "repeated", "int32"), (3, "repeated", "branch")], True, first=3)
+declare("branch", 96, [(1, "plain", "string"), (2, "repeated", "int32"), (3, "repeated", "branch")], True)

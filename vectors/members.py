@@ -164,29 +164,11 @@ def by_hand():
     return found
 
 
-def branches_first(text):
-    """The encoding of a branch as ours is written: the branches on it first, then its other fields as they stand."""
-    walk, branches, others = Walk(KNOWN, text, set()), b"", b""
-    while walk.is_left():
-        start = walk.at
-        number, wire_type = walk.tag()
-        if (number, wire_type) == (3, DELIMITED):
-            branches += field(number, wire_type, delimited(branches_first(walk.delimited())))
-        else:
-            walk.skip(number, wire_type)
-            others += text[start : walk.at]
-    return branches + others
-
-
 def ask(asked):
-    """What the C++ classes make of messages, as their words; of a branch what is written has the branches first."""
+    """What the C++ classes make of messages, as their words."""
     lines = "".join(f"{kind.capitalize()} {given}\n" for kind, given in asked)
     done = subprocess.run([f"{AT}/members"], input=lines, capture_output=True, text=True, check=True)
-    told = dict(zip(asked, (it.split("\t") for it in done.stdout.splitlines())))
-    for (kind, _), words in told.items():
-        if kind == "branch" and words != ["refused"]:
-            words[1] = branches_first(bytes.fromhex(words[1].strip("-"))).hex() or "-"
-    return told
+    return dict(zip(asked, (it.split("\t") for it in done.stdout.splitlines())))
 
 
 def mark_of(told, why, rows):
@@ -203,8 +185,7 @@ def mark_of(told, why, rows):
 
 HEAD = """\
 # Messages of members.proto, wagons.proto and palettes.proto as C++ classes of protobuf 3.21.12 read and write them, in deterministic order;
-# those that keep no other field are written without these. Of a branch what is written stands in our order, the branches first:
-# they read it to the same.
+# those that keep no other field are written without these.
 # type, bytes in hex (- for none), a mark, what the message then holds, what it is written as. Marks: same; many, a map in it
 # that ours writes in no order has more than one pair, and they are in the order of their keys; refused; own and why:
 """

@@ -100,7 +100,7 @@ def remarks(message):
 def held_docs(message):
     """What is said of a message that holds a list of itself, beside what is said of each message."""
     name = message.held.it.name
-    made = ["", f"Its `{name}` are `inside`, and are written first. Its other members are in `own`."]
+    made = ["", f"Its `{name}` are `inside`. Its other members are in `own`."]
     made += ["Its extensions are those of `own`."] * bool(message.it.extension_range)
     return docs(made + ([""] + message.held.field.said if message.held.field.said else []))
 
@@ -123,18 +123,32 @@ def layout(members, is_keeping):
     return ["    ghost layout = { " + made[0]] + ["        " + it for it in made[1:]]
 
 
-def visit_and_take(message):
-    members = message.members
-    visits = []
+def visits(name, members, is_keeping):
+    """The function that visits some members, one after the other, and then the fields that are kept."""
+    made = []
     for member in members:
         word = "visit_keeping" if member.keeps else "visit"
-        visits += called("        ", f"visitor.{word}::<{member.member_type}>", [str(member.number), f"&self.{member.name}"], ";")
-    visits += ["        visitor.visit_kept(&self.rest);"] * message.is_keeping
-    made = ["    fn visit<V: Visitor>(&self, visitor: &mut V) {"] + visits + ["    }"]
-    if not visits:
-        made = ["    fn visit<V: Visitor>(&self, _visitor: &mut V) {}"]
-    made += ["", "    fn take("]
+        made += called("        ", f"visitor.{word}::<{member.member_type}>", [str(member.number), f"&self.{member.name}"], ";")
+    made += ["        visitor.visit_kept(&self.rest);"] * is_keeping
+    if not made:
+        return [f"    fn {name}<V: Visitor>(&self, _visitor: &mut V) {{}}"]
+    return [f"    fn {name}<V: Visitor>(&self, visitor: &mut V) {{"] + made + ["    }"]
+
+
+def visits_of(message):
+    """Of a message that holds a list of itself, the members in front of the list, and those behind it."""
+    if not message.held:
+        return visits("visit", message.members, message.is_keeping)
+    number = message.held.number
+    front = [k for k in message.members if k.number < number]
+    behind = [k for k in message.members if k.number > number]
+    return visits("front", front, False) + [""] + visits("behind", behind, message.is_keeping)
+
+
+def take(message):
+    members = message.members
     alloc = "alloc" if members or message.is_keeping else "_alloc"
+    made = ["    fn take("]
     made += [f"        {it}," for it in ("&mut self", f"{alloc}: Global", "tag: Tag", "buf: &mut &[u8]", "ctx: DecodeContext<'_>")]
     made += ["    ) -> Result<(), DecodeError> {"]
     other = "kept::keep(alloc, &mut self.rest, tag, buf, ctx)" if message.is_keeping else "kept::pass(tag, buf, ctx)"
@@ -185,10 +199,11 @@ impl ExtensionSet for {message.own} {{
 
 def head_of_message(world, message):
     members = message.members
-    names = set("Fields Listing Visitor kept Blank DecodeContext DecodeError Tag Global".split())
+    names = set("Visitor kept DecodeContext DecodeError Tag Global".split())
     names = names.union(*[k.needs for k in members])
     names |= {"KeptFields", "UnknownFields"} if message.is_keeping else set()
-    names |= {"Holds", "Nest"} if message.held else {"Formed", "Listed"}
+    names |= {"Holds", "Nest"} if message.held else {"Blank", "Fields", "Formed", "Listed", "Listing"}
+    names |= {"Blank"} if any(" as Blank>" in k.means for k in members) else set()
     names |= {"Member"} if members else set()
     if members:
         names.add("And" if len(members) == 1 else f"And{min(len(members) + 1, 16)}")
@@ -236,25 +251,38 @@ def blank(message):
     return made + ["    }"]
 
 
-def form(message):
-    """What makes a message of the struct: of one that holds a list of itself, the number of the list."""
-    if not message.held:
-        return [f"impl Formed for {message.own} {{", "    type Form = Listed;", "}"]
-    number = message.held.number
-    made = [f"impl Holds for {message.own} {{", f"    const NUMBER: u32 = {number};", "", f"    ghost NUMBER = {{ {number} }};", ""]
-    return made + ["    ghost other = { refl };", "}"]
+def head_of_impl(message, messages):
+    """What both forms begin with: what the members mean, and what an element costs."""
+    cost = message.cost(messages)
+    made = meaning([k.means for k in message.members] + ["KeptFields" if message.is_keeping else "()"]) + [""]
+    return made + [f"    const COST: usize = {cost};", "", f"    ghost COST = {{ {cost} }};", "", "    ghost positive = { lit< tt };", ""]
 
 
-def write_message(world, message, messages):
-    name, cost, members, is_keeping = message.own, message.cost(messages), message.members, message.is_keeping
-    made = head_of_message(world, message) + [""] + struct(message) + [""]
-    made += [f"impl Fields for {name} {{"] + meaning([k.means for k in members] + ["KeptFields" if is_keeping else "()"]) + [""]
-    made += [f"    const COST: usize = {cost};", "", f"    ghost COST = {{ {cost} }};", "", "    ghost positive = { lit< tt };", ""]
-    made += layout(members, is_keeping) + ["", "    ghost sound = { refl };", ""] + visit_and_take(message) + ["}", ""]
+def held_form(message, messages):
+    """What a message that holds a list of itself has of its own, in one impl."""
+    name, number = message.own, message.held.number
+    made = [f"impl Holds for {name} {{"] + head_of_impl(message, messages)
+    made += [f"    const NUMBER: u32 = {number};", "", f"    ghost NUMBER = {{ {number} }};", ""]
+    made += layout(message.members, message.is_keeping) + [""]
+    made += ["    ghost sound = { refl };", "", "    ghost other = { refl };", ""]
+    return made + blank(message) + [""] + visits_of(message) + [""] + take(message) + ["}"]
+
+
+def listed_form(message, messages):
+    name = message.own
+    made = [f"impl Fields for {name} {{"] + head_of_impl(message, messages)
+    made += layout(message.members, message.is_keeping) + ["", "    ghost sound = { refl };", ""]
+    made += visits_of(message) + [""] + take(message) + ["}", ""]
     made += [f"impl Blank for {name} {{", f"    type Meaning = <{name} as Fields>::Meaning;", ""]
     made += [f"    ghost {a} = {{ ⟦<{name} as Fields>⟧.layout.{b} }};\n" for a, b in (("meaning", "meaning"), ("blank_is", "blank"))]
     made += blank(message) + ["}", "", f"impl Listing for {name} {{"]
-    made += ["    ghost means = { λ m. refl };", "", "    ghost starts = { refl };", "}", ""] + form(message)
+    made += ["    ghost means = { λ m. refl };", "", "    ghost starts = { refl };", "}", ""]
+    return made + [f"impl Formed for {name} {{", "    type Form = Listed;", "}"]
+
+
+def write_message(world, message, messages):
+    made = head_of_message(world, message) + [""] + struct(message) + [""]
+    made += held_form(message, messages) if message.held else listed_form(message, messages)
     return "\n".join(made + (extension_set(message) if message.it.extension_range else [])) + "\n"
 
 

@@ -152,8 +152,7 @@ def members():
     out = [
         "# Messages from their fields as C++ classes of protobuf 3.21.12 read and write them, in deterministic order; `refused` is\n",
         "# any fault but want of memory. What a map of more than one pair is written as is asked of what they wrote, in the order\n",
-        "# of keys, unless the type writes it in that order too. A branch is written with the branches on it first, which is not\n",
-        "# their order: they read such an encoding to the same. Left out are bytes of which they make something else\n",
+        "# of keys, unless the type writes it in that order too. Left out are bytes of which they make something else\n",
         "# (vectors/members.tsv has them, with why): a field or a part of an entry with another wire type, which they pass over\n",
         "# or keep; a bool of 2^32 or more in an entry; an undeclared entry that isn't spelled as they write it. What a closed\n",
         "# enum doesn't declare they keep in the order in which it came, as we do.\n",

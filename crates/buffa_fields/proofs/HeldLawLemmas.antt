@@ -82,13 +82,13 @@ module _ {M X : Type 0} (l : Layout M X) (k each : ℕ) where
 
   -- ---- written
   records_parts : (t : Nest X) → nest_records l k each t ≡ (nest_layout l k each).records (parts_of t)
-  records_parts (nest v ns) = ap (λ (rs : List (ℕ × Datum)). rs ++ l.records v) (sym (inside_records_are l k each ns))
+  records_parts (nest v ns) = ap (λ (rs : List (ℕ × Datum)). l.front k v ++ (rs ++ (l.behind k v ++ l.kept v))) (sym (inside_records_are l k each ns))
 
   abbrev whole_encoding : List (Nest X) × X → List ℕ
   whole_encoding v = records_encoding ((nest_layout l k each).records v)
 
   slots_parts : (t : Nest X) → nest_slots l k each t ≡ (nest_layout l k each).slots (parts_of t)
-  slots_parts (nest v ns) = ap (λ (ss : List ℕ). ss ++ l.slots v) (sym (inside_slots_are l k each ns))
+  slots_parts (nest v ns) = ap (λ (ss : List ℕ). l.front_slots k v (ss ++ l.slots_behind k v)) (sym (inside_slots_are l k each ns))
 
   levels_parts : (t : Nest X) → nest_levels l k each t ≡ (nest_layout l k each).levels (parts_of t)
   levels_parts (nest v ns) = ap (λ (n : ℕ). max n (l.levels v)) (sym (inside_levels_are l k each ns))
@@ -98,7 +98,7 @@ module _ {M X : Type 0} (l : Layout M X) (k each : ℕ) where
   records_in_parts n [] = refl
   records_in_parts n (t ∷ ts) = λ i. (n, bytes (records_encoding (records_parts t i))) ∷ records_in_parts n ts i
 
-  -- a record for each message inside, and then its own
+  -- its own in front, a record for each message inside, and then the others of its own
   abbrev inside_record : Nest X → ℕ × Datum
   inside_record u = (k, bytes (whole_encoding (parts_of u)))
 
@@ -107,8 +107,8 @@ module _ {M X : Type 0} (l : Layout M X) (k each : ℕ) where
   all_records [] = refl
   all_records (t ∷ ts) = λ i. (k, bytes (records_encoding (records_parts t i))) ∷ all_records ts i
 
-  pub inside_encodings : (v : List (Nest X) × X) → (nest_layout l k each).records v ≡ map inside_record v.0 ++ l.records v.1
-  inside_encodings v = ap (λ (rs : List (ℕ × Datum)). rs ++ l.records v.1) (all_records v.0)
+  pub inside_encodings : (v : List (Nest X) × X) → (nest_layout l k each).records v ≡ l.front k v.1 ++ (map inside_record v.0 ++ (l.behind k v.1 ++ l.kept v.1))
+  inside_encodings v = ap (λ (rs : List (ℕ × Datum)). l.front k v.1 ++ (rs ++ (l.behind k v.1 ++ l.kept v.1))) (all_records v.0)
 
   pub slots_in_parts : (ts : List (Nest X)) → messages_slots (nest_encoding l k each) (nest_slots l k each) ts ≡ messages_slots whole_encoding (nest_layout l k each).slots (map parts_of ts)
   unfolding messages_slots

@@ -74,10 +74,16 @@ module _ {M X : Type 0} (l : Layout M X) (k each : ℕ) where
     pub field_own : (old new : M) (ns : Nests M) → n ≢ k → l.Taken d old n w bs before r new after rest → (nest_layout l k each).Taken d (nest old ns) n w bs before r (nest new ns) after rest
     field_own old new ns other taken = second_of _ _ (n == k) (ne_eqb n k other) (refl, taken)
 
-  -- ---- the passes: those inside, and then its own
+  -- ---- the passes: its own in front, those inside, and then the others of its own
   module _ (own : M) (ts : List (Nest M)) where
     abbrev v : Nest X
     v = nest_means l.meaning (nest own (nests_in ts))
+
+    abbrev front_written : List ℕ
+    front_written = records_encoding (l.front k (l.meaning own))
+
+    abbrev front_slotted : List ℕ
+    front_slotted = l.front_slots k (l.meaning own) []
 
     abbrev inside_written : List ℕ
     inside_written = records_encoding (messages_records (nest_encoding l k each) k (map (nest_means l.meaning) ts))
@@ -85,59 +91,104 @@ module _ {M X : Type 0} (l : Layout M X) (k each : ℕ) where
     abbrev inside_slotted : List ℕ
     inside_slotted = messages_slots (nest_encoding l k each) (nest_slots l k each) (map (nest_means l.meaning) ts)
 
-    abbrev own_written : List ℕ
-    own_written = records_encoding (l.records (l.meaning own))
+    abbrev behind_written : List ℕ
+    behind_written = records_encoding (l.behind k (l.meaning own) ++ l.kept (l.meaning own))
 
-    abbrev own_slotted : List ℕ
-    own_slotted = l.slots (l.meaning own)
+    abbrev behind_slotted : List ℕ
+    behind_slotted = l.slots_behind k (l.meaning own)
+
+    -- those inside, and the others behind them
+    abbrev later_written : List ℕ
+    later_written = inside_written ++ behind_written
+
+    abbrev later_slotted : List ℕ
+    later_slotted = inside_slotted ++ behind_slotted
 
     means_are : map (nest_means l.meaning) ts ≡ nest_list (nests_mean l.meaning (nests_in ts))
     means_are = ap (map (nest_means l.meaning)) (sym (nest_list-nests_in ts)) ∙ sym (listed_mean l k each (nests_in ts))
 
-    encoding_is : inside_written ++ own_written ≡ nest_encoding l k each v
+    encoding_is : front_written ++ later_written ≡ nest_encoding l k each v
     encoding_is =
-        ap (λ z. records_encoding z ++ own_written) (ap (messages_records (nest_encoding l k each) k) means_are ∙ inside_records_are l k each (nests_mean l.meaning (nests_in ts)))
-        ∙ sym (records_encoding-append _ (l.records (l.meaning own)))
+        ap (λ z. front_written ++ (records_encoding z ++ behind_written)) (ap (messages_records (nest_encoding l k each) k) means_are ∙ inside_records_are l k each (nests_mean l.meaning (nests_in ts)))
+        ∙ ap (λ (z : List ℕ). front_written ++ z) (sym (records_encoding-append _ (l.behind k (l.meaning own) ++ l.kept (l.meaning own))))
+        ∙ sym (records_encoding-append (l.front k (l.meaning own)) _)
 
-    slots_are : inside_slotted ++ own_slotted ≡ nest_slots l k each v
-    slots_are = ap (λ z. z ++ own_slotted) (ap (messages_slots (nest_encoding l k each) (nest_slots l k each)) means_are ∙ inside_slots_are l k each (nests_mean l.meaning (nests_in ts)))
+    slots_are : front_slotted ++ later_slotted ≡ nest_slots l k each v
+    slots_are =
+        sym (l.front_slots_are k (l.meaning own) later_slotted)
+        ∙ ap (λ z. l.front_slots k (l.meaning own) (z ++ behind_slotted)) (ap (messages_slots (nest_encoding l k each) (nest_slots l k each)) means_are ∙ inside_slots_are l k each (nests_mean l.meaning (nests_in ts)))
 
     -- sizes
-    as_sized : (c0 c2 : Cache) (r : Result ℕ EncodeError) → IsSized (inside_written ++ own_written) (inside_slotted ++ own_slotted) c0 r c2 → IsSized (nest_encoding l k each v) (nest_slots l k each v) c0 r c2
-    as_sized c0 c2 r h = subst (λ (e : List ℕ). IsSized e (nest_slots l k each v) c0 r c2) encoding_is (subst (λ (s : List ℕ). IsSized (inside_written ++ own_written) s c0 r c2) slots_are h)
+    as_sized : (c0 c2 : Cache) (r : Result ℕ EncodeError) → IsSized (front_written ++ later_written) (front_slotted ++ later_slotted) c0 r c2 → IsSized (nest_encoding l k each v) (nest_slots l k each v) c0 r c2
+    as_sized c0 c2 r h = subst (λ (e : List ℕ). IsSized e (nest_slots l k each v) c0 r c2) encoding_is (subst (λ (s : List ℕ). IsSized (front_written ++ later_written) s c0 r c2) slots_are h)
 
-    pub nest_sized : (c0 c1 c2 : Cache) (below mine new : ℕ) → IsSized inside_written inside_slotted c0 (sum below) c1 → IsSized own_written own_slotted c1 (sum mine) c2 → new ≡ min (below + mine) 4294967295 →
-        IsSized (nest_encoding l k each v) (nest_slots l k each v) c0 (sum new) c2
-    nest_sized c0 c1 c2 below mine new h j e = as_sized c0 c2 (sum new) (sized_more inside_written own_written inside_slotted own_slotted c0 c1 c2 below mine new h j e)
+    -- where a later part fails
+    pub later_fails : (t u s x : List ℕ) (c0 c1 c2 : Cache) (before : ℕ) (e : EncodeError) → IsSized t s c0 (sum before) c1 → IsSized u x c1 (failed e) c2 → IsSized (t ++ u) (s ++ x) c0 (failed e) c2
+    later_fails t u s x c0 c1 c2 before e h (which, longer) = (which, (s ++ longer.0, longer.1 ∙ appended_twice s longer.0 c0 c1 h.1))
 
-    pub inside_fails : (c0 c1 : Cache) (e : EncodeError) → IsSized inside_written inside_slotted c0 (failed e) c1 → IsSized (nest_encoding l k each v) (nest_slots l k each v) c0 (failed e) c1
-    inside_fails c0 c1 e h = h
+    pub nest_sized : (c0 c1 c2 c3 : Cache) (front below behind more new : ℕ) → IsSized front_written front_slotted c0 (sum front) c1 → IsSized inside_written inside_slotted c1 (sum below) c2 → IsSized behind_written behind_slotted c2 (sum behind) c3 →
+        more ≡ min (below + behind) 4294967295 → new ≡ min (front + more) 4294967295 → IsSized (nest_encoding l k each v) (nest_slots l k each v) c0 (sum new) c3
+    nest_sized c0 c1 c2 c3 front below behind more new f h j e n =
+        as_sized c0 c3 (sum new) (sized_more front_written later_written front_slotted later_slotted c0 c1 c3 front more new f (sized_more inside_written behind_written inside_slotted behind_slotted c1 c2 c3 below behind more h j e) n)
 
-    pub own_fails : (c0 c1 c2 : Cache) (below : ℕ) (e : EncodeError) → IsSized inside_written inside_slotted c0 (sum below) c1 → IsSized own_written own_slotted c1 (failed e) c2 → IsSized (nest_encoding l k each v) (nest_slots l k each v) c0 (failed e) c2
-    own_fails c0 c1 c2 below e h (which, longer) = (which, (inside_slotted ++ longer.0, longer.1 ∙ appended_twice inside_slotted longer.0 c0 c1 h.1))
+    pub front_fails : (c0 c1 : Cache) (e : EncodeError) → IsSized front_written front_slotted c0 (failed e) c1 → IsSized (nest_encoding l k each v) (nest_slots l k each v) c0 (failed e) c1
+    front_fails c0 c1 e h = h
+
+    pub inside_fails : (c0 c1 c2 : Cache) (front : ℕ) (e : EncodeError) → IsSized front_written front_slotted c0 (sum front) c1 → IsSized inside_written inside_slotted c1 (failed e) c2 → IsSized (nest_encoding l k each v) (nest_slots l k each v) c0 (failed e) c2
+    inside_fails c0 c1 c2 front e f h = later_fails front_written later_written front_slotted later_slotted c0 c1 c2 front e f h
+
+    pub behind_fails : (c0 c1 c2 c3 : Cache) (front below : ℕ) (e : EncodeError) → IsSized front_written front_slotted c0 (sum front) c1 → IsSized inside_written inside_slotted c1 (sum below) c2 → IsSized behind_written behind_slotted c2 (failed e) c3 →
+        IsSized (nest_encoding l k each v) (nest_slots l k each v) c0 (failed e) c3
+    behind_fails c0 c1 c2 c3 front below e f h j =
+        later_fails front_written later_written front_slotted later_slotted c0 c1 c3 front e f (later_fails inside_written behind_written inside_slotted behind_slotted c1 c2 c3 below e h j)
 
     -- encodings
-    pub next_inside : (c : Cache) → IsNext (nest_slots l k each v) c → IsNext inside_slotted c
-    next_inside c h = next_front inside_slotted own_slotted c (subst (λ (s : List ℕ). IsNext s c) (sym slots_are) h)
+    next_all : (c : Cache) → IsNext (nest_slots l k each v) c → IsNext (front_slotted ++ later_slotted) c
+    next_all c h = subst (λ (s : List ℕ). IsNext s c) (sym slots_are) h
 
-    pub next_own : (c0 c1 : Cache) (b0 b1 : List ℕ) → IsNext (nest_slots l k each v) c0 → IsWritten inside_written inside_slotted c0 b0 done c1 b1 → IsNext own_slotted c1
-    next_own c0 c1 b0 b1 h w = subst (λ z. IsNext own_slotted z) (sym w.2.0) (next_past inside_slotted own_slotted c0 (subst (λ (s : List ℕ). IsNext s c0) (sym slots_are) h))
+    pub next_front_of : (c : Cache) → IsNext (nest_slots l k each v) c → (rest : List ℕ) × IsNext (l.front_slots k (l.meaning own) rest) c
+    next_front_of c h = (later_slotted, subst (λ (s : List ℕ). IsNext s c) (sym (l.front_slots_are k (l.meaning own) later_slotted)) (next_all c h))
 
-    as_written : (c0 c2 : Cache) (b0 b2 : List ℕ) (r : Result (Unit {0}) EncodeError) → IsWritten (inside_written ++ own_written) (inside_slotted ++ own_slotted) c0 b0 r c2 b2 → IsWritten (nest_encoding l k each v) (nest_slots l k each v) c0 b0 r c2 b2
-    as_written c0 c2 b0 b2 r h = subst (λ (e : List ℕ). IsWritten e (nest_slots l k each v) c0 b0 r c2 b2) encoding_is (subst (λ (s : List ℕ). IsWritten (inside_written ++ own_written) s c0 b0 r c2 b2) slots_are h)
+    next_later : (c0 c1 : Cache) (b0 b1 : List ℕ) → IsNext (nest_slots l k each v) c0 → IsWritten front_written front_slotted c0 b0 done c1 b1 → IsNext later_slotted c1
+    next_later c0 c1 b0 b1 h w = subst (λ z. IsNext later_slotted z) (sym w.2.0) (next_past front_slotted later_slotted c0 (next_all c0 h))
 
-    pub nest_written : (c0 c1 c2 : Cache) (b0 b1 b2 : List ℕ) (r : Result (Unit {0}) EncodeError) → IsWritten inside_written inside_slotted c0 b0 done c1 b1 → IsWritten own_written own_slotted c1 b1 r c2 b2 →
-        IsWritten (nest_encoding l k each v) (nest_slots l k each v) c0 b0 r c2 b2
-    nest_written c0 c1 c2 b0 b1 b2 r h w =
-        as_written c0 c2 b0 b2 r (written_then (IsSmall inside_written) (IsSmall own_written) (IsSmall (inside_written ++ own_written)) inside_written own_written inside_slotted own_slotted c0 c1 c2 b0 b1 b2 (small_both inside_written own_written) r h w)
+    pub next_inside : (c0 c1 : Cache) (b0 b1 : List ℕ) → IsNext (nest_slots l k each v) c0 → IsWritten front_written front_slotted c0 b0 done c1 b1 → IsNext inside_slotted c1
+    next_inside c0 c1 b0 b1 h w = next_front inside_slotted behind_slotted c1 (next_later c0 c1 b0 b1 h w)
 
-    pub inside_cut : (c0 c1 : Cache) (b0 b1 : List ℕ) (e : EncodeError) → IsWritten inside_written inside_slotted c0 b0 (refusal e) c1 b1 → IsWritten (nest_encoding l k each v) (nest_slots l k each v) c0 b0 (refusal e) c1 b1
-    inside_cut c0 c1 b0 b1 e h =
-        as_written c0 c1 b0 b1 (refusal e) (written_short (IsSmall inside_written) (IsSmall own_written) (IsSmall (inside_written ++ own_written)) inside_written own_written inside_slotted own_slotted c0 c1 c1 b0 b1 b1 (λ s. (small_both inside_written own_written s).0) e h)
+    pub next_behind : (c0 c1 c2 : Cache) (b0 b1 b2 : List ℕ) → IsNext (nest_slots l k each v) c0 → IsWritten front_written front_slotted c0 b0 done c1 b1 → IsWritten inside_written inside_slotted c1 b1 done c2 b2 → IsNext behind_slotted c2
+    next_behind c0 c1 c2 b0 b1 b2 h f w = subst (λ z. IsNext behind_slotted z) (sym w.2.0) (next_past inside_slotted behind_slotted c1 (next_later c0 c1 b0 b1 h f))
 
-    -- a visitor: what waits for both waits for those inside and its own, and those are seen first
-    pub both_wait : {V : Type 0} (Waits : List ℕ → V → Type 0) (v : V) → Waits ((nest_layout l k each).slots ((nest_layout l k each).meaning (nest own (nests_in ts)))) v → Waits (inside_slotted ++ own_slotted) v
-    both_wait Waits v h = subst (λ xs. Waits (messages_slots (nest_encoding l k each) (nest_slots l k each) (map (nest_means l.meaning) xs) ++ own_slotted) v) (nest_list-nests_in ts) h
+    as_written : (c0 c2 : Cache) (b0 b2 : List ℕ) (r : Result (Unit {0}) EncodeError) → IsWritten (front_written ++ later_written) (front_slotted ++ later_slotted) c0 b0 r c2 b2 → IsWritten (nest_encoding l k each v) (nest_slots l k each v) c0 b0 r c2 b2
+    as_written c0 c2 b0 b2 r h = subst (λ (e : List ℕ). IsWritten e (nest_slots l k each v) c0 b0 r c2 b2) encoding_is (subst (λ (s : List ℕ). IsWritten (front_written ++ later_written) s c0 b0 r c2 b2) slots_are h)
 
-    pub both_seen : (z : Seen) → l.seen own (more (messages_records (nest_encoding l k each) k (map (nest_means l.meaning) ts)) inside_slotted z) ≡ (nest_layout l k each).seen (nest own (nests_in ts)) z
-    both_seen z = ap (λ xs. l.seen own (more (messages_records (nest_encoding l k each) k (map (nest_means l.meaning) xs)) (messages_slots (nest_encoding l k each) (nest_slots l k each) (map (nest_means l.meaning) xs)) z)) (sym (nest_list-nests_in ts))
+    -- one part behind another, and one that memory ran out in
+    then : (t u s x : List ℕ) (c0 c1 c2 : Cache) (b0 b1 b2 : List ℕ) (r : Result (Unit {0}) EncodeError) → IsWritten t s c0 b0 done c1 b1 → IsWritten u x c1 b1 r c2 b2 → IsWritten (t ++ u) (s ++ x) c0 b0 r c2 b2
+    then t u s x c0 c1 c2 b0 b1 b2 r h w = written_then (IsSmall t) (IsSmall u) (IsSmall (t ++ u)) t u s x c0 c1 c2 b0 b1 b2 (small_both t u) r h w
+
+    cut_short : (t u s x : List ℕ) (c0 c1 : Cache) (b0 b1 : List ℕ) (e : EncodeError) → IsWritten t s c0 b0 (refusal e) c1 b1 → IsWritten (t ++ u) (s ++ x) c0 b0 (refusal e) c1 b1
+    cut_short t u s x c0 c1 b0 b1 e h = written_short (IsSmall t) (IsSmall u) (IsSmall (t ++ u)) t u s x c0 c1 c1 b0 b1 b1 (λ z. (small_both t u z).0) e h
+
+    pub nest_written : (c0 c1 c2 c3 : Cache) (b0 b1 b2 b3 : List ℕ) (r : Result (Unit {0}) EncodeError) → IsWritten front_written front_slotted c0 b0 done c1 b1 → IsWritten inside_written inside_slotted c1 b1 done c2 b2 →
+        IsWritten behind_written behind_slotted c2 b2 r c3 b3 → IsWritten (nest_encoding l k each v) (nest_slots l k each v) c0 b0 r c3 b3
+    nest_written c0 c1 c2 c3 b0 b1 b2 b3 r f h w =
+        as_written c0 c3 b0 b3 r (then front_written later_written front_slotted later_slotted c0 c1 c3 b0 b1 b3 r f (then inside_written behind_written inside_slotted behind_slotted c1 c2 c3 b1 b2 b3 r h w))
+
+    pub front_cut : (c0 c1 : Cache) (b0 b1 : List ℕ) (e : EncodeError) → IsWritten front_written front_slotted c0 b0 (refusal e) c1 b1 → IsWritten (nest_encoding l k each v) (nest_slots l k each v) c0 b0 (refusal e) c1 b1
+    front_cut c0 c1 b0 b1 e h = as_written c0 c1 b0 b1 (refusal e) (cut_short front_written later_written front_slotted later_slotted c0 c1 b0 b1 e h)
+
+    pub inside_cut : (c0 c1 c2 : Cache) (b0 b1 b2 : List ℕ) (e : EncodeError) → IsWritten front_written front_slotted c0 b0 done c1 b1 → IsWritten inside_written inside_slotted c1 b1 (refusal e) c2 b2 →
+        IsWritten (nest_encoding l k each v) (nest_slots l k each v) c0 b0 (refusal e) c2 b2
+    inside_cut c0 c1 c2 b0 b1 b2 e f h =
+        as_written c0 c2 b0 b2 (refusal e) (then front_written later_written front_slotted later_slotted c0 c1 c2 b0 b1 b2 (refusal e) f (cut_short inside_written behind_written inside_slotted behind_slotted c1 c2 b1 b2 e h))
+
+    -- a visitor: what waits for all waits for those in front, and then for the others; and they are seen in this order
+    abbrev whole : Nest M
+    whole = nest own (nests_in ts)
+
+    pub all_wait : {V : Type 0} (Waits : List ℕ → V → Type 0) (v : V) → Waits ((nest_layout l k each).slots ((nest_layout l k each).meaning whole)) v → Waits (l.front_slots k (l.meaning own) later_slotted) v
+    all_wait Waits v h =
+        subst (λ xs. Waits (l.front_slots k (l.meaning own) (messages_slots (nest_encoding l k each) (nest_slots l k each) (map (nest_means l.meaning) xs) ++ behind_slotted)) v) (nest_list-nests_in ts) h
+
+    pub all_seen : (z : Seen) → l.seen_behind k own (more (messages_records (nest_encoding l k each) k (map (nest_means l.meaning) ts)) inside_slotted (l.seen_front k own z)) ≡ (nest_layout l k each).seen whole z
+    all_seen z =
+        ap (λ xs. l.seen_behind k own (more (messages_records (nest_encoding l k each) k (map (nest_means l.meaning) xs)) (messages_slots (nest_encoding l k each) (nest_slots l k each) (map (nest_means l.meaning) xs)) (l.seen_front k own z))) (sym (nest_list-nests_in ts))

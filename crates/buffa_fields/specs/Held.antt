@@ -3,7 +3,7 @@
 use Rattle.std.specs.Prelude.{◌≡◌, ℕ, zero, suc, max, ◌==◌, ◌&&◌, Bool, true, not, refl, List, [], ◌∷◌, ◌++◌, length, map, Option, None}
 use Rattle.std.specs.List.{AllByRecursion}
 use Rattle.std.specs.Option.{option_map}
-use Rattle.std.proofs.Common.{ap, sym}
+use Rattle.std.proofs.Common.{◌∙◌, ap, arith, sym}
 use Rattle.buffa_bytes.specs.Front.{check_wire}
 use Rattle.buffa_bytes.specs.declared.wire_type.WireType.TheVariants.{LengthDelimited}
 use Rattle.buffa_wire.specs.BudgetLeft.{BudgetLeft, nothing}
@@ -12,8 +12,11 @@ use Rattle.buffa_wire.specs.Parse.{Fits}
 use Rattle.buffa_wire.specs.Passes.{cap}
 use Rattle.buffa_wire.specs.Records.{Datum, bytes, records_of}
 use Rattle.buffa_wire.specs.Takes.{Need, Taker, cost_of, merged_of}
+use Rattle.buffa_fields.specs.AmongFacts.{back_among, least_mine, least_others, numbers_among, seen_among, three_and_kept}
+use Rattle.buffa_fields.specs.BackFacts.{no_pieces}
 use Rattle.buffa_fields.specs.Keep.{AllNumbers}
-use Rattle.buffa_fields.specs.Layout.{Layout, Shape, both_need, both_take, is_number}
+use Rattle.buffa_fields.specs.Layout.{Layout, Shape, both_need, both_take, is_number, more, visited}
+use Rattle.buffa_fields.specs.LayoutFacts.{more_none}
 use Rattle.buffa_fields.specs.Members.{field}
 use Rattle.buffa_fields.specs.Nested.{FitsInside}
 use Rattle.buffa_fields.specs.Nests.{Nest, Nests, nest, no_nest, first, inside_of, nest_list, nest_means, nest_of, own_of, parts_of}
@@ -40,28 +43,47 @@ through get l = record {
   adds = l.adds;
   bare = l.bare;
   own = l.own;
+  front = l.front;
+  behind = l.behind;
+  front_slots = l.front_slots;
+  slots_behind = l.slots_behind;
+  only_front = l.only_front;
+  OwesFront = l.OwesFront;
+  OwesBehind = l.OwesBehind;
   Same = λ a b. get b ≡ get a;
   SameBut = λ a b. l.SameBut (get a) (get b);
   Taken = λ d old n w bs before r new after rest. l.Taken d (get old) n w bs before r (get new) after rest;
   Apart = l.Apart;
   apart = λ d old n w bs before e new after rest h. l.apart d (get old) n w bs before e (get new) after rest h;
   seen = λ m z. l.seen (get m) z;
+  seen_front = λ j m z. l.seen_front j (get m) z;
+  seen_behind = λ j m z. l.seen_behind j (get m) z;
   stays = l.stays;
   same_is = λ a b h. ap l.meaning (sym h);
   same_but = λ a b rs h is. l.same_but (get a) (get b) rs h is;
   taken_is = λ d old n w bs before r new after rest h. l.taken_is d (get old) n w bs before r (get new) after rest h;
   asks_is = λ d old n w bs before r new after rest h. l.asks_is d (get old) n w bs before r (get new) after rest h;
   seen_is = λ m z. l.seen_is (get m) z;
+  seen_front_is = λ j m z. l.seen_front_is j (get m) z;
+  seen_behind_is = λ j m z. l.seen_behind_is j (get m) z;
+  own_is = l.own_is;
+  slots_are = l.slots_are;
+  front_slots_are = l.front_slots_are;
   adds_none = l.adds_none;
   adds_twice = l.adds_twice;
   adds_kept = l.adds_kept;
   adds_own = l.adds_own;
+  adds_front = l.adds_front;
+  adds_behind = l.adds_behind;
   whole = l.whole;
   in_two = l.in_two;
   kept_low = l.kept_low;
   Owes = l.Owes;
   back = l.back;
   again = l.again;
+  owes_both = l.owes_both;
+  back_front = l.back_front;
+  back_behind = l.back_behind;
   Exact = l.Exact;
   numbers = l.numbers;
   least = l.least;
@@ -86,31 +108,119 @@ owing l sound Fact so = record {
   adds = l.adds;
   bare = l.bare;
   own = l.own;
+  front = l.front;
+  behind = l.behind;
+  front_slots = l.front_slots;
+  slots_behind = l.slots_behind;
+  only_front = l.only_front;
+  OwesFront = λ j. Fact × l.OwesFront j;
+  OwesBehind = l.OwesBehind;
   Same = l.Same;
   SameBut = l.SameBut;
   Taken = l.Taken;
   Apart = l.Apart;
   apart = l.apart;
   seen = l.seen;
+  seen_front = l.seen_front;
+  seen_behind = l.seen_behind;
   stays = l.stays;
   same_is = l.same_is;
   same_but = l.same_but;
   taken_is = l.taken_is;
   asks_is = l.asks_is;
   seen_is = l.seen_is;
+  seen_front_is = l.seen_front_is;
+  seen_behind_is = l.seen_behind_is;
+  own_is = l.own_is;
+  slots_are = l.slots_are;
+  front_slots_are = l.front_slots_are;
   adds_none = l.adds_none;
   adds_twice = l.adds_twice;
   adds_kept = l.adds_kept;
   adds_own = l.adds_own;
+  adds_front = l.adds_front;
+  adds_behind = l.adds_behind;
   whole = l.whole;
   in_two = l.in_two;
   kept_low = l.kept_low;
   Owes = Fact × l.Owes;
   back = λ owes ok d v fits normal low. l.back owes.1 (so owes.0 ok) d v fits normal low;
   again = λ owes ok d v normal low. l.again owes.1 (so owes.0 ok) d v normal low;
+  owes_both = λ j front behind. (front.0, l.owes_both j front.1 behind);
+  back_front = λ owes ok j d v fits normal low. l.back_front owes.1 (so owes.0 ok) j d v fits normal low;
+  back_behind = λ owes ok j d v fits normal low. l.back_behind owes.1 (so owes.0 ok) j d v fits normal low;
   Exact = l.Exact;
   numbers = λ owes exact v. l.numbers owes.1 exact v;
   least = λ owes exact ok d v normal high own kept. l.least owes.1 exact (so owes.0 ok) d v normal high own kept;
+}
+
+-- a member under a number, in its place among the others: behind those in front of the number
+abbrev pub among : {M P A B : Type 0} → ℕ → (M → P) → Shape P A → Layout M B → Layout M (A × B)
+among {M} {P} {A} {B} k get s l = let f : Layout M (A × B) = field k get s l in record {
+  meaning = f.meaning;
+  blank = f.blank;
+  takes = f.takes;
+  asks = f.asks;
+  need = f.need;
+  records = λ v. l.front k v.1 ++ (s.records k v.0 ++ (l.behind k v.1 ++ l.kept v.1));
+  slots = λ v. l.front_slots k v.1 (s.slots v.0 ++ l.slots_behind k v.1);
+  levels = f.levels;
+  normal = f.normal;
+  declares = f.declares;
+  sound = f.sound;
+  keeps = f.keeps;
+  kept = f.kept;
+  adds = f.adds;
+  bare = f.bare;
+  own = λ v. l.front k v.1 ++ (s.records k v.0 ++ l.behind k v.1);
+  front = λ j v. [];
+  behind = λ j v. l.front k v.1 ++ (s.records k v.0 ++ l.behind k v.1);
+  front_slots = λ j v rest. rest;
+  slots_behind = λ j v. l.front_slots k v.1 (s.slots v.0 ++ l.slots_behind k v.1);
+  only_front = λ j v. f.blank;
+  OwesFront = λ j. Unit {0};
+  OwesBehind = λ j. f.Owes;
+  Same = f.Same;
+  SameBut = f.SameBut;
+  Taken = f.Taken;
+  Apart = f.Apart;
+  apart = f.apart;
+  seen = λ m z. l.seen_behind k m (visited s k (get m) (l.seen_front k m z));
+  seen_front = λ j m z. z;
+  seen_behind = λ j m z. l.seen_behind k m (visited s k (get m) (l.seen_front k m z));
+  stays = f.stays;
+  same_is = f.same_is;
+  same_but = f.same_but;
+  taken_is = f.taken_is;
+  asks_is = f.asks_is;
+  seen_is = λ m z. seen_among s k (get m) l m z;
+  seen_front_is = λ j m z. more_none z;
+  seen_behind_is = λ j m z. seen_among s k (get m) l m z
+      ∙ ap (λ r. more r (l.front_slots k (l.meaning m) (s.slots (s.meaning (get m)) ++ l.slots_behind k (l.meaning m))) z) (three_and_kept (l.front k (l.meaning m)) (s.records k (s.meaning (get m))) (l.behind k (l.meaning m)) (l.kept (l.meaning m)));
+  own_is = λ j v. refl;
+  slots_are = λ j v. refl;
+  front_slots_are = λ j v rest. refl;
+  adds_none = f.adds_none;
+  adds_twice = f.adds_twice;
+  adds_kept = f.adds_kept;
+  adds_own = λ v rs. λ i. l.adds_front k v.1 rs i ++ (s.records k v.0 ++ l.adds_behind k v.1 rs i);
+  adds_front = λ j v rs. refl;
+  adds_behind = λ j v rs. λ i. l.adds_front k v.1 rs i ++ (s.records k v.0 ++ l.adds_behind k v.1 rs i);
+  whole = f.whole;
+  in_two = λ v. three_and_kept (l.front k v.1) (s.records k v.0) (l.behind k v.1) (l.kept v.1);
+  kept_low = f.kept_low;
+  Owes = f.Owes;
+  back = λ owes ok d v fits normal low. back_among s k l owes ok d v fits normal (omega (arith, low)) (omega (arith, low));
+  again = f.again;
+  owes_both = λ j front behind. behind;
+  back_front = λ owes ok j d v fits normal low. no_pieces f.takes f.declares d f.blank;
+  back_behind = λ owes ok j d v fits normal low. back_among s k l owes ok d v fits normal (omega (arith, low)) (omega (arith, low));
+  Exact = f.Exact;
+  numbers = λ owes exact v. numbers_among s k l owes exact v;
+  least = λ owes exact ok d v normal high own kept.
+      let mine = least_mine s k l owes ok exact d v normal own in
+      let others = least_others s k l owes ok exact d v normal high own kept in
+      omega (arith, mine, others);
 }
 
 module _ {M X : Type 0} (l : Layout M X) (k each : ℕ) where
@@ -124,10 +234,10 @@ module _ {M X : Type 0} (l : Layout M X) (k each : ℕ) where
   pub is_sound : IsInsideNumber → l.sound ≡ true → (is_number k && not (l.declares k) && (true && l.sound)) ≡ true
   is_sound other sound = rw (other, sound) refl
 
-  -- ---- written: a record for each message inside, and then its own
+  -- ---- written: its own records in front of the number, a record for each message inside, and then the others of its own
   abbrev mutual
     pub nest_records : Nest X → List (ℕ × Datum)
-    nest_records (nest v ns) = inside_records ns ++ l.records v
+    nest_records (nest v ns) = l.front k v ++ (inside_records ns ++ (l.behind k v ++ l.kept v))
 
     pub inside_records : Nests X → List (ℕ × Datum)
     inside_records no_nest = []
@@ -138,7 +248,7 @@ module _ {M X : Type 0} (l : Layout M X) (k each : ℕ) where
 
   abbrev mutual
     pub nest_slots : Nest X → List ℕ
-    nest_slots (nest v ns) = inside_slots ns ++ l.slots v
+    nest_slots (nest v ns) = l.front_slots k v (inside_slots ns ++ l.slots_behind k v)
 
     pub inside_slots : Nests X → List ℕ
     inside_slots no_nest = []
@@ -200,6 +310,6 @@ module _ {M X : Type 0} (l : Layout M X) (k each : ℕ) where
     abbrev pub held_shape : Shape P (List (Nest X))
     held_shape = inside_shape nest_merged nest_cost (FitsInside IsNormalNest nest_records) l.Exact
 
-  -- the message: the member of those inside, and its own
+  -- the message: the member of those inside, in its place among its own
   abbrev pub nest_layout : Layout (Nest M) (List (Nest X) × X)
-  nest_layout = owing (field k (λ t. nest_list (inside_of t)) (held_shape (λ ts. map (nest_means l.meaning) ts)) (through own_of l)) l.sound IsInsideNumber is_sound
+  nest_layout = owing (among k (λ t. nest_list (inside_of t)) (held_shape (λ ts. map (nest_means l.meaning) ts)) (through own_of l)) l.sound IsInsideNumber is_sound

@@ -21,12 +21,12 @@ use Rattle.buffa_wire.specs.Takes.{Need, Taker, answer, cost_of, front_of, merge
 use Rattle.buffa_fields.specs.Keep.{AllNumbers}
 use Rattle.buffa_fields.specs.Layout.{Layout, ReadsBackTo, Shape, both_need, both_take}
 use Rattle.buffa_fields.specs.LayoutFacts.{reads_back}
-use Rattle.buffa_fields.specs.Held.{blank_nest, held_shape, inside_levels, AreNormalInside, inside_records, inside_shape, inside_slots, is_sound, nest_cost, nest_encoding, nest_layout, nest_levels, nest_merged, nest_need, IsNormalNest, nest_records, nest_slots, nest_takes, through}
+use Rattle.buffa_fields.specs.AmongFacts.{all_joined}
+use Rattle.buffa_fields.specs.Held.{among, blank_nest, held_shape, inside_levels, AreNormalInside, inside_records, inside_shape, inside_slots, is_sound, nest_cost, nest_encoding, nest_layout, nest_levels, nest_merged, nest_need, IsNormalNest, nest_records, nest_slots, nest_takes, through}
 use Rattle.buffa_fields.specs.LevelFacts.{back_holds, firsts, front_holds, others_low, some_mapped}
 use Rattle.buffa_fields.specs.LevelKindFacts.{messages_low, messages_numbers}
 use Rattle.buffa_fields.specs.Levels.{AreExactLevels, IsTakenWritten}
 use Rattle.buffa_fields.specs.Lists.{element_records}
-use Rattle.buffa_fields.specs.Members.{field}
 use Rattle.buffa_fields.specs.Nested.{FitsInside, inside, message_merged}
 use Rattle.buffa_fields.specs.Nests.{Nest, Nests, nest, no_nest, first, nest_list, nest_means, nest_of, nests_in-nest_list, nests_mean, inside_of, own_of, parts_of}
 use Rattle.buffa_fields.specs.PairFacts.{sound_parts}
@@ -129,7 +129,7 @@ module _ {M X : Type 0} (l : Layout M X) (k each : ℕ) where
       level_shape = inside_shape l k each (λ ts. map (nest_means l.meaning) ts) (λ _. m) c (IsBelow d) ⊥
 
       abbrev level_layout : Layout (Nest M) (List (Nest X) × X)
-      level_layout = field k (λ t. nest_list (inside_of t)) level_shape (through own_of l)
+      level_layout = among k (λ t. nest_list (inside_of t)) level_shape (through own_of l)
 
       level_back : ReadsBackTo level_shape
       level_back = record {
@@ -140,7 +140,7 @@ module _ {M X : Type 0} (l : Layout M X) (k each : ℕ) where
       at_level : (t : Nest X) → Fits (records_of (nest_records l k each t)) → IsNormalNest l k each t → nest_levels l k each t ≤ d →
           option_map nest_of (merged_of (nest_takes l k each m) d (parts_of (blank_nest l k each)) (nest_encoding l k each t)) ≡ Some t
       at_level (nest v ns) fits normal low =
-          let same = ap (λ (rs : List (ℕ × Datum)). rs ++ l.records v) (inside_records_are ns) in
+          let same = ap (λ (rs : List (ℕ × Datum)). l.front k v ++ (rs ++ (l.behind k v ++ l.kept v))) (inside_records_are ns) in
           let read = reads_back level_layout (level_back, normal.0.1) (is_sound l k each normal.0.0 sound) d (nest_list ns, v) (subst (λ z. Fits (records_of z)) (sym same) fits)
           (all_below d ns normal.1 (omega (arith, low)), normal.2, normal.3) (omega (arith, low, inside_levels_are ns)) in
           ap (λ b. option_map nest_of (merged_of (nest_takes l k each m) d (parts_of (blank_nest l k each)) (records_encoding b))) (sym same)
@@ -178,9 +178,12 @@ module _ {M X : Type 0} (l : Layout M X) (k each : ℕ) where
     -- a message's own members
     own_low : (d : ℕ) (v : X) (ns : Nests X) → IsNormalNest l k each (nest v ns) → AllByRecursion (IsTakenWritten all_takes d) (nest_records l k each (nest v ns)) → l.levels v ≤ d
     own_low d v ns normal all =
-        let records = subst (λ z. AllByRecursion (IsTakenWritten all_takes d) z) (l.in_two v) (back_holds (IsTakenWritten all_takes d) (inside_records l k each ns) (l.records v) all) in
-        let own = front_holds (IsTakenWritten all_takes d) (l.own v) (l.kept v) records in
-        let kept = back_holds (IsTakenWritten all_takes d) (l.own v) (l.kept v) records in
+        let Taken : ℕ × Datum → Type 0 = IsTakenWritten all_takes d in
+        let inner = back_holds Taken (l.front k v) (inside_records l k each ns ++ (l.behind k v ++ l.kept v)) all in
+        let others = back_holds Taken (inside_records l k each ns) (l.behind k v ++ l.kept v) inner in
+        let kept = back_holds Taken (l.behind k v) (l.kept v) others in
+        let own = subst (λ z. AllByRecursion Taken z) (sym (l.own_is k v)) (all_joined Taken (l.front k v) (l.behind k v)
+            (front_holds Taken (l.front k v) (inside_records l k each ns ++ (l.behind k v ++ l.kept v)) all) (front_holds Taken (l.behind k v) (l.kept v) others)) in
         let other = (sound_parts k (l.declares k) (true && l.sound) (is_sound l k each normal.0.0 sound)).1 in
         others_low k all_takes l normal.0.1 exact other (λ d v n w p off. rw off refl) d [] v sound normal.2 (height_low all_takes d (l.kept v) kept) own
         (of_any_number all_takes d (λ n. n == k || l.declares n) (l.kept v) kept)
@@ -191,7 +194,8 @@ module _ {M X : Type 0} (l : Layout M X) (k each : ℕ) where
           let e = nest_encoding l k each (nest v ns) in
           let parts = some_mapped nest_of (merged_of all_takes d (parts_of old) e) u (sym (nest_merged_is d old e) ∙ h) in
           let all = taken_written all_takes d (nest_records l k each (nest v ns)) (parts_of old) parts.0 fits parts.1 in
-          let below = firsts k all_takes inside_takes (λ a. a) d (λ v n w p is. (λ x. (x, v.1), rw is refl)) (inside_records l k each ns) (l.records v) (inside_numbers ns) all in
+          let inner = back_holds (IsTakenWritten all_takes d) (l.front k v) (inside_records l k each ns ++ (l.behind k v ++ l.kept v)) all in
+          let below = firsts k all_takes inside_takes (λ a. a) d (λ v n w p is. (λ x. (x, v.1), rw is refl)) (inside_records l k each ns) (l.behind k v ++ l.kept v) (inside_numbers ns) inner in
           omega (arith, all_low ns d normal.1 below, own_low d v ns normal all)
 
       all_low : (ns : Nests X) (d : ℕ) → AreNormalInside l k each ns → AllByRecursion (IsTakenWritten inside_takes d) (inside_records l k each ns) → inside_levels l k each ns ≤ d

@@ -104,7 +104,7 @@ pub more_none : (z : Seen) → z ≡ more [] [] z
 unfolding more
 more_none z = λ i. record { sink = z.sink; before = z.before; cache = z.cache; first = z.first; records = sym (append-nil z.records) i; slots = sym (append-nil z.slots) i }
 
-more_twice : (a b : List (ℕ × Datum)) (x y : List ℕ) (z : Seen) → more b y (more a x z) ≡ more (a ++ b) (x ++ y) z
+pub more_twice : (a b : List (ℕ × Datum)) (x y : List ℕ) (z : Seen) → more b y (more a x z) ≡ more (a ++ b) (x ++ y) z
 unfolding more
 more_twice a b x y z = λ i. record { sink = z.sink; before = z.before; cache = z.cache; first = z.first; records = append_assoc z.records a b i; slots = append_assoc z.slots x y i }
 
@@ -245,12 +245,12 @@ pub puts_none : (sink : ℕ) (before : List ℕ) (cache : ℕ) (c : Cache) → I
 unfolding IsPut start
 puts_none sink before cache c = (refl, refl, written_none (IsSmall []) c before)
 
-was_put : (rs : List (ℕ × Datum)) (ss : List ℕ) (sink from : ℕ) (before : List ℕ) (cache of : ℕ) (first now : Cache) (new : List ℕ) (r : Result (Unit {0}) EncodeError) →
+pub was_put : (rs : List (ℕ × Datum)) (ss : List ℕ) (sink from : ℕ) (before : List ℕ) (cache of : ℕ) (first now : Cache) (new : List ℕ) (r : Result (Unit {0}) EncodeError) →
     IsPut sink cache new now r (more rs ss (start from before of first)) → (sink ≡ from) × (cache ≡ of) × IsWritten (records_encoding rs) ss first before r now new
 unfolding IsPut start more
 was_put rs ss sink from before cache of first now new r h = (sym h.0, sym h.1, h.2)
 
-was_counted : (rs : List (ℕ × Datum)) (ss : List ℕ) (sink : ℕ) (before : List ℕ) (cache of : ℕ) (first now : Cache) (r : Result ℕ EncodeError) →
+pub was_counted : (rs : List (ℕ × Datum)) (ss : List ℕ) (sink : ℕ) (before : List ℕ) (cache of : ℕ) (first now : Cache) (r : Result ℕ EncodeError) →
     IsCounted cache r now (more rs ss (start sink before of first)) → (cache ≡ of) × IsSized (records_encoding rs) ss first r now × (ss ≡ [] → IsOk r)
 unfolding IsCounted start more
 was_counted rs ss sink before cache of first now r h = (sym h.0, h.1, h.2)

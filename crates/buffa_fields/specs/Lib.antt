@@ -11,6 +11,7 @@ pub mod Layout
 pub mod LayoutFacts
 pub mod Aside
 pub mod AsideFacts
+pub mod PlaceFacts
 pub mod Members
 pub mod MemberRecords
 pub mod Stands
@@ -50,5 +51,6 @@ pub mod LevelFacts
 pub mod WrittenFacts
 pub mod LevelKindFacts
 pub mod Nests
+pub mod AmongFacts
 pub mod Held
 pub mod HeldFacts

@@ -1,6 +1,6 @@
 //! Messages that hold a list of themselves.
 
-ghost use Rattle.std.specs.Prelude.{◌≡◌, ◌≢◌, ◌<◌, ◌∷◌, ◌&&◌, [], ℕ, IfErr, IsOk, OnErr, OnOk, length, map, not, refl, true};
+ghost use Rattle.std.specs.Prelude.{◌≡◌, ◌≢◌, ◌<◌, ◌∷◌, ◌&&◌, [], ℕ, List, IfErr, IsOk, OnErr, OnOk, length, map, not, refl, true};
 ghost use Rattle.std.specs.List.{AllByRecursion};
 ghost use Rattle.buffa_bytes.specs.Front.{delimited_at};
 ghost use Rattle.buffa_bytes.specs.Gives.{FullOnlyIf, Gives};
@@ -12,11 +12,11 @@ ghost use Rattle.buffa_wire.specs.Message.{IsInside, MergesBytes, MessageFault, 
 ghost use Rattle.buffa_wire.specs.Passes.{IsNext, IsSized, IsWritten, cap};
 ghost use Rattle.buffa_wire.specs.Records.{bytes};
 ghost use Rattle.buffa_wire.specs.Takes.{IsTaken};
-ghost use Rattle.buffa_fields.specs.Calls.{ChecksWire};
+ghost use Rattle.buffa_fields.specs.Calls.{ChecksWire, MemberTakes};
 ghost use Rattle.buffa_fields.specs.Held.{blank_nest, held_shape, nest_cost, nest_encoding, nest_layout, nest_merged, nest_slots};
 ghost use Rattle.buffa_fields.specs.HeldFacts.{held_back};
 ghost use Rattle.buffa_fields.specs.MemberCalls.{WritesMessage, WritesMessageList};
-ghost use Rattle.buffa_fields.specs.Layout.{is_number};
+ghost use Rattle.buffa_fields.specs.Layout.{Layout, Seen, is_number};
 ghost use Rattle.buffa_fields.specs.Nested.{message_merged};
 ghost use Rattle.buffa_fields.specs.Nests.{nest_means};
 ghost use Rattle.buffa_fields.specs.Refusals.{RefusesNew, RefusesTaggedField};
@@ -25,8 +25,9 @@ ghost use Rattle.buffa_fields.specs.RepeatedNested.{MessagesTakeMemory, messages
 use crate::fields::Fields;
 use crate::meaning::And;
 use crate::member::Member;
-use crate::message::{Listed, Listing, size, write};
+use crate::message::{Listed, Listing};
 use crate::nested::{record_len, write_head};
+use crate::own_passes::{size_behind, size_front, write_behind, write_front};
 use crate::visitor::Visitor;
 use buffa_wire::{
     Blank, Budget, Buf, DecodeContext, DecodeError, EncodeError, EncodeSink, Formed, SizeCache,
@@ -35,19 +36,33 @@ use buffa_wire::{
 use std::alloc::Global;
 use std::marker::{Model, PhantomData};
 
-/// What a message has of its own, where it holds a list of itself besides: a message by its members, and the number of
-/// the field that holds the list.
+/// What a message has of its own, where it holds a list of itself besides: its members, and the number of the field that
+/// holds the list. Those members whose numbers are less are written in front of the list, and the others behind it.
 ///
 /// ```ignore
-/// impl Holds for BranchOwn {
-///     const NUMBER: u32 = 3;
-///
-///     ghost NUMBER = { 3 };
-///
-///     ghost other = { refl };
-/// }
+/// impl Holds for BranchOwn { .. }
 /// ```
-pub trait Holds: Listing {
+pub trait Holds: Drop {
+    /// What its own members mean, one after the other ([`And`](crate::meaning::And)), as in
+    /// [`Fields`](crate::fields::Fields).
+    ///
+    /// ```ignore
+    /// type Meaning = And3<[u8; 0], [i32; 0], KeptFields>;
+    /// ```
+    type Meaning;
+
+    /// The units of element memory that each message in the list costs: 1 or more.
+    ///
+    /// ```ignore
+    /// const COST: usize = 96;
+    /// ```
+    const COST: usize;
+
+    ghost COST: { ℕ };
+
+    /// An element has a cost.
+    ghost positive: { 0 < COST };
+
     /// The number of the field that holds the list.
     ///
     /// ```ignore
@@ -57,8 +72,62 @@ pub trait Holds: Listing {
 
     ghost NUMBER: { ℕ };
 
-    /// It may be a field's, and is no other member's.
-    ghost other: { (is_number NUMBER && not (Self.layout.declares NUMBER)) ≡ true };
+    /// Its own members, one after the other.
+    ghost layout: { Layout Self Self.Meaning };
+
+    /// Each number is valid for a field, no two members have the same one, and what closed enums don't declare is kept.
+    ghost sound: { layout.sound ≡ true };
+
+    /// The list's number may be a field's, and is no other member's.
+    ghost other: { (is_number NUMBER && not (layout.declares NUMBER)) ≡ true };
+
+    /// The default of its own members.
+    ///
+    /// ```ignore
+    /// let own = BranchOwn::blank(alloc);
+    /// ```
+    fn blank(alloc: Global) -> Self
+        ensures { layout.meaning result ≡ layout.blank };
+
+    /// Visits each of its own members in front of the list, up to the first whose number isn't less.
+    ///
+    /// ```ignore
+    /// visitor.visit::<Plain<Str>>(1, &self.name);
+    /// ```
+    fn front<V: Visitor>(&self, visitor: &mut V)
+        requires { (rest : List ℕ) × V.Waits (layout.front_slots NUMBER (layout.meaning self.now) rest) visitor.old }
+        ensures seen { (z : Seen) → V.IsAt z visitor.old → V.IsAt (layout.seen_front NUMBER self.now z) visitor.new }
+        ensures waits { (rest : List ℕ) → V.Waits (layout.front_slots NUMBER (layout.meaning self.now) rest) visitor.old →
+            V.Waits rest visitor.new }
+        ensures back { layout.OwesFront NUMBER };
+
+    /// Visits the others, behind the list.
+    ///
+    /// ```ignore
+    /// visitor.visit_kept(&self.rest);
+    /// ```
+    fn behind<V: Visitor>(&self, visitor: &mut V)
+        requires { V.Waits (layout.slots_behind NUMBER (layout.meaning self.now)) visitor.old }
+        ensures seen { (z : Seen) → V.IsAt z visitor.old → V.IsAt (layout.seen_behind NUMBER self.now z) visitor.new }
+        ensures back { layout.OwesBehind NUMBER };
+
+    /// Merges the field whose tag was read into its own member of that number, as
+    /// [`Fields::take`](crate::fields::Fields::take) does.
+    ///
+    /// # Errors
+    /// That of the member. For a field that isn't declared, that of keeping it or of passing over it.
+    ///
+    /// ```ignore
+    /// 1 => Plain::<Str>::merge(&mut self.name, alloc, tag, buf, ctx),
+    /// ```
+    fn take(
+        &mut self,
+        alloc: Global,
+        tag: Tag,
+        buf: &mut &[u8],
+        ctx: DecodeContext<'_>,
+    ) -> Result<(), DecodeError>
+        ensures { MemberTakes tag ctx.entry ctx.exit self.old self.new buf.old buf.new result layout };
 }
 
 /// A message that holds a list of itself: what it has of its own, and the messages inside it.
@@ -145,12 +214,16 @@ fn size_nest<O: Holds>(kid: &Nest<O>, cache: &mut SizeCache) -> Result<u32, Enco
         IsSized (nest_encoding O.layout O.NUMBER O.COST v) (nest_slots O.layout O.NUMBER O.COST v) cache.old result
         cache.new }
 {
+    let front = match size_front(&kid.own, cache) {
+        Ok(front) => front,
+        Err(error) => return Err(error),
+    };
     let below = match kids_len(O::NUMBER, kid.inside.as_slice(), cache) {
         Ok(below) => below,
         Err(error) => return Err(error),
     };
-    match size(&kid.own, cache) {
-        Ok(own) => Ok(below.saturating_add(own)),
+    match size_behind(&kid.own, cache) {
+        Ok(behind) => Ok(front.saturating_add(below.saturating_add(behind))),
         Err(error) => Err(error),
     }
 }
@@ -216,8 +289,12 @@ fn write_nest<O: Holds, S: EncodeSink>(
         IsWritten (nest_encoding O.layout O.NUMBER O.COST v) (nest_slots O.layout O.NUMBER O.COST v) cache.old
         (S.written sink.old) result cache.new (S.written sink.new) }
 {
+    match write_front(&kid.own, cache, sink) {
+        Ok(()) => {}
+        Err(error) => return Err(error),
+    }
     match write_kids(O::NUMBER, kid.inside.as_slice(), cache, sink) {
-        Ok(()) => write(&kid.own, cache, sink),
+        Ok(()) => write_behind(&kid.own, cache, sink),
         Err(error) => Err(error),
     }
 }
@@ -302,7 +379,7 @@ fn take_charged<O: Holds>(
         Ok(()) => {}
         Err(error) => return Err(error),
     }
-    match budget.take_memory(<O as Fields>::COST) {
+    match budget.take_memory(<O as Holds>::COST) {
         Ok(()) => {}
         Err(error) => return Err(error),
     }
@@ -403,7 +480,7 @@ pub struct Inside<O> {
 impl<O: Holds> Member for Inside<O> {
     type Part = Vec<Nest<O>>;
 
-    type Meaning = [Nest<<O as Fields>::Meaning>; 0];
+    type Meaning = [Nest<<O as Holds>::Meaning>; 0];
 
     ghost shape = { held_shape O.layout O.NUMBER O.COST (λ p. map (nest_means O.layout.meaning) p.items) };
 
@@ -438,9 +515,9 @@ impl<O: Holds> Member for Inside<O> {
 // ---- the message
 
 impl<O: Holds> Fields for Nest<O> {
-    type Meaning = And<[Nest<<O as Fields>::Meaning>; 0], <O as Fields>::Meaning>;
+    type Meaning = And<[Nest<<O as Holds>::Meaning>; 0], <O as Holds>::Meaning>;
 
-    const COST: usize = <O as Fields>::COST;
+    const COST: usize = <O as Holds>::COST;
 
     ghost COST = { O.COST };
 
@@ -451,8 +528,9 @@ impl<O: Holds> Fields for Nest<O> {
     ghost sound = { O.sound };
 
     fn visit<V: Visitor>(&self, visitor: &mut V) {
+        self.own.front(visitor);
         visitor.visit::<Inside<O>>(O::NUMBER, &self.inside);
-        self.own.visit(visitor);
+        self.own.behind(visitor);
     }
 
     fn take(

@@ -52,7 +52,8 @@ pub fn lists_of_themselves_are_these<O: Holds>()
 {}
 
 /// A message that holds a list of itself is one of its members, as `members_are_these` says it of any: the list stands under
-/// its number, in front of the members of its own. A nest means what its own part means, and those inside it.
+/// its number, behind those of its own members that are in front of the number, and in front of the others. A nest means
+/// what its own part means, and those inside it.
 pub fn messages_that_hold_themselves_are_these<O: Holds>()
     ensures meaning { (t : _) → ⟦<Nest<O> as Fields>⟧.layout.meaning t ≡ parts_of (nest_means O.layout.meaning t) }
     ensures blank { ⟦<Nest<O> as Fields>⟧.layout.blank ≡ (⟦<Inside<O> as Member>⟧.shape.blank, O.layout.blank) }
@@ -63,9 +64,13 @@ pub fn messages_that_hold_themselves_are_these<O: Holds>()
     ensures asks { (s d n : ℕ) (w : _) (bs : List ℕ) → ⟦<Nest<O> as Fields>⟧.layout.asks s d n w bs
         ↔ Choice (n == O.NUMBER) (⟦<Inside<O> as Member>⟧.shape.asks d n w bs) (O.layout.asks s d n w bs) }
     ensures records { (v : _) → ⟦<Nest<O> as Fields>⟧.layout.records v
-        ≡ ⟦<Inside<O> as Member>⟧.shape.records O.NUMBER v.0 ++ O.layout.records v.1 }
+        ≡ O.layout.front O.NUMBER v.1 ++ (⟦<Inside<O> as Member>⟧.shape.records O.NUMBER v.0
+        ++ (O.layout.behind O.NUMBER v.1 ++ O.layout.kept v.1)) }
+    ensures own { (v : _) → O.layout.own v ≡ O.layout.front O.NUMBER v ++ O.layout.behind O.NUMBER v }
     ensures slots { (v : _) → ⟦<Nest<O> as Fields>⟧.layout.slots v
-        ≡ ⟦<Inside<O> as Member>⟧.shape.slots v.0 ++ O.layout.slots v.1 }
+        ≡ O.layout.front_slots O.NUMBER v.1 (⟦<Inside<O> as Member>⟧.shape.slots v.0
+        ++ O.layout.slots_behind O.NUMBER v.1) }
+    ensures own_slots { (v : _) → O.layout.slots v ≡ O.layout.front_slots O.NUMBER v (O.layout.slots_behind O.NUMBER v) }
     ensures levels { (v : _) → ⟦<Nest<O> as Fields>⟧.layout.levels v
         ≡ max (⟦<Inside<O> as Member>⟧.shape.levels v.0) (O.layout.levels v.1) }
     ensures normal { (v : _) → ⟦<Nest<O> as Fields>⟧.layout.normal v ↔ (⟦<Inside<O> as Member>⟧.shape.normal v.0
@@ -74,8 +79,8 @@ pub fn messages_that_hold_themselves_are_these<O: Holds>()
         ≡ (n == O.NUMBER || O.layout.declares n) }
     ensures kept { (v : _) (rs : List (ℕ × Datum)) → (⟦<Nest<O> as Fields>⟧.layout.keeps ≡ O.layout.keeps)
         × (⟦<Nest<O> as Fields>⟧.layout.kept v ≡ O.layout.kept v.1)
-        × (⟦<Nest<O> as Fields>⟧.layout.own v
-        ≡ ⟦<Inside<O> as Member>⟧.shape.records O.NUMBER v.0 ++ O.layout.own v.1)
+        × (⟦<Nest<O> as Fields>⟧.layout.own v ≡ O.layout.front O.NUMBER v.1
+        ++ (⟦<Inside<O> as Member>⟧.shape.records O.NUMBER v.0 ++ O.layout.behind O.NUMBER v.1))
         × (⟦<Nest<O> as Fields>⟧.layout.adds v rs ≡ (v.0, O.layout.adds v.1 rs)) }
     ensures taken { TakeAlike ⟦<Nest<O> as Fields>⟧.layout.Taken
         (MemberOrOthers O.NUMBER (λ t. nest_list (inside_of t))
@@ -106,11 +111,12 @@ pub fn fields_of_messages_that_hold_themselves_are_these<O: Holds>()
         Payload d O.NUMBER w p → ⟦<Nest<O> as MessageSpec>⟧.cost d (t ++ p) ≡ nothing }
     ensures own_costs { (d n : ℕ) (w : _) (t p : List ℕ) → n ≢ O.NUMBER → IsTag t n w → Payload d n w p →
         ⟦<Nest<O> as MessageSpec>⟧.cost d (t ++ p) ≡ O.layout.need d n w p }
-    ensures records { (v : _) → ⟦<Nest<O> as MessageSpec>⟧.records v
-        ≡ map (λ u. (O.NUMBER, bytes (⟦<Nest<O> as MessageSpec>⟧.encoding (parts_of u)))) v.0 ++ O.layout.records v.1 }
-    ensures slots { (v : _) → ⟦<Nest<O> as MessageSpec>⟧.slots v
-        ≡ messages_slots ⟦<Nest<O> as MessageSpec>⟧.encoding ⟦<Nest<O> as MessageSpec>⟧.slots (map parts_of v.0)
-        ++ O.layout.slots v.1 }
+    ensures records { (v : _) → ⟦<Nest<O> as MessageSpec>⟧.records v ≡ O.layout.front O.NUMBER v.1
+        ++ (map (λ u. (O.NUMBER, bytes (⟦<Nest<O> as MessageSpec>⟧.encoding (parts_of u)))) v.0
+        ++ (O.layout.behind O.NUMBER v.1 ++ O.layout.kept v.1)) }
+    ensures slots { (v : _) → ⟦<Nest<O> as MessageSpec>⟧.slots v ≡ O.layout.front_slots O.NUMBER v.1
+        (messages_slots ⟦<Nest<O> as MessageSpec>⟧.encoding ⟦<Nest<O> as MessageSpec>⟧.slots (map parts_of v.0)
+        ++ O.layout.slots_behind O.NUMBER v.1) }
     ensures levels { (v : _) → ⟦<Nest<O> as MessageSpec>⟧.levels v
         ≡ max (messages_levels ⟦<Nest<O> as MessageSpec>⟧.levels (map parts_of v.0)) (O.layout.levels v.1) }
 {}

@@ -3,17 +3,15 @@
 ghost use Rattle.std.proofs.Common.{lit<, refl};
 ghost use Rattle.buffa_fields.specs.Members.{field, keep};
 
-use buffa_fields::fields::Fields;
 use buffa_fields::held::{Holds, Nest};
 use buffa_fields::kept::{self, KeptFields};
 use buffa_fields::meaning::And3;
 use buffa_fields::member::Member;
-use buffa_fields::message::Listing;
 use buffa_fields::plain::Plain;
 use buffa_fields::repeated::Repeated;
 use buffa_fields::visitor::Visitor;
 use buffa_map::map_codec::{Int32, Str};
-use buffa_wire::{Blank, DecodeContext, DecodeError, Tag, UnknownFields};
+use buffa_wire::{DecodeContext, DecodeError, Tag, UnknownFields};
 use std::alloc::Global;
 use std::string::String;
 
@@ -25,7 +23,7 @@ use std::string::String;
 ///     repeated Branch branches = 3;
 /// }
 ///
-/// Its `branches` are `inside`, and are written first. Its other members are in `own`.
+/// Its `branches` are `inside`. Its other members are in `own`.
 pub type Branch = Nest<BranchOwn>;
 
 /// What `Branch` has beside `branches`.
@@ -37,7 +35,7 @@ pub struct BranchOwn {
     pub rest: UnknownFields,
 }
 
-impl Fields for BranchOwn {
+impl Holds for BranchOwn {
     type Meaning = And3<[u8; 0], [i32; 0], KeptFields>;
 
     const COST: usize = 96;
@@ -46,15 +44,32 @@ impl Fields for BranchOwn {
 
     ghost positive = { lit< tt };
 
+    const NUMBER: u32 = 3;
+
+    ghost NUMBER = { 3 };
+
     ghost layout = { field 1 (λ m. m.name) ⟦<Plain<Str> as Member>⟧.shape (
         field 2 (λ m. m.leaves) ⟦<Repeated<Int32> as Member>⟧.shape (
         keep (λ m. m.rest.records))) };
 
     ghost sound = { refl };
 
-    fn visit<V: Visitor>(&self, visitor: &mut V) {
+    ghost other = { refl };
+
+    fn blank(alloc: Global) -> BranchOwn {
+        BranchOwn {
+            name: String::new(alloc),
+            leaves: Vec::new(alloc),
+            rest: UnknownFields::new(alloc),
+        }
+    }
+
+    fn front<V: Visitor>(&self, visitor: &mut V) {
         visitor.visit::<Plain<Str>>(1, &self.name);
         visitor.visit::<Repeated<Int32>>(2, &self.leaves);
+    }
+
+    fn behind<V: Visitor>(&self, visitor: &mut V) {
         visitor.visit_kept(&self.rest);
     }
 
@@ -71,34 +86,4 @@ impl Fields for BranchOwn {
             _ => kept::keep(alloc, &mut self.rest, tag, buf, ctx),
         }
     }
-}
-
-impl Blank for BranchOwn {
-    type Meaning = <BranchOwn as Fields>::Meaning;
-
-    ghost meaning = { ⟦<BranchOwn as Fields>⟧.layout.meaning };
-
-    ghost blank_is = { ⟦<BranchOwn as Fields>⟧.layout.blank };
-
-    fn blank(alloc: Global) -> BranchOwn {
-        BranchOwn {
-            name: String::new(alloc),
-            leaves: Vec::new(alloc),
-            rest: UnknownFields::new(alloc),
-        }
-    }
-}
-
-impl Listing for BranchOwn {
-    ghost means = { λ m. refl };
-
-    ghost starts = { refl };
-}
-
-impl Holds for BranchOwn {
-    const NUMBER: u32 = 3;
-
-    ghost NUMBER = { 3 };
-
-    ghost other = { refl };
 }

@@ -23,7 +23,7 @@ decreases-merge_kid g l = 5 * l.depth
 -- the bytes before the rest were merged and paid for
 abbrev pub invariant-merge_nest-fields : goal.invariant-merge_nest-fields
 invariant-merge_nest-fields g l =
-    let layout = nest_layout g.O.Fields.layout g.O.Holds.NUMBER g.O.Fields.COST in
+    let layout = nest_layout g.O.Holds.layout g.O.Holds.NUMBER g.O.Holds.COST in
     CameTo (merged_of layout.takes) (cost_of layout.need) l.depth (layout.meaning l.fn.message) l.fn.bytes l.fn.budget (layout.meaning l.message) l.rest l.budget
 
 abbrev pub decreases-merge_nest-fields : goal.decreases-merge_nest-fields

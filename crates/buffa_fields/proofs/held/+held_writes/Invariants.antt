@@ -19,6 +19,6 @@ decreases-write_kid g l = 3 * nest_height l.kid.now + 1
 -- those so far were written
 abbrev pub invariant-write_kids-loop-kid : goal.invariant-write_kids-loop-kid
 invariant-write_kids-loop-kid g l =
-    let encoding = nest_encoding g.O.Fields.layout g.O.Holds.NUMBER g.O.Fields.COST in
-    let vs = map (nest_means g.O.Fields.layout.meaning) (take l.kid-index l.kids) in
-    IsWritten (records_encoding (messages_records encoding l.number vs)) (messages_slots encoding (nest_slots g.O.Fields.layout g.O.Holds.NUMBER g.O.Fields.COST) vs) l.fn.cache (g.S.EncodeSink.written l.fn.sink) done l.cache (g.S.EncodeSink.written l.sink)
+    let encoding = nest_encoding g.O.Holds.layout g.O.Holds.NUMBER g.O.Holds.COST in
+    let vs = map (nest_means g.O.Holds.layout.meaning) (take l.kid-index l.kids) in
+    IsWritten (records_encoding (messages_records encoding l.number vs)) (messages_slots encoding (nest_slots g.O.Holds.layout g.O.Holds.NUMBER g.O.Holds.COST) vs) l.fn.cache (g.S.EncodeSink.written l.fn.sink) done l.cache (g.S.EncodeSink.written l.sink)
