@@ -24,9 +24,9 @@ use Rattle.buffa_fields.specs.Nested.{MessageTakesMemory, message_cost, message_
 use Rattle.buffa_wire.specs.Takes.{IsTaken, Need, Untaken}
 use Rattle.buffa_wire.specs.Pinned.{refusal}
 use Rattle.buffa_fields.specs.NestedFacts.{TellsLength, head, head_cut, record_after}
-use Rattle.buffa_fields.specs.InsideFacts.{delimited_alone}
+use Rattle.buffa_fields.specs.InsideFacts.{delimited_alone, level_there}
 use Rattle.buffa_fields.proofs.ValueLemmas.{wire_refused}
-use Rattle.buffa_fields.proofs.InsideLemmas.{alone_is, behind_slot, delimited_front, level_there, no_payload, wire_taken}
+use Rattle.buffa_fields.proofs.InsideLemmas.{alone_is, behind_slot, delimited_front, no_payload, wire_taken}
 use Rattle.buffa_bytes.specs.Field.{Payload}
 use Rattle.buffa_bytes.proofs.WireLemmas.{same_false, checked_same}
 use Rattle.buffa_fields.specs.RepeatedNested.{MessagesTakeMemory}
