@@ -1,5 +1,5 @@
--- What is proved of messages as groups: of what is taken, and of sizes and encodings.
-use Rattle.std.proofs.Common.{◌≡◌, ◌≢◌, inl, inr, ℕ, suc, ◌+◌, ◌-◌, List, [], ◌∷◌, ◌++◌, length, Option, None, Result, Ok, Err, refl, sym, ap, subst, ◌∙◌, arith, append_assoc, append-nil, length-append}
+-- What is proved of messages as groups: of what is taken.
+use Rattle.std.proofs.Common.{◌≡◌, ◌≢◌, inl, inr, ℕ, suc, ◌-◌, List, ◌++◌, Option, None, Result, Ok, Err, refl, sym, ap, subst, ◌∙◌, arith, append_assoc}
 use Rattle.std.proofs.lemmas.Bool.{ne_eqb}
 use Rattle.std.proofs.lemmas.List.{append_cancel_right}
 use Rattle.buffa_bytes.proofs.FieldLemmas.{group_is, not_end, one_payload, payload_complete, payload_sound, tag_complete, tag_sound}
@@ -12,14 +12,10 @@ use Rattle.buffa_bytes.specs.Field.{Group, IsTag, Payload, SomeField}
 use Rattle.buffa_bytes.specs.Join.{Join}
 use Rattle.buffa_bytes.specs.Join.Join.{none, more}
 use Rattle.buffa_bytes.specs.Front.{group_at, skip_at, tag_at}
-use Rattle.buffa_bytes.specs.Values.{tag_encoding}
 use Rattle.buffa_wire.proofs.MessageLemmas.{NoLimit, as_no_limit, tag_no_limit}
 use Rattle.buffa_wire.proofs.ByPayloadLemmas.{ByPayload, judged_all}
 use Rattle.buffa_wire.specs.BudgetLeft.{BudgetLeft, Lacks, Pays, PaysAtMost}
-use Rattle.buffa_wire.specs.Encoding.{records_encoding}
 use Rattle.buffa_wire.specs.Message.{IsFieldMerged, IsJudged, MergeFault}
-use Rattle.buffa_wire.specs.Passes.{cap}
-use Rattle.buffa_wire.specs.Records.{Datum, group, records_of}
 use Rattle.buffa_fields.specs.Groups.{group_body, group_cost, group_merged}
 use Rattle.buffa_wire.specs.Takes.{IsTaken, Need, Untaken, Taker}
 use Rattle.buffa_fields.specs.GroupFacts.{body_field, body_is, body_past, body_stays, body_whole, turn}
@@ -161,23 +157,3 @@ pub no_level : {X : Type 0} (merged : ℕ → X → List ℕ → Option X) (cost
 unfolding group_merged
 no_level merged cost k n old new bs rest start after e bottom is kept =
     refused_free (group_merged merged) (group_cost cost) k n StartGroup old new bs rest start after e RecursionLimitExceeded is (λ l. l) (λ full. cc) kept (λ p more payload split. rw bottom refl)
-
--- ---- the encoding
-module _ (n : ℕ) (rs : List (ℕ × Datum)) where
-  abbrev start_tag : List ℕ
-  start_tag = tag_encoding n StartGroup
-
-  abbrev end_tag : List ℕ
-  end_tag = tag_encoding n EndGroup
-
-  abbrev spelled_group : List ℕ
-  spelled_group = records_encoding ((n, group (records_of rs)) ∷ [])
-
-  parts : (start_tag ++ records_encoding rs) ++ end_tag ≡ spelled_group
-  parts = append_assoc start_tag (records_encoding rs) end_tag ∙ sym (append-nil (start_tag ++ (records_encoding rs ++ end_tag)))
-
-  group_length : length spelled_group ≡ length start_tag + (length (records_encoding rs) + length end_tag)
-  group_length = ap length (sym parts) ∙ omega (arith, length-append (start_tag ++ records_encoding rs) end_tag, length-append start_tag (records_encoding rs))
-
-  pub group_size : (inner total : ℕ) → inner ≡ cap (length (records_encoding rs)) → total ≡ cap (length start_tag + (inner + length end_tag)) → total ≡ cap (length spelled_group)
-  group_size inner total is e = omega (arith, is, e, group_length)

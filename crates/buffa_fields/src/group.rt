@@ -39,10 +39,12 @@ impl Framing for Grouped {
         capped(total)
     }
 
+    #[inline(always)]
     fn begin<S: EncodeSink>(number: u32, _inner: u32, sink: &mut S) -> Result<(), EncodeError> {
         Tag::new(number, WireType::StartGroup).encode(sink)
     }
 
+    #[inline(always)]
     fn end<S: EncodeSink>(number: u32, sink: &mut S) -> Result<(), EncodeError> {
         Tag::new(number, WireType::EndGroup).encode(sink)
     }

@@ -62,10 +62,12 @@ impl Framing for Delimited {
         WireType::LengthDelimited
     }
 
+    #[inline(always)]
     fn field_len(number: u32, inner: u32) -> u32 {
         record_len(number, u64::from(inner))
     }
 
+    #[inline(always)]
     fn begin<S: EncodeSink>(number: u32, inner: u32, sink: &mut S) -> Result<(), EncodeError> {
         write_head(number, u64::from(inner), sink)
     }
@@ -75,6 +77,7 @@ impl Framing for Delimited {
         Ok(())
     }
 
+    #[inline(always)]
     fn merge<N: Message>(
         alloc: Global,
         message: &mut N,
