@@ -1,39 +1,26 @@
--- What is proved of messages as groups: of what is taken, and of sizes and encodings.
-use Rattle.std.proofs.Common.{◌≡◌, ◌≢◌, inl, inr, ℕ, suc, ◌+◌, ◌-◌, List, [], ◌∷◌, ◌++◌, length, Option, Some, None, Result, Ok, Err, refl, sym, ap, subst, ◌∙◌, arith, append_assoc, append-nil, length-append}
+-- What is proved of messages as groups: of what is taken.
+use Rattle.std.proofs.Common.{◌≡◌, ◌≢◌, inl, inr, ℕ, suc, ◌-◌, List, ◌++◌, Option, None, Result, Ok, Err, refl, sym, ap, subst, ◌∙◌, arith, append_assoc}
 use Rattle.std.proofs.lemmas.Bool.{ne_eqb}
 use Rattle.std.proofs.lemmas.List.{append_cancel_right}
-use Rattle.buffa_bytes.proofs.FieldLemmas.{group_is, not_end, one_payload, payload_complete, payload_sound, tag_complete, tag_sound, payload_taken}
+use Rattle.buffa_bytes.proofs.FieldLemmas.{group_is, not_end, one_payload, payload_complete, payload_sound, tag_complete, tag_sound}
 use Rattle.buffa_bytes.proofs.StepLemmas.{agree_err, agree_ok}
 use Rattle.buffa_bytes.specs.declared.error.DecodeError.{DecodeError}
 use Rattle.buffa_bytes.specs.declared.error.DecodeError.TheVariants.{InvalidEndGroup, OutOfMemory, RecursionLimitExceeded}
-use Rattle.buffa_bytes.specs.declared.error.EncodeError.{EncodeError}
 use Rattle.buffa_bytes.specs.declared.wire_type.WireType.{WireType}
 use Rattle.buffa_bytes.specs.declared.wire_type.WireType.TheVariants.{StartGroup, EndGroup}
 use Rattle.buffa_bytes.specs.Field.{Group, IsTag, Payload, SomeField}
 use Rattle.buffa_bytes.specs.Join.{Join}
 use Rattle.buffa_bytes.specs.Join.Join.{none, more}
-use Rattle.buffa_bytes.specs.Front.{check_wire, group_at, skip_at, tag_at}
-use Rattle.buffa_bytes.specs.Values.{tag_encoding}
-use Rattle.buffa_bytes.specs.Written.{Writes}
-use Rattle.buffa_bytes.proofs.WireLemmas.{same_false}
-use Rattle.buffa_wire.proofs.PassLemmas.{written_put, written_same, written_short, written_then}
+use Rattle.buffa_bytes.specs.Front.{group_at, skip_at, tag_at}
 use Rattle.buffa_wire.proofs.MessageLemmas.{NoLimit, as_no_limit, tag_no_limit}
 use Rattle.buffa_wire.proofs.ByPayloadLemmas.{ByPayload, judged_all}
 use Rattle.buffa_wire.specs.BudgetLeft.{BudgetLeft, Lacks, Pays, PaysAtMost}
-use Rattle.buffa_wire.specs.Cache.{Cache, advanced}
-use Rattle.buffa_wire.specs.Encoding.{records_encoding}
-use Rattle.buffa_wire.specs.Message.{IsFieldMerged, IsJudged, MergeFault, merged_in}
-use Rattle.buffa_wire.specs.Passes.{IsSmall, IsWritten, WritesIf, cap}
-use Rattle.buffa_wire.specs.Records.{Datum, group, records_of}
+use Rattle.buffa_wire.specs.Message.{IsFieldMerged, IsJudged, MergeFault}
 use Rattle.buffa_fields.specs.Groups.{group_body, group_cost, group_merged}
 use Rattle.buffa_wire.specs.Takes.{IsTaken, Need, Untaken, Taker}
 use Rattle.buffa_fields.specs.GroupFacts.{body_field, body_is, body_past, body_stays, body_whole, turn}
 use Rattle.buffa_wire.proofs.MergeLoopLemmas.{CameTo, costs, stopped}
-use Rattle.buffa_fields.proofs.ValueLemmas.{refused_free, wire_refused}
-use Rattle.buffa_wire.proofs.SpentLemmas.{is_there}
-use Rattle.buffa_wire.specs.Pinned.{done, refusal}
-use Rattle.buffa_fields.specs.RepeatedGroups.{GroupsTakeMemory}
-use Rattle.buffa_fields.proofs.InsideLemmas.{behind_slot, level_there, wire_taken}
+use Rattle.buffa_fields.proofs.ValueLemmas.{refused_free}
 
 -- ---- the body of a group
 module _ (d : ℕ) where
@@ -170,65 +157,3 @@ pub no_level : {X : Type 0} (merged : ℕ → X → List ℕ → Option X) (cost
 unfolding group_merged
 no_level merged cost k n old new bs rest start after e bottom is kept =
     refused_free (group_merged merged) (group_cost cost) k n StartGroup old new bs rest start after e RecursionLimitExceeded is (λ l. l) (λ full. cc) kept (λ p more payload split. rw bottom refl)
-
--- ---- a field of another wire type is none, whatever it costs
-pub group_wire_err : {X : Type 0} (merged : ℕ → X → List ℕ → Option X) (need : Need) (d n : ℕ) (w : WireType) (old : X) (bs : List ℕ) (before : BudgetLeft) (e : DecodeError) → check_wire n StartGroup w ≡ Err e →
-    IsTaken (group_merged merged) need d old n w bs before (let r : Result (Unit {0}) DecodeError = Err e in r) old before bs
-unfolding group_merged
-group_wire_err merged need d n w old bs before e told = wire_refused (group_merged merged) need d n w old old bs bs before before e StartGroup told refl (λ other p. rw (same_false StartGroup w other) refl)
-
--- ---- the encoding
-module _ (n : ℕ) (rs : List (ℕ × Datum)) where
-  abbrev start_tag : List ℕ
-  start_tag = tag_encoding n StartGroup
-
-  abbrev end_tag : List ℕ
-  end_tag = tag_encoding n EndGroup
-
-  abbrev spelled_group : List ℕ
-  spelled_group = records_encoding ((n, group (records_of rs)) ∷ [])
-
-  parts : (start_tag ++ records_encoding rs) ++ end_tag ≡ spelled_group
-  parts = append_assoc start_tag (records_encoding rs) end_tag ∙ sym (append-nil (start_tag ++ (records_encoding rs ++ end_tag)))
-
-  group_length : length spelled_group ≡ length start_tag + (length (records_encoding rs) + length end_tag)
-  group_length = ap length (sym parts) ∙ omega (arith, length-append (start_tag ++ records_encoding rs) end_tag, length-append start_tag (records_encoding rs))
-
-  pub group_size : (inner total : ℕ) → inner ≡ cap (length (records_encoding rs)) → total ≡ cap (length start_tag + (inner + length end_tag)) → total ≡ cap (length spelled_group)
-  group_size inner total is e = omega (arith, is, e, group_length)
-
-  small_inside : IsSmall spelled_group → IsSmall (records_encoding rs)
-  small_inside h = omega (arith, h, group_length)
-
-  -- behind the slot of the message's length
-  module _ (slots : List ℕ) (slot : ℕ) (c0 c1 : Cache) (on : c1 ≡ advanced 1 c0) (b0 : List ℕ) where
-    as_parts : (r : Result (Unit {0}) EncodeError) (c : Cache) (b : List ℕ) → WritesIf (IsSmall spelled_group) ((start_tag ++ records_encoding rs) ++ end_tag) (slots ++ []) c1 b0 r c b → IsWritten spelled_group (slot ∷ slots) c0 b0 r c b
-    as_parts r c b w =
-        behind_slot spelled_group slots slot c0 c1 c b0 b on r (subst (λ (z : List ℕ). IsWritten spelled_group z c1 b0 r c b) (append-nil slots)
-        (written_same (IsSmall spelled_group) (IsSmall spelled_group) ((start_tag ++ records_encoding rs) ++ end_tag) spelled_group (slots ++ []) 0 c1 c c b0 b (λ s. s) (λ s. parts) r w))
-
-    module _ (b1 : List ℕ) (started : b1 ≡ b0 ++ start_tag) where
-      inner_after : (r : Result (Unit {0}) EncodeError) (c : Cache) (b : List ℕ) → IsWritten (records_encoding rs) slots c1 b1 r c b → WritesIf (IsSmall spelled_group) (start_tag ++ records_encoding rs) slots c1 b0 r c b
-      inner_after r c b w =
-          let P = IsSmall spelled_group in
-          written_then P (IsSmall (records_encoding rs)) P start_tag (records_encoding rs) [] slots c1 c1 c b0 b1 b (λ s. (s, small_inside s)) r (written_put P start_tag c1 b0 b1 done started) w
-
-      -- the message is
-      pub inner_short : (e : EncodeError) (c : Cache) (b : List ℕ) → IsWritten (records_encoding rs) slots c1 b1 (refusal e) c b → IsWritten spelled_group (slot ∷ slots) c0 b0 (refusal e) c b
-      inner_short e c b w =
-          let P = IsSmall spelled_group in
-          as_parts (refusal e) c b (written_short P P P (start_tag ++ records_encoding rs) end_tag slots [] c1 c c b0 b b (λ s. s) e (inner_after (refusal e) c b w))
-
-      -- the end tag is written last
-      pub group_written : (r : Result (Unit {0}) EncodeError) (c : Cache) (b2 b3 : List ℕ) → IsWritten (records_encoding rs) slots c1 b1 done c b2 → Writes r b2 end_tag b3 → IsWritten spelled_group (slot ∷ slots) c0 b0 r c b3
-      group_written r c b2 b3 w v =
-          let P = IsSmall spelled_group in
-          as_parts r c b3 (written_then P P P (start_tag ++ records_encoding rs) end_tag slots [] c1 c c b0 b2 b3 (λ s. (s, s)) r (inner_after done c b2 w) (written_put P end_tag c b2 b3 r v))
-
--- ---- lists of them
--- a group that was read had a level, and is whole
-pub group_whole : {X : Type 0} (merged : ℕ → X → List ℕ → Option X) (d : ℕ) (old new : X) (n : ℕ) (w : WireType) (bs p rest : List ℕ) → Payload d n w p → bs ≡ p ++ rest → group_merged merged d old n w p ≡ Some new → GroupsTakeMemory d n w bs
-unfolding group_merged
-group_whole merged d old new n w bs p rest h split is =
-    let t = wire_taken StartGroup w (merged_in merged d old (group_body (d - 1) p)) new is in
-    (t.0, level_there merged d old new (group_body (d - 1) p) t.1, inr (is_there (skip_at d n w bs) rest (payload_taken d n w bs rest (p, h, split))))

@@ -1,5 +1,5 @@
 -- What is proved of messages that are taken inside another, as payloads or as groups.
-use Rattle.std.proofs.Common.{◌≡◌, ◌⊎◌, inl, inr, ℕ, zero, suc, ◌+◌, ◌<◌, Bool, true, false, List, [], ◌∷◌, ◌++◌, Option, Some, None, Result, Ok, Err, OnOk, refl, sym, ap, subst, ◌∙◌, arith, append_assoc, append-nil, if◌then◌else◌}
+use Rattle.std.proofs.Common.{◌≡◌, ◌⊎◌, inl, inr, ℕ, ◌+◌, ◌<◌, Bool, true, false, List, [], ◌∷◌, ◌++◌, Option, Some, None, Result, Ok, Err, OnOk, refl, sym, ap, subst, ◌∙◌, arith, append_assoc, append-nil, if◌then◌else◌}
 use Rattle.std.specs.Option.{option_map}
 use Rattle.buffa_bytes.proofs.DelimitedLemmas.{delimited_complete, delimited_sound}
 use Rattle.buffa_bytes.proofs.FieldLemmas.{same_refl, same_true}
@@ -17,16 +17,16 @@ use Rattle.buffa_bytes.proofs.WireLemmas.{checked_same}
 use Rattle.buffa_wire.proofs.MessageLemmas.{NoLimit}
 use Rattle.buffa_wire.proofs.PassLemmas.{written_behind, written_none}
 use Rattle.buffa_wire.proofs.SequenceLemmas.{ok_same}
-use Rattle.buffa_wire.specs.BudgetLeft.{BudgetLeft, Lacks, nothing, plus, units}
+use Rattle.buffa_wire.specs.BudgetLeft.{BudgetLeft, Lacks, plus, units}
 use Rattle.buffa_wire.specs.Cache.{Cache, advanced}
 use Rattle.buffa_wire.specs.Encoding.{records_encoding}
-use Rattle.buffa_wire.specs.Message.{merged_in}
 use Rattle.buffa_wire.specs.Passes.{IsSmall, IsWritten}
 use Rattle.buffa_wire.specs.Records.{Datum}
 use Rattle.buffa_wire.specs.Takes.{IsTaken, Need, Taker, Untaken}
 use Rattle.buffa_wire.proofs.SpentLemmas.{PaysAtMost_nothing}
 use Rattle.buffa_wire.specs.Pinned.{done}
 use Rattle.buffa_fields.specs.PairFacts.{part_taken}
+use Rattle.buffa_fields.specs.Framing.{cost_as, each_cost_as}
 use Rattle.buffa_fields.specs.InsideFacts.{delimited_alone}
 use Rattle.buffa_fields.specs.Nested.{or_blank, taken_behind, taken_there}
 use Rattle.buffa_fields.specs.Refusals.{LeavesUnless, RefusesThere}
@@ -64,28 +64,20 @@ wire_taken {X} WIRE w x new is = at (same_wire WIRE w) refl is
     at true same h = (sym (same_true WIRE w same), h)
     at false same h = cc
 
--- has a level
-pub level_there : {X : Type 0} (merged : ℕ → X → List ℕ → Option X) (d : ℕ) (old new : X) (b : List ℕ) → merged_in merged d old b ≡ Some new → 0 < d
-level_there merged zero old new b is = cc
-level_there merged (suc d) old new b is = omega arith
-
--- what fields of one wire type cost
-abbrev of_wire : WireType → (ℕ → List ℕ → BudgetLeft) → Need
-of_wire WIRE cost d n w bs = if same_wire WIRE w then cost d bs else nothing
-
 -- An element of some units, taken as a field is that costs less by these: both are of one wire type, and what is in them costs the same.
 module _ {X : Type 0} (WIRE : WireType) (takes : Taker X) (each : ℕ) (cost : ℕ → List ℕ → BudgetLeft) (d n : ℕ) (w : WireType) (old new : X) (bs rest : List ℕ) (before after : BudgetLeft) (checked : check_wire n WIRE w ≡ Ok tt) (asked : ℕ) (is_each : asked ≡ each) where
   abbrev whole : Need
-  whole d n w bs = if same_wire WIRE w then plus (units each) (cost d bs) else nothing
+  whole = each_cost_as WIRE each cost
 
-  costs : plus (units each) (of_wire WIRE cost d n w bs) ≡ whole d n w bs
+  costs : plus (units each) (cost_as WIRE cost d n w bs) ≡ whole d n w bs
+  unfolding cost_as each_cost_as
   costs = rw (ap (same_wire WIRE) (checked_same n WIRE w checked) ∙ same_refl WIRE) refl
 
   abbrev TakenFor : BudgetLeft → Result (Unit {0}) DecodeError → Type 0
   TakenFor need r = IsTaken takes (λ d n w bs. need) d old n w bs before r new after rest
 
   pub charged : (mid : BudgetLeft) → (mid.memory + asked ≡ before.memory) × (mid.unknown ≡ before.unknown) → (r : Result (Unit {0}) DecodeError) →
-      IsTaken takes (of_wire WIRE cost) d old n w bs mid r new after rest → IsTaken takes whole d old n w bs before r new after rest
+      IsTaken takes (cost_as WIRE cost) d old n w bs mid r new after rest → IsTaken takes whole d old n w bs before r new after rest
   charged mid paid (Ok _) (p, payload, split, m, pays) =
       subst (λ z. TakenFor z (Ok tt)) costs (p, payload, split, m, (omega (arith, pays.0, paid.1), omega (arith, pays.1, paid.0, is_each)))
   charged mid paid (Err e) (pays, why, full) =

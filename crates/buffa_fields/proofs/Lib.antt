@@ -4,6 +4,7 @@ pub mod ValueLemmas
 pub mod KeptNumberLemmas
 pub mod KeptListLemmas
 pub mod InsideLemmas
+pub mod FramingLemmas
 pub mod NestedLemmas
 pub mod GroupLemmas
 pub mod ListLemmas

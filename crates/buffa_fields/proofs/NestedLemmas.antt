@@ -10,7 +10,7 @@ use Rattle.buffa_bytes.specs.declared.wire_type.WireType.{WireType}
 use Rattle.buffa_bytes.specs.declared.wire_type.WireType.TheVariants.{LengthDelimited}
 use Rattle.buffa_bytes.specs.Written.{WritesFront}
 use Rattle.buffa_wire.proofs.MessageLemmas.{NoLimit, length_no_limit}
-use Rattle.buffa_wire.proofs.SpentLemmas.{takes_bytes, is_there}
+use Rattle.buffa_wire.proofs.SpentLemmas.{takes_bytes}
 use Rattle.buffa_wire.specs.BudgetLeft.{BudgetLeft, Lacks, PaysAtMost}
 use Rattle.buffa_wire.specs.Cache.{Cache, advanced}
 use Rattle.buffa_bytes.specs.Gives.{FullOnlyIf}
@@ -24,11 +24,13 @@ use Rattle.buffa_fields.specs.Nested.{MessageTakesMemory, message_cost, message_
 use Rattle.buffa_wire.specs.Takes.{IsTaken, Need, Untaken}
 use Rattle.buffa_wire.specs.Pinned.{refusal}
 use Rattle.buffa_fields.specs.NestedFacts.{TellsLength, head, head_cut, record_after}
+use Rattle.buffa_fields.specs.FramingFacts.{delimited_holds}
+use Rattle.buffa_fields.specs.Framings.{delimited}
 use Rattle.buffa_fields.specs.InsideFacts.{delimited_alone}
-use Rattle.buffa_fields.proofs.ValueLemmas.{wire_refused}
-use Rattle.buffa_fields.proofs.InsideLemmas.{alone_is, behind_slot, delimited_front, level_there, no_payload, wire_taken}
+use Rattle.buffa_fields.proofs.FramingLemmas.{none_as, read_as}
+use Rattle.buffa_fields.proofs.InsideLemmas.{alone_is, behind_slot, delimited_front, no_payload}
 use Rattle.buffa_bytes.specs.Field.{Payload}
-use Rattle.buffa_bytes.proofs.WireLemmas.{same_false, checked_same}
+use Rattle.buffa_bytes.proofs.WireLemmas.{checked_same}
 use Rattle.buffa_fields.specs.RepeatedNested.{MessagesTakeMemory}
 
 -- ---- the message of a whole payload
@@ -61,7 +63,7 @@ module _ {X : Type 0} (merged : ℕ → X → List ℕ → Option X) (cost : ℕ
 pub message_wire_err : {X : Type 0} (merged : ℕ → X → List ℕ → Option X) (need : Need) (d n : ℕ) (w : WireType) (old : X) (bs : List ℕ) (before : BudgetLeft) (e : DecodeError) → check_wire n LengthDelimited w ≡ Err e →
     IsTaken (message_merged merged) need d old n w bs before (let r : Result (Unit {0}) DecodeError = Err e in r) old before bs
 unfolding message_merged
-message_wire_err merged need d n w old bs before e told = wire_refused (message_merged merged) need d n w old old bs bs before before e LengthDelimited told refl (λ other p. rw (same_false LengthDelimited w other) refl)
+message_wire_err merged need d n w old bs before e told = none_as LengthDelimited (λ d v p. inside merged d v (delimited_at p)) need d n w old bs before e told
 
 -- ---- where it takes memory
 pub inside_full : (d n : ℕ) (w : WireType) (bs : List ℕ) → check_wire n LengthDelimited w ≡ Ok tt → (r : Result (Unit {0}) DecodeError) → FullOnlyIf r ((0 < d) × IsOk (delimited_at bs)) →
@@ -90,7 +92,4 @@ module _ (n inner : ℕ) (encoding : List ℕ) (is : inner ≡ cap (length encod
 -- a message that was read had a level, and a length and so many bytes
 pub message_there : {X : Type 0} (merged : ℕ → X → List ℕ → Option X) (d : ℕ) (old new : X) (n : ℕ) (w : WireType) (bs p rest : List ℕ) → Payload d n w p → bs ≡ p ++ rest → message_merged merged d old n w p ≡ Some new → MessagesTakeMemory d n w bs
 unfolding message_merged
-message_there merged d old new n w bs p rest h split is =
-    let t = wire_taken LengthDelimited w (inside merged d old (delimited_at p)) new is in
-    let u = delimited_alone d n w p rest bs t.0 h split in
-    (t.0, level_there merged d old new u.0 (ap (inside merged d old) (sym u.2) ∙ t.1), is_there (delimited_at bs) (u.0, rest) u.1)
+message_there merged d old new n w bs p rest h split is = read_as delimited delimited_holds merged d old new n w bs p rest h split is

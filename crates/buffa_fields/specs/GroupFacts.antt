@@ -1,5 +1,5 @@
 -- What is proved of messages as groups.
-use Rattle.std.proofs.Common.{◌≡◌, ℕ, zero, suc, ◌-◌, ◌==◌, ◌≤◌, List, [], ◌++◌, length, take, Option, Some, None, Result, Ok, Err, refl, sym, ap, subst, ◌∙◌, arith, append_assoc, append-nil, length-append}
+use Rattle.std.proofs.Common.{◌≡◌, ℕ, zero, suc, ◌-◌, ◌≤◌, List, [], ◌++◌, length, take, Option, Some, Result, Ok, Err, refl, sym, ap, subst, ◌∙◌, arith, append_assoc, append-nil, length-append}
 use Rattle.std.proofs.Math.Seq.{take-append_seam}
 use Rattle.buffa_bytes.proofs.FieldLemmas.{not_end, payload_complete, skip_falls, tag_complete, tag_falls}
 use Rattle.buffa_bytes.proofs.ScanLemmas.{Shortens, if_short, scan_step}
@@ -18,13 +18,9 @@ use Rattle.buffa_wire.specs.Encoding.{records_encoding}
 use Rattle.buffa_wire.specs.Parse.{Fits}
 use Rattle.buffa_wire.specs.Records.{Datum, records_of}
 use Rattle.buffa_bytes.proofs.FieldLemmas.{is_tag}
-use Rattle.buffa_fields.specs.Groups.{body_behind, body_step, group_body, group_cost, group_datum, group_merged, group_records, group_taken}
-use Rattle.buffa_fields.specs.Nested.{message_levels}
-use Rattle.buffa_wire.specs.Takes.{ReadsBack, Stays, front_of}
-use Rattle.buffa_fields.specs.Values.{IfThere}
-use Rattle.buffa_fields.specs.InsideFacts.{inside_back, wire_stays}
+use Rattle.buffa_fields.specs.Groups.{body_behind, body_step, group_body, group_merged}
+use Rattle.buffa_wire.specs.Takes.{front_of}
 use Rattle.buffa_wire.specs.Message.{cost_in}
-use Rattle.buffa_fields.specs.BackFacts.{no_pieces}
 
 -- ---- the body of a group
 module _ (d : ℕ) where
@@ -84,10 +80,6 @@ pub inside_stays : (cost : ℕ → List ℕ → BudgetLeft) (d n : ℕ) (p x : L
 inside_stays cost zero n p x h = refl
 inside_stays cost (suc d) n p x h = let e : suc d - 1 ≡ d = omega arith in rw e (ap (cost d) (body_stays d n p x h))
 
-pub group_stays : (cost : ℕ → List ℕ → BudgetLeft) → Stays (group_cost cost)
-unfolding group_cost
-group_stays cost = wire_stays StartGroup (λ d bs. cost_in cost d (group_body (d - 1) bs)) (inside_stays cost)
-
 -- ---- it reads back
 module _ {X : Type 0} (merged : ℕ → X → List ℕ → Option X) (blank : X) (encoding : X → List ℕ) (records : X → List (ℕ × Datum)) (level : X → ℕ) (Normal : X → Type 0)
     (as_records : (v : X) → encoding v ≡ records_encoding (records v)) (whole : (d : ℕ) (v u : X) (b : List ℕ) → merged d v b ≡ Some u → Join (SomeField d) b)
@@ -104,10 +96,3 @@ module _ {X : Type 0} (merged : ℕ → X → List ℕ → Option X) (blank : X)
         (records_encoding (records v), tag_encoding n EndGroup, j, end, refl),
         rw e (ap (merged d blank) (body_is d (records_encoding (records v)) (tag_encoding n EndGroup) n j end) ∙ is),
       )
-
-  pub group_member_back : (d : ℕ) (v : Option X) → Fits (records_of (group_records records n v)) → IfThere Normal v → message_levels level v ≤ d →
-      ReadsBack (group_taken blank merged) (λ m. m == n) d None (records_encoding (group_records records n v)) v
-  unfolding group_records
-  group_member_back d None fits normal low = no_pieces (group_taken blank merged) (λ m. m == n) d None
-  group_member_back d (Some v) fits normal low =
-      inside_back (group_merged merged) blank (group_datum records) level Normal n number StartGroup (λ v. records_encoding (records v) ++ tag_encoding n EndGroup) (λ v. refl) group_again d v fits.1 normal low

@@ -1,17 +1,16 @@
 -- Messages as groups. Source: the protobuf encoding guide, "Groups".
-use Rattle.std.specs.Prelude.{◌≡◌, ◌<◌, ℕ, ◌-◌, List, [], ◌∷◌, ◌++◌, Option, Some, None, Result, Ok, Err, if◌then◌else◌}
+use Rattle.std.specs.Prelude.{◌≡◌, ◌<◌, ℕ, ◌-◌, List, [], ◌++◌, Option, Result, Ok, Err, if◌then◌else◌}
 use Rattle.buffa_bytes.specs.declared.error.DecodeError.{DecodeError}
 use Rattle.buffa_bytes.specs.declared.wire_type.WireType.{WireType}
 use Rattle.buffa_bytes.specs.declared.wire_type.WireType.TheVariants.{StartGroup}
 use Rattle.buffa_bytes.specs.Front.{is_end, skip_at, tag_at}
 use Rattle.buffa_bytes.specs.Scan.{Scanned, scan}
 use Rattle.buffa_bytes.specs.Scan.Scanned.{ends, goes}
-use Rattle.buffa_bytes.specs.WireType.{same_wire}
-use Rattle.buffa_wire.specs.BudgetLeft.{BudgetLeft, nothing}
+use Rattle.buffa_wire.specs.BudgetLeft.{BudgetLeft}
 use Rattle.buffa_wire.specs.Message.{BeginsField, cost_in, merged_in}
 use Rattle.buffa_wire.specs.Records.{Datum, group, records_of}
-use Rattle.buffa_wire.specs.Encoding.{records_encoding}
-use Rattle.buffa_fields.specs.Nested.{taken_there}
+use Rattle.buffa_fields.specs.Framing.{cost_as, taken_as}
+use Rattle.buffa_fields.specs.MemberRecords.{optional_records}
 use Rattle.buffa_wire.specs.Takes.{Asks, Need, Taker, front_of}
 
 -- the field up to what follows it, and then the fields in that
@@ -30,28 +29,23 @@ group_body d bs = scan (λ _ rest. body_step d rest (tag_at rest)) [] tt bs
 
 -- what the body of a group makes of the message that stands, one level down
 unfoldable pub group_merged : {X : Type 0} → (ℕ → X → List ℕ → Option X) → Taker X
-group_merged merged d v n w p = if same_wire StartGroup w then merged_in merged d v (group_body (d - 1) p) else None
+unfolding taken_as
+group_merged merged = taken_as StartGroup (λ d v p. merged_in merged d v (group_body (d - 1) p))
 
 -- at a depth, what it costs
 unfoldable pub group_cost : (ℕ → List ℕ → BudgetLeft) → Need
-group_cost cost d n w bs = if same_wire StartGroup w then cost_in cost d (group_body (d - 1) bs) else nothing
+unfolding cost_as
+group_cost cost = cost_as StartGroup (λ d bs. cost_in cost d (group_body (d - 1) bs))
 
 -- it takes memory where a level is left, and a field begins the group
 abbrev pub GroupTakesMemory : Asks
 GroupTakesMemory d n w bs = (w ≡ StartGroup) × (0 < d) × BeginsField bs
-
--- each group is merged into the message that stands
-abbrev pub group_taken : {X : Type 0} → X → (ℕ → X → List ℕ → Option X) → Taker (Option X)
-group_taken blank merged = taken_there blank (group_merged merged)
 
 module _ {X : Type 0} (records : X → List (ℕ × Datum)) where
   -- the group of a message
   abbrev pub group_datum : X → Datum
   group_datum v = group (records_of (records v))
 
-  abbrev pub group_encoding : ℕ → X → List ℕ
-  group_encoding n v = records_encoding ((n, group_datum v) ∷ [])
-
-  unfoldable pub group_records : ℕ → Option X → List (ℕ × Datum)
-  group_records n None = []
-  group_records n (Some v) = (n, group_datum v) ∷ []
+  -- its record, where it is there
+  abbrev pub group_records : ℕ → Option X → List (ℕ × Datum)
+  group_records = optional_records group_datum

@@ -1,5 +1,5 @@
 -- What is proved of fields of one wire type, and of messages that are read back from inside another.
-use Rattle.std.proofs.Common.{◌≡◌, ℕ, suc, ◌==◌, ◌≤◌, Bool, true, false, List, [], ◌∷◌, ◌++◌, Some, None, Result, Ok, refl, sym, ap, subst, ◌∙◌, arith, append_assoc, append-nil, if◌then◌else◌}
+use Rattle.std.proofs.Common.{◌≡◌, ℕ, zero, suc, ◌<◌, ◌==◌, ◌≤◌, Bool, true, false, List, [], ◌∷◌, ◌++◌, Option, Some, None, Result, Ok, refl, sym, ap, subst, ◌∙◌, arith, append_assoc, append-nil, if◌then◌else◌}
 use Rattle.std.specs.List.{AllByRecursion}
 use Rattle.std.specs.Option.{option_map}
 use Rattle.buffa_bytes.proofs.DelimitedLemmas.{delimited_complete}
@@ -14,6 +14,7 @@ use Rattle.buffa_bytes.specs.declared.wire_type.WireType.{WireType}
 use Rattle.buffa_bytes.specs.declared.wire_type.WireType.TheVariants.{LengthDelimited}
 use Rattle.buffa_wire.specs.BudgetLeft.{BudgetLeft, nothing}
 use Rattle.buffa_wire.specs.Encoding.{records_encoding, tagged_encoding}
+use Rattle.buffa_wire.specs.Message.{cost_of_payload, merged_in}
 use Rattle.buffa_wire.specs.Parse.{Fits, FitsDatum}
 use Rattle.buffa_wire.specs.Records.{Datum, records_of}
 use Rattle.buffa_wire.specs.Takes.{ReadsBack, Stays, Taker}
@@ -31,6 +32,11 @@ delimited_alone d n w p more bs wire h split =
     let alone : delimited_at p ≡ Ok (u.1, []) = ap delimited_at (u.3 ∙ ap (λ (z : List ℕ). u.0 ++ z) (sym (append-nil u.1))) ∙ delimited_complete u.0 u.1 [] u.2 in
     (u.1, whole, alone)
 
+-- what is merged one level down has a level
+pub level_there : {X : Type 0} (merged : ℕ → X → List ℕ → Option X) (d : ℕ) (old new : X) (b : List ℕ) → merged_in merged d old b ≡ Some new → 0 < d
+level_there merged zero old new b is = cc
+level_there merged (suc d) old new b is = omega arith
+
 -- ---- costs
 -- where fields of one wire type cost something, and no others, that is known by the payload
 pub wire_stays : (WIRE : WireType) (cost : ℕ → List ℕ → BudgetLeft) → ((d n : ℕ) (p x : List ℕ) → Payload d n WIRE p → cost d (p ++ x) ≡ cost d p) → Stays (λ d n w bs. if same_wire WIRE w then cost d bs else nothing)
@@ -46,6 +52,12 @@ pub delimited_stays : (cost : ℕ → Result (List ℕ × List ℕ) DecodeError 
 delimited_stays cost stays = wire_stays LengthDelimited (λ d bs. cost d (delimited_at bs)) (λ d n p x h.
     let u = delimited_alone d n LengthDelimited p x (p ++ x) refl h refl in
     ap (cost d) u.1 ∙ stays d u.0 x [] ∙ ap (cost d) (sym u.2))
+
+-- a message behind a length
+pub payload_stays : (cost : ℕ → List ℕ → BudgetLeft) (d n : ℕ) (p x : List ℕ) → Payload d n LengthDelimited p → cost_of_payload cost d (delimited_at (p ++ x)) ≡ cost_of_payload cost d (delimited_at p)
+payload_stays cost d n p x h =
+    let u = delimited_alone d n LengthDelimited p x (p ++ x) refl h refl in
+    ap (cost_of_payload cost d) u.1 ∙ ap (cost_of_payload cost d) (sym u.2)
 
 -- ---- messages that read back, whatever their records are
 module _ {X : Type 0} (takes : Taker X) (blank : X) (datum : X → Datum) (level : X → ℕ) (Normal : X → Type 0) (n : ℕ) (number : IsNumber n) (wire : WireType) (payload : X → List ℕ)

@@ -34,7 +34,7 @@ use Rattle.buffa_map.specs.declared.map_entry.MapEntry.{MapEntry}
 use Rattle.buffa_fields.specs.Aside.{Aside, IsExactKeeping}
 use Rattle.buffa_fields.specs.Entries.{entry_taken}
 use Rattle.buffa_fields.specs.GroupFacts.{body_is}
-use Rattle.buffa_fields.specs.Groups.{group_datum, group_merged, group_records, group_taken}
+use Rattle.buffa_fields.specs.Groups.{group_datum, group_merged}
 use Rattle.buffa_fields.specs.Keep.{AllNumbers}
 use Rattle.buffa_fields.specs.KeptMaps.{aside_entry_levels, first_entry_depth, kept_pair_taken, put_or_keep}
 use Rattle.buffa_fields.specs.Layout.{IsExactMember, Shape}
@@ -43,12 +43,11 @@ use Rattle.buffa_fields.specs.Levels.{AreExactLevels, IsTakenWritten}
 use Rattle.buffa_fields.specs.Lists.{element_records, packed_records}
 use Rattle.buffa_fields.specs.MapFields.{entry_records, map_records, pair_taken, stepped}
 use Rattle.buffa_fields.specs.MemberRecords.{optional_records, plain_records}
-use Rattle.buffa_fields.specs.Nested.{FitsInside, message_levels, message_merged, message_records, message_taken, or_blank, taken_behind, taken_there}
+use Rattle.buffa_fields.specs.Nested.{FitsInside, message_merged, or_blank, taken_behind, taken_there}
 use Rattle.buffa_fields.specs.NestedMaps.{pair_levels, pair_records}
-use Rattle.buffa_fields.specs.RepeatedGroups.{groups_taken}
 use Rattle.buffa_fields.specs.RepeatedNested.{messages_levels, messages_records, messages_taken}
 use Rattle.buffa_fields.specs.ValueFacts.{delimited_whole}
-use Rattle.buffa_fields.specs.Values.{IfThere, records_unless}
+use Rattle.buffa_fields.specs.Values.{records_unless}
 
 -- ---- records of one number
 abbrev pub AllOf : ℕ → List (ℕ × Datum) → Type 0
@@ -78,9 +77,6 @@ element_numbers datum k (v ∷ vs) = (eq-eqb k k refl, element_numbers datum k v
 pub messages_numbers : {X : Type 0} (encoding : X → List ℕ) (k : ℕ) (vs : List X) → AllOf k (messages_records encoding k vs)
 messages_numbers encoding k vs = element_numbers (λ v. bytes (encoding v)) k vs
 
-pub groups_numbers : {X : Type 0} (records : X → List (ℕ × Datum)) (k : ℕ) (vs : List X) → AllOf k (element_records (group_datum records) k vs)
-groups_numbers records k vs = element_numbers (group_datum records) k vs
-
 pub packed_numbers : {V : Type 0} (encoding : V → List ℕ) (k : ℕ) (vs : List V) → AllOf k (packed_records encoding k vs)
 unfolding packed_records
 packed_numbers encoding k [] = tt
@@ -98,16 +94,6 @@ pub pair_numbers : {K X : Type 0} (kw : Writing K) (encoding : X → List ℕ) (
 unfolding pair_records
 pair_numbers kw encoding k l = map_numbers kw (delimited_writing encoding) k l
 
-pub message_numbers : {X : Type 0} (encoding : X → List ℕ) (k : ℕ) (v : Option X) → AllOf k (message_records encoding k v)
-unfolding message_records
-message_numbers encoding k None = tt
-message_numbers encoding k (Some v) = one_number_alone k (bytes (encoding v))
-
-pub group_numbers : {X : Type 0} (records : X → List (ℕ × Datum)) (k : ℕ) (v : Option X) → AllOf k (group_records records k v)
-unfolding group_records
-group_numbers records k None = tt
-group_numbers records k (Some v) = one_number_alone k (group_datum records v)
-
 -- ---- members that don't nest
 pub exact_flat : {P X : Type 0} (s : Shape P X) → ((k : ℕ) (v : X) → AllOf k (s.records k v)) → ((v : X) → s.levels v ≡ 0) → IsExactMember s
 exact_flat s all flat = record { numbers = all; least = λ k d v normal taken. omega (arith, flat v) }
@@ -123,12 +109,12 @@ exact_numbers s a all flat even = exact_flat_keeping s a all flat (λ k d x take
 -- members whose records are messages, each of which is taken only at a depth of one more than its levels
 module _ {X : Type 0} (takes : Taker X) (blank : X) (datum : X → Datum) (level : X → ℕ) (Normal : X → Type 0)
     (one : (d n : ℕ) (old v u : X) → IsNumber n → FitsDatum (datum v) → datum_height (datum v) ≤ d → Normal v → takes d old n (wire_of (datum v)) (payload_encoding n (datum v)) ≡ Some u → suc (level v) ≤ d) (d n : ℕ) where
-  there_low : (v : X) → Normal v → IsTakenWritten (taken_there blank takes) d (n, datum v) → suc (level v) ≤ d
+  pub there_low : (v : X) → Normal v → IsTakenWritten (taken_there blank takes) d (n, datum v) → suc (level v) ≤ d
   there_low v normal (number, fits, low, old, u, h) =
       let t = some_mapped (λ (x : X). Some x) (takes d (or_blank blank old) n (wire_of (datum v)) (payload_encoding n (datum v))) u h in
       one d n (or_blank blank old) v t.0 number fits low normal t.1
 
-  behind_low : (vs : List X) → AllByRecursion Normal vs → AllByRecursion (IsTakenWritten (taken_behind blank takes) d) (element_records datum n vs) → messages_levels level vs ≤ d
+  pub behind_low : (vs : List X) → AllByRecursion Normal vs → AllByRecursion (IsTakenWritten (taken_behind blank takes) d) (element_records datum n vs) → messages_levels level vs ≤ d
   unfolding element_records
   behind_low [] normal h = omega arith
   behind_low (v ∷ vs) normal h =
@@ -147,24 +133,19 @@ module _ {X : Type 0} (merged : ℕ → X → List ℕ → Option X) (blank : X)
   ]
 
   -- ---- as a length and so many bytes
-  message_low : (d n : ℕ) (old v u : X) → IsNumber n → FitsDatum (bytes (encoding v)) → datum_height (bytes (encoding v)) ≤ d → FitsInside Normal records v →
+  pub message_low : (d n : ℕ) (old v u : X) → IsNumber n → FitsDatum (bytes (encoding v)) → datum_height (bytes (encoding v)) ≤ d → FitsInside Normal records v →
       message_merged merged d old n LengthDelimited (delimited_encoding (encoding v)) ≡ Some u → suc (level v) ≤ d
   unfolding message_merged
   message_low d n old v u number fits low normal h =
       let is : message_merged merged d old n LengthDelimited (delimited_encoding (encoding v)) ≡ merged_in merged d old (encoding v) = rw (delimited_whole (encoding v) fits) refl in
       inside_low d old v u normal (sym is ∙ h)
 
-  pub nested_low : (k d : ℕ) (v : Option X) → IfThere (FitsInside Normal records) v → AllByRecursion (IsTakenWritten (message_taken blank merged) d) (message_records encoding k v) → message_levels level v ≤ d
-  unfolding message_records
-  nested_low k d None normal h = omega arith
-  nested_low k d (Some v) normal h = there_low (message_merged merged) blank (λ v. bytes (encoding v)) level (FitsInside Normal records) message_low d k v normal h.0
-
   pub messages_low : (k d : ℕ) (vs : List X) → AllByRecursion (FitsInside Normal records) vs → AllByRecursion (IsTakenWritten (messages_taken blank merged) d) (messages_records encoding k vs) → messages_levels level vs ≤ d
   messages_low k d vs normal h = behind_low (message_merged merged) blank (λ v. bytes (encoding v)) level (FitsInside Normal records) message_low d k vs normal h
 
   -- ---- as a group
   module _ (as_records : (v : X) → encoding v ≡ records_encoding (records v)) where
-    group_low : (d n : ℕ) (old v u : X) → IsNumber n → Fits (records_of (records v)) → datum_height (group_datum records v) ≤ d → Normal v →
+    pub group_low : (d n : ℕ) (old v u : X) → IsNumber n → Fits (records_of (records v)) → datum_height (group_datum records v) ≤ d → Normal v →
         group_merged merged d old n StartGroup (records_encoding (records v) ++ tag_encoding n EndGroup) ≡ Some u → suc (level v) ≤ d
     unfolding group_merged
     group_low zero n old v u number fits low normal h = absurd (omega (arith, low))
@@ -174,14 +155,6 @@ module _ {X : Type 0} (merged : ℕ → X → List ℕ → Option X) (blank : X)
         let e : suc d - 1 ≡ d = omega arith in
         let is : group_merged merged (suc d) old n StartGroup (records_encoding (records v) ++ tag_encoding n EndGroup) ≡ merged d old (encoding v) = rw e (ap (merged d old) (body ∙ sym (as_records v))) in
         inside_low (suc d) old v u (normal, fits) (sym is ∙ h)
-
-    pub group_member_low : (k d : ℕ) (v : Option X) → IfThere Normal v → AllByRecursion (IsTakenWritten (group_taken blank merged) d) (group_records records k v) → message_levels level v ≤ d
-    unfolding group_records
-    group_member_low k d None normal h = omega arith
-    group_member_low k d (Some v) normal h = there_low (group_merged merged) blank (group_datum records) level Normal group_low d k v normal h.0
-
-    pub groups_low : (k d : ℕ) (vs : List X) → AllByRecursion Normal vs → AllByRecursion (IsTakenWritten (groups_taken blank merged) d) (element_records (group_datum records) k vs) → messages_levels level vs ≤ d
-    groups_low k d vs normal h = behind_low (group_merged merged) blank (group_datum records) level Normal group_low d k vs normal h
 
 -- ---- entries of maps
 module _ {K V : Type 0} (key : Reading K) (val : Reading V) where

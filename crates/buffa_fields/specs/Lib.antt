@@ -27,6 +27,7 @@ pub mod MapFields
 pub mod MapFacts
 pub mod OrderedMaps
 pub mod OrderedFacts
+pub mod Framing
 pub mod Nested
 pub mod NestedFacts
 pub mod Lists
@@ -39,8 +40,8 @@ pub mod NestedMapFacts
 pub mod Groups
 pub mod GroupFacts
 pub mod RepeatedGroups
-pub mod RepeatedGroupFacts
-pub mod GroupCalls
+pub mod Framings
+pub mod FramingCalls
 pub mod MemberCalls
 pub mod KeptMaps
 pub mod KeptMapFacts
@@ -50,6 +51,7 @@ pub mod Levels
 pub mod LevelFacts
 pub mod WrittenFacts
 pub mod LevelKindFacts
+pub mod FramingFacts
 pub mod Nests
 pub mod AmongFacts
 pub mod Held

@@ -1,5 +1,5 @@
 -- What a call that takes a list or a map, or writes messages, did: from what it was passed to what it left.
-use Rattle.std.specs.Prelude.{◌≡◌, ℕ, List, [], ◌∷◌, length, Result, Err}
+use Rattle.std.specs.Prelude.{◌≡◌, ℕ, List, Result, Err}
 use Rattle.std.specs.BTreeMap.{BTreeMap, insert_entry}
 use Rattle.std.specs.HashMap.{HashMap}
 use Rattle.std.specs.declared.cmp.Ordering.{Ordering}
@@ -9,17 +9,17 @@ use Rattle.buffa_bytes.specs.declared.tag.Tag.{Tag}
 use Rattle.buffa_bytes.specs.declared.wire_type.WireType.{WireType}
 use Rattle.buffa_wire.specs.BudgetLeft.{BudgetLeft}
 use Rattle.buffa_wire.specs.Cache.{Cache}
-use Rattle.buffa_wire.specs.Passes.{IsSized, IsWritten, cap}
+use Rattle.buffa_wire.specs.Passes.{IsSized, IsWritten}
 use Rattle.buffa_wire.specs.Records.{bytes}
 use Rattle.buffa_wire.specs.Encoding.{records_encoding}
 use Rattle.buffa_wire.specs.declared.context.DecodeContext.{DecodeContext}
 use Rattle.buffa_fields.specs.Exit.{Exit}
+use Rattle.buffa_fields.specs.FramingCalls.{WritesAllFramed, WritesFramed}
 use Rattle.buffa_map.specs.Codec.{Reading, Writing}
 use Rattle.buffa_map.specs.Pairs.{means}
 use Rattle.buffa_fields.specs.Lists.{check_list_wire, elements_taken}
 use Rattle.buffa_fields.specs.MapFields.{pair_cost, pair_taken}
 use Rattle.buffa_fields.specs.NestedMaps.{pair_records, pair_slots}
-use Rattle.buffa_fields.specs.RepeatedNested.{messages_records, messages_slots}
 use Rattle.buffa_wire.specs.Takes.{IsTaken}
 use Rattle.buffa_fields.specs.Values.{free}
 use Rattle.buffa_fields.specs.Calls.{TakesIn}
@@ -56,11 +56,11 @@ module _ {T : Type 0} (before : Cache) (put : List ℕ) (r : Result T EncodeErro
   module _ {X : Type 0} (encoding slots : X → List ℕ) (n : ℕ) where
     -- one message
     abbrev pub WritesMessage : X → Type 0
-    WritesMessage v = IsWritten (records_encoding ((n, bytes (encoding v)) ∷ [])) (cap (length (encoding v)) ∷ slots v) before put r after puts
+    WritesMessage = WritesFramed before put r after puts (λ v. bytes (encoding v)) encoding slots n
 
     -- a list of them
     abbrev pub WritesMessageList : List X → Type 0
-    WritesMessageList vs = IsWritten (records_encoding (messages_records encoding n vs)) (messages_slots encoding slots vs) before put r after puts
+    WritesMessageList = WritesAllFramed before put r after puts (λ v. bytes (encoding v)) encoding slots n
 
     -- a map of them
     abbrev pub WritesPairs : {K : Type 0} → Writing K → List (K × X) → Type 0

@@ -1,15 +1,16 @@
 -- Messages as members. Source: the protobuf encoding guide, "Submessages".
-use Rattle.std.specs.Prelude.{◌≡◌, ◌≢◌, ◌<◌, ℕ, suc, List, [], ◌∷◌, ◌++◌, length, Option, Some, None, Result, Ok, Err, if◌then◌else◌}
+use Rattle.std.specs.Prelude.{◌≡◌, ◌≢◌, ◌<◌, ℕ, suc, List, [], ◌∷◌, ◌++◌, length, Option, Some, None, Result, Ok, Err}
 use Rattle.std.specs.Option.{option_map}
 use Rattle.buffa_bytes.specs.declared.error.DecodeError.{DecodeError}
 use Rattle.buffa_bytes.specs.declared.wire_type.WireType.TheVariants.{LengthDelimited}
-use Rattle.buffa_wire.specs.BudgetLeft.{BudgetLeft, nothing}
+use Rattle.buffa_wire.specs.BudgetLeft.{BudgetLeft}
 use Rattle.buffa_wire.specs.Message.{cost_of_payload, merged_in}
 use Rattle.buffa_wire.specs.Parse.{Fits}
 use Rattle.buffa_wire.specs.Passes.{cap}
 use Rattle.buffa_bytes.specs.Front.{delimited_at}
 use Rattle.buffa_wire.specs.Records.{Datum, bytes, records_of}
-use Rattle.buffa_bytes.specs.WireType.{same_wire}
+use Rattle.buffa_fields.specs.Framing.{cost_as, taken_as}
+use Rattle.buffa_fields.specs.MemberRecords.{optional_records}
 use Rattle.buffa_wire.specs.Takes.{Asks, Need, Taker}
 
 module _ {X : Type 0} (merged : ℕ → X → List ℕ → Option X) where
@@ -20,11 +21,13 @@ module _ {X : Type 0} (merged : ℕ → X → List ℕ → Option X) where
   inside d v (Err e) = None
 
   unfoldable pub message_merged : Taker X
-  message_merged d v n w p = if same_wire LengthDelimited w then inside d v (delimited_at p) else None
+  unfolding taken_as
+  message_merged = taken_as LengthDelimited (λ d v p. inside d v (delimited_at p))
 
 -- at a depth, what it costs
 unfoldable pub message_cost : (ℕ → List ℕ → BudgetLeft) → Need
-message_cost cost d n w bs = if same_wire LengthDelimited w then cost_of_payload cost d (delimited_at bs) else nothing
+unfolding cost_as
+message_cost cost = cost_as LengthDelimited (λ d bs. cost_of_payload cost d (delimited_at bs))
 
 -- it takes memory where a level is left, and a length and so many bytes are there, one at least
 abbrev pub MessageTakesMemory : Asks
@@ -45,14 +48,10 @@ module _ {X : Type 0} (blank : X) where
   abbrev pub taken_behind : Taker X → Taker (List X)
   taken_behind takes d vs n w p = option_map (λ x. vs ++ x ∷ []) (takes d blank n w p)
 
-  -- each payload is merged into it
-  abbrev pub message_taken : (ℕ → X → List ℕ → Option X) → Taker (Option X)
-  message_taken merged = taken_there (message_merged merged)
-
 module _ {X : Type 0} (encoding : X → List ℕ) where
-  unfoldable pub message_records : ℕ → Option X → List (ℕ × Datum)
-  message_records n None = []
-  message_records n (Some v) = (n, bytes (encoding v)) ∷ []
+  -- its record, where it is there
+  abbrev pub message_records : ℕ → Option X → List (ℕ × Datum)
+  message_records = optional_records (λ v. bytes (encoding v))
 
   -- its length, and then the sizes of those in it
   unfoldable pub message_slots : (X → List ℕ) → Option X → List ℕ

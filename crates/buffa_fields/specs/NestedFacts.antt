@@ -1,34 +1,22 @@
 -- What is proved of messages as members.
-use Rattle.std.proofs.Common.{◌≡◌, inl, inr, ℕ, zero, suc, ◌+◌, ◌^◌, ◌==◌, ◌<◌, ◌≤◌, List, [], ◌∷◌, ◌++◌, length, Option, Some, None, Result, refl, sym, ap, ◌∙◌, arith, append_assoc, append-nil, length-append}
+use Rattle.std.proofs.Common.{◌≡◌, inl, inr, ℕ, zero, suc, ◌+◌, ◌^◌, ◌<◌, ◌≤◌, List, [], ◌∷◌, ◌++◌, length, Option, Some, Result, sym, ap, ◌∙◌, arith, append_assoc, append-nil, length-append}
 use Rattle.std.proofs.lemmas.Bool.{cases_lt}
 use Rattle.buffa_bytes.specs.declared.error.EncodeError.{EncodeError}
 use Rattle.buffa_bytes.specs.declared.error.EncodeError.TheVariants as encode
 use Rattle.buffa_bytes.specs.declared.wire_type.WireType.TheVariants.{LengthDelimited}
 use Rattle.buffa_bytes.specs.Written.{WritesFront}
 use Rattle.buffa_wire.proofs.PassLemmas.{consumes_none, written_put, written_same, written_then}
-use Rattle.buffa_wire.specs.BudgetLeft.{BudgetLeft}
 use Rattle.buffa_wire.specs.Cache.{Cache}
 use Rattle.buffa_bytes.specs.Field.{Payload}
-use Rattle.buffa_wire.specs.Message.{cost_of_payload}
 use Rattle.buffa_bytes.specs.Number.{IsNumber}
-use Rattle.buffa_wire.specs.Parse.{Fits}
 use Rattle.buffa_wire.specs.Passes.{IsSmall, IsWritten, cap}
-use Rattle.buffa_wire.specs.Records.{bytes, records_of}
+use Rattle.buffa_wire.specs.Records.{bytes}
 use Rattle.buffa_wire.specs.Encoding.{records_encoding}
 use Rattle.buffa_bytes.specs.Values.{delimited_encoding, tag_encoding}
 use Rattle.buffa_bytes.specs.Varint.{varint_encoding}
-use Rattle.buffa_fields.specs.Nested.{message_cost, message_merged, message_levels, message_records, message_taken}
-use Rattle.buffa_wire.specs.Takes.{ReadsBack, Stays}
+use Rattle.buffa_fields.specs.Nested.{message_merged}
 use Rattle.buffa_wire.specs.Pinned.{done, refusal}
-use Rattle.buffa_fields.specs.Values.{IfThere}
-use Rattle.buffa_fields.specs.InsideFacts.{delimited_stays, inside_back}
-use Rattle.buffa_fields.specs.BackFacts.{no_pieces}
 use Rattle.buffa_fields.specs.ValueFacts.{delimited_payload, delimited_whole}
-
--- ---- costs
-pub message_stays : (cost : ℕ → List ℕ → BudgetLeft) → Stays (message_cost cost)
-unfolding message_cost
-message_stays cost = delimited_stays (cost_of_payload cost) (λ d b x y. refl)
 
 -- ---- the encoding
 -- what stands before a message's encoding
@@ -96,10 +84,3 @@ module _ {X : Type 0} (merged : ℕ → X → List ℕ → Option X) (blank : X)
   unfolding message_merged
   message_again zero v fits normal low = absurd (omega arith)
   message_again (suc d) v fits normal low = (delimited_payload (suc d) n (encoding v) fits, rw (delimited_whole (encoding v) fits) (back d v normal (omega (arith, low))))
-
-  pub nested_back : (d : ℕ) (v : Option X) → Fits (records_of (message_records encoding n v)) → IfThere Normal v → message_levels level v ≤ d →
-      ReadsBack (message_taken blank merged) (λ m. m == n) d None (records_encoding (message_records encoding n v)) v
-  unfolding message_records
-  nested_back d None fits normal low = no_pieces (message_taken blank merged) (λ m. m == n) d None
-  nested_back d (Some v) fits normal low =
-      inside_back (message_merged merged) blank (λ v. bytes (encoding v)) level Normal n number LengthDelimited (λ v. delimited_encoding (encoding v)) (λ v. refl) message_again d v fits.1 normal low

@@ -85,24 +85,18 @@ RefusesNew d old n w bs e new = old ≡ new
 abbrev pub LeavesUnless : {X : Type 0} → WireType → (List ℕ → Type 0) → Refusal X
 LeavesUnless wire There d old n w bs e new = (w ≢ wire → old ≡ new) × (d ≡ 0 → old ≡ new) × ((There bs → ⊥) → old ≡ new)
 
--- a message: where no length and so many bytes are there
-abbrev pub IsDelimited : List ℕ → Type 0
-IsDelimited bs = IsOk (delimited_at bs)
-
-abbrev pub RefusesInside : {X : Type 0} → Refusal X
-RefusesInside = LeavesUnless LengthDelimited IsDelimited
-
--- the same in a group: where no field begins it
-abbrev pub RefusesInGroup : {X : Type 0} → Refusal X
-RefusesInGroup = LeavesUnless StartGroup BeginsField
-
 -- A refused message that wasn't there isn't there afterwards. One that was is as it was in these cases; in all others what stands in
 -- it is its own affair.
 abbrev pub RefusesThere : {X : Type 0} → WireType → (List ℕ → Type 0) → Refusal (Option X)
 RefusesThere wire There d old n w bs e new = (old ≡ None → new ≡ None) × LeavesUnless wire There d old n w bs e new
 
+-- a message: where no length and so many bytes are there
+abbrev pub IsDelimited : List ℕ → Type 0
+IsDelimited bs = IsOk (delimited_at bs)
+
 abbrev pub RefusesMessage : {X : Type 0} → Refusal (Option X)
 RefusesMessage = RefusesThere LengthDelimited IsDelimited
 
+-- a group: where no field begins it
 abbrev pub RefusesGroup : {X : Type 0} → Refusal (Option X)
 RefusesGroup = RefusesThere StartGroup BeginsField

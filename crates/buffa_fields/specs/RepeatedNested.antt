@@ -1,12 +1,12 @@
 -- Lists of messages. Source: the protobuf encoding guide, "Repeated Elements" and "Submessages".
-use Rattle.std.specs.Prelude.{◌≡◌, ◌<◌, ℕ, suc, max, List, [], ◌∷◌, ◌++◌, length, Option, IsOk, if◌then◌else◌}
+use Rattle.std.specs.Prelude.{◌≡◌, ◌<◌, ℕ, suc, max, List, [], ◌∷◌, ◌++◌, length, Option, IsOk}
 use Rattle.buffa_bytes.specs.declared.wire_type.WireType.TheVariants.{LengthDelimited}
-use Rattle.buffa_wire.specs.BudgetLeft.{BudgetLeft, nothing, plus, units}
+use Rattle.buffa_wire.specs.BudgetLeft.{BudgetLeft}
 use Rattle.buffa_wire.specs.Message.{cost_of_payload}
 use Rattle.buffa_wire.specs.Passes.{cap}
 use Rattle.buffa_bytes.specs.Front.{delimited_at}
 use Rattle.buffa_wire.specs.Records.{Datum, bytes}
-use Rattle.buffa_bytes.specs.WireType.{same_wire}
+use Rattle.buffa_fields.specs.Framing.{each_cost_as}
 use Rattle.buffa_fields.specs.Lists.{element_records}
 use Rattle.buffa_fields.specs.Nested.{message_merged, taken_behind}
 use Rattle.buffa_wire.specs.Takes.{Asks, Need, Taker}
@@ -17,7 +17,8 @@ messages_taken blank merged = taken_behind blank (message_merged merged)
 
 -- at a depth, what it costs: so many units for a message, and what is in it
 unfoldable pub messages_cost : ℕ → (ℕ → List ℕ → BudgetLeft) → Need
-messages_cost each cost d n w bs = if same_wire LengthDelimited w then plus (units each) (cost_of_payload cost d (delimited_at bs)) else nothing
+unfolding each_cost_as
+messages_cost each cost = each_cost_as LengthDelimited each (λ d bs. cost_of_payload cost d (delimited_at bs))
 
 -- it takes memory where a level is left, and a length and so many bytes are there
 abbrev pub MessagesTakeMemory : Asks

@@ -31,13 +31,13 @@ ghost use Rattle.buffa_fields.specs.Lists.{ElementsTakeMemory, check_list_wire, 
 ghost use Rattle.buffa_fields.specs.MapFields.{PairTakesMemory, pair_cost, pair_taken, entry_records, stepped};
 ghost use Rattle.buffa_fields.specs.Layout.{Choice, both_need, both_take, is_number};
 ghost use Rattle.buffa_fields.specs.Members.{field, field_kept, keep, skip};
-ghost use Rattle.buffa_fields.specs.Groups.{GroupTakesMemory, group_cost, group_datum, group_records, group_taken};
-ghost use Rattle.buffa_fields.specs.Nested.{FitsInside, MessageTakesMemory, message_cost, message_levels, message_records, message_slots, message_taken};
+ghost use Rattle.buffa_fields.specs.Groups.{GroupTakesMemory, group_cost, group_datum, group_merged, group_records};
+ghost use Rattle.buffa_fields.specs.Nested.{FitsInside, MessageTakesMemory, message_cost, message_levels, message_merged, message_records, message_slots, taken_behind, taken_there};
 ghost use Rattle.buffa_fields.specs.NestedMaps.{pair_levels, pair_records, pair_slots};
 ghost use Rattle.buffa_fields.specs.Stands.{IsMemberRefused};
 ghost use Rattle.buffa_fields.specs.RepeatedNested.{MessagesTakeMemory, messages_cost, messages_levels, messages_records, messages_slots, messages_taken};
 ghost use Rattle.buffa_fields.specs.OrderedMaps.{KeysAscend};
-ghost use Rattle.buffa_fields.specs.RepeatedGroups.{GroupsTakeMemory, groups_cost, groups_taken};
+ghost use Rattle.buffa_fields.specs.RepeatedGroups.{GroupsTakeMemory, groups_cost};
 ghost use Rattle.buffa_fields.specs.Refusals.{RefusesAs, RefusesElements, RefusesGroup, RefusesMessage, RefusesNew, RefusesPair, RefusesUnder};
 ghost use Rattle.buffa_fields.specs.MemberRecords.{optional_records, plain_records};
 ghost use Rattle.buffa_wire.specs.Takes.{cost_of, merged_of};
@@ -145,10 +145,11 @@ pub fn packed_lists_are_these<C: Packable>()
 {}
 
 /// A message that may be absent: each record is merged into the one that is there.
+#[tactic(auto, unfolding(crate::specs::Nested::message_merged, crate::specs::Nested::message_cost))]
 pub fn nested_members_are_these<N: Message>()
     ensures meaning { (p : _) → ⟦<Nested<N> as Member>⟧.shape.meaning p ≡ option_map N.meaning p }
     ensures blank { ⟦<Nested<N> as Member>⟧.shape.blank ≡ None }
-    ensures takes { ⟦<Nested<N> as Member>⟧.shape.takes ≡ message_taken N.blank_is N.merged }
+    ensures takes { ⟦<Nested<N> as Member>⟧.shape.takes ≡ taken_there N.blank_is (message_merged N.merged) }
     ensures checks { (n : ℕ) (w : _) → ⟦<Nested<N> as Member>⟧.shape.checks n w
         ≡ check_wire n WireType.LengthDelimited w }
     ensures asks { (d n : ℕ) (w : _) (bs : List ℕ) → ⟦<Nested<N> as Member>⟧.shape.asks d n w bs
@@ -163,6 +164,7 @@ pub fn nested_members_are_these<N: Message>()
 {}
 
 /// A list of messages: each record is a new element, which costs the units of its type too.
+#[tactic(auto, unfolding(crate::specs::Nested::message_merged, crate::specs::RepeatedNested::messages_cost))]
 pub fn lists_of_messages_are_these<N: Message>()
     ensures meaning { (p : _) → ⟦<RepeatedNested<N> as Member>⟧.shape.meaning p ≡ map N.meaning p.items }
     ensures blank { ⟦<RepeatedNested<N> as Member>⟧.shape.blank ≡ [] }
@@ -182,10 +184,11 @@ pub fn lists_of_messages_are_these<N: Message>()
 {}
 
 /// A message that may be absent, as a group: each group is merged into the one that is there.
+#[tactic(auto, unfolding(crate::specs::Groups::group_merged, crate::specs::Groups::group_cost))]
 pub fn groups_are_these<N: Message>()
     ensures meaning { (p : _) → ⟦<Group<N> as Member>⟧.shape.meaning p ≡ option_map N.meaning p }
     ensures blank { ⟦<Group<N> as Member>⟧.shape.blank ≡ None }
-    ensures takes { ⟦<Group<N> as Member>⟧.shape.takes ≡ group_taken N.blank_is N.merged }
+    ensures takes { ⟦<Group<N> as Member>⟧.shape.takes ≡ taken_there N.blank_is (group_merged N.merged) }
     ensures checks { (n : ℕ) (w : _) → ⟦<Group<N> as Member>⟧.shape.checks n w ≡ check_wire n WireType.StartGroup w }
     ensures asks { (d n : ℕ) (w : _) (bs : List ℕ) → ⟦<Group<N> as Member>⟧.shape.asks d n w bs
         ↔ (GroupTakesMemory d n w bs) }
@@ -198,10 +201,11 @@ pub fn groups_are_these<N: Message>()
 {}
 
 /// A list of messages, as groups: each group is a new element, which costs the units of its type too.
+#[tactic(auto, unfolding(crate::specs::Groups::group_merged, crate::specs::RepeatedGroups::groups_cost))]
 pub fn lists_of_groups_are_these<N: Message>()
     ensures meaning { (p : _) → ⟦<RepeatedGroup<N> as Member>⟧.shape.meaning p ≡ map N.meaning p.items }
     ensures blank { ⟦<RepeatedGroup<N> as Member>⟧.shape.blank ≡ [] }
-    ensures takes { ⟦<RepeatedGroup<N> as Member>⟧.shape.takes ≡ groups_taken N.blank_is N.merged }
+    ensures takes { ⟦<RepeatedGroup<N> as Member>⟧.shape.takes ≡ taken_behind N.blank_is (group_merged N.merged) }
     ensures checks { (n : ℕ) (w : _) → ⟦<RepeatedGroup<N> as Member>⟧.shape.checks n w
         ≡ check_wire n WireType.StartGroup w }
     ensures asks { (d n : ℕ) (w : _) (bs : List ℕ) → ⟦<RepeatedGroup<N> as Member>⟧.shape.asks d n w bs

@@ -2,6 +2,7 @@
 #![tactic(auto)]
 
 pub mod fields;
+pub mod framing;
 pub mod group;
 pub mod held;
 pub mod held_laws;
@@ -21,6 +22,8 @@ pub mod meaning;
 pub mod member;
 pub mod merge;
 pub mod message;
+pub mod message_in;
+pub mod messages_in;
 pub mod nested;
 pub mod optional;
 pub mod ordered_key;

@@ -1,0 +1,175 @@
+//! Members that are messages, in any framing.
+
+ghost use Rattle.std.specs.Prelude.{None, ◌≡◌, ◌∷◌, [], length, true};
+ghost use Rattle.std.specs.Option.{option_map};
+ghost use Rattle.buffa_bytes.specs.Gives.{FullOnlyIf};
+ghost use Rattle.buffa_bytes.specs.Number.{IsNumber};
+ghost use Rattle.buffa_bytes.specs.Front.{check_wire};
+ghost use Rattle.buffa_wire.specs.Passes.{IsNext, IsSized, cap};
+ghost use Rattle.buffa_wire.specs.Encoding.{records_encoding};
+ghost use Rattle.buffa_wire.proofs.ByPayloadLemmas.{by_payload, merged_fields};
+ghost use Rattle.buffa_fields.specs.Calls.{ChecksWire, TakesIn};
+ghost use Rattle.buffa_fields.specs.Framing.{Messages, cost_as, datum_of_value, taken_as};
+ghost use Rattle.buffa_fields.specs.FramingCalls.{WritesFramed};
+ghost use Rattle.buffa_fields.specs.FramingFacts.{one_stays, there_back, there_least};
+ghost use Rattle.buffa_fields.specs.LevelKindFacts.{optional_numbers};
+ghost use Rattle.buffa_fields.specs.Levels.{AreExactLevels};
+ghost use Rattle.buffa_fields.specs.MemberRecords.{optional_records};
+ghost use Rattle.buffa_fields.specs.Nested.{message_levels, message_slots, taken_there};
+ghost use Rattle.buffa_fields.specs.Refusals.{LeavesUnless, RefusesTaggedField, RefusesThere, UnderAny};
+ghost use Rattle.buffa_fields.specs.Values.{IfThere};
+
+use crate::framing::Framing;
+use crate::member::Member;
+use buffa_wire::{
+    Blank, DecodeContext, DecodeError, EncodeError, EncodeSink, Message, MessageSpec, SizeCache,
+    Tag, check_wire_type,
+};
+use std::alloc::Global;
+use std::marker::PhantomData;
+
+// The length of a message's field. Its own length, and then its slots, are appended. Where no length is written, a slot
+// is needed too: a size pass may run out of memory only where there is one.
+pub(crate) fn message_len<F: Framing, N: Message>(
+    number: u32,
+    message: &N,
+    cache: &mut SizeCache,
+) -> Result<u32, EncodeError>
+    requires { IsNumber number }
+    ensures { let v = N.meaning message.now in
+        IsSized (records_encoding ((number, datum_of_value F.frame N.encoding N.records v) ∷ []))
+        (cap (length (N.encoding v)) ∷ N.slots v) cache.old result cache.new }
+{
+    let slot = cache.reserve()?;
+    let inner = message.compute_size(cache)?;
+    cache.set(slot, inner);
+    Ok(F::field_len(number, inner))
+}
+
+// Writes a message's field; the message's length is in the next slot.
+pub(crate) fn write_message<F: Framing, N: Message, S: EncodeSink>(
+    number: u32,
+    message: &N,
+    cache: &mut SizeCache,
+    sink: &mut S,
+) -> Result<(), EncodeError>
+    requires number { IsNumber number }
+    requires next { let v = N.meaning message.now in IsNext (cap (length (N.encoding v)) ∷ N.slots v) cache.old }
+    ensures { WritesFramed cache.old (S.written sink.old) result cache.new (S.written sink.new)
+        (datum_of_value F.frame N.encoding N.records) N.encoding N.slots number (N.meaning message.now) }
+{
+    let inner = cache.consume_next();
+    F::begin(number, inner, sink)?;
+    message.write_to(cache, sink)?;
+    F::end(number, sink)
+}
+
+// Merges the message of the field whose tag was read.
+fn take_message<F: Framing, N: Message>(
+    alloc: Global,
+    message: &mut N,
+    tag: Tag,
+    buf: &mut &[u8],
+    ctx: DecodeContext<'_>,
+) -> Result<(), DecodeError>
+    ensures taken { TakesIn tag ctx.entry ctx.exit message.old message.new buf.old buf.new result
+        (taken_as F.frame.wire (F.frame.makes N.merged)) (cost_as F.frame.wire (F.frame.cost N.cost)) N.meaning }
+    ensures full { FullOnlyIf result (F.frame.asks ctx.entry.depth tag.number tag.wire_type buf.old.now) }
+    ensures wire { ChecksWire tag F.frame.wire result (N.meaning message.old) (N.meaning message.new) buf.old buf.new }
+    ensures refused { RefusesTaggedField (LeavesUnless F.frame.wire F.frame.There) tag ctx.entry.depth
+        (N.meaning message.old) (N.meaning message.new) buf.old result }
+{
+    check_wire_type(tag, F::wire_type())?;
+    F::merge(alloc, message, tag.field_number(), buf, ctx)
+}
+
+/// A message that may be absent, in a framing. What is read is merged into the message that is there; where none is and a
+/// field is refused, none does afterwards.
+///
+/// ```ignore
+/// pub type Nested<N> = MessageIn<Delimited, N>;
+/// ```
+pub struct MessageIn<F, N> {
+    framing: PhantomData<F>,
+    of: PhantomData<N>,
+}
+
+impl<F: Framing, N: Message> Member for MessageIn<F, N> {
+    type Part = Option<N>;
+
+    type Meaning = Option<<N as Blank>::Meaning>;
+
+    ghost shape = { record {
+      whole = true;
+      meaning = λ p. option_map N.meaning p;
+      blank = None;
+      takes = taken_there N.blank_is (taken_as F.frame.wire (F.frame.makes N.merged));
+      checks = λ n w. check_wire n F.frame.wire w;
+      refuses = UnderAny (RefusesThere F.frame.wire F.frame.There);
+      asks = F.frame.asks;
+      need = cost_as F.frame.wire (F.frame.cost N.cost);
+      records = optional_records (datum_of_value F.frame N.encoding N.records);
+      slots = message_slots N.encoding N.slots;
+      levels = message_levels N.levels;
+      Exact = AreExactLevels N.merged N.encoding N.records N.normal N.levels;
+      normal = λ v. IfThere (λ x. F.frame.Normal (N.normal x) (N.records x)) v;
+      stays = one_stays F.frame F.holds N.cost;
+    } };
+
+    #[tactic(auto, using(crate::specs::LayoutFacts::sized_free), unfolding(crate::specs::MemberRecords::optional_records, crate::specs::Nested::message_slots))]
+    fn len(number: u32, part: &Option<N>, cache: &mut SizeCache) -> Result<u32, EncodeError> {
+        match part {
+            None => Ok(0),
+            Some(message) => message_len::<F, N>(number, message, cache),
+        }
+    }
+
+    #[tactic(auto, using(buffa_wire::proofs::PassLemmas::written_none), unfolding(crate::specs::MemberRecords::optional_records, crate::specs::Nested::message_slots))]
+    fn write_to<S: EncodeSink>(
+        number: u32,
+        part: &Option<N>,
+        cache: &mut SizeCache,
+        sink: &mut S,
+    ) -> Result<(), EncodeError> {
+        match part {
+            None => Ok(()),
+            Some(message) => write_message::<F, N, S>(number, message, cache, sink),
+        }
+    }
+
+    fn merge(
+        part: &mut Option<N>,
+        alloc: Global,
+        tag: Tag,
+        buf: &mut &[u8],
+        ctx: DecodeContext<'_>,
+    ) -> Result<(), DecodeError> {
+        match part {
+            Some(message) => take_message::<F, N>(alloc, message, tag, buf, ctx),
+            None => {
+                let mut message = N::blank(alloc);
+                take_message::<F, N>(alloc, &mut message, tag, buf, ctx)?;
+                *part = Some(message);
+                Ok(())
+            }
+        }
+    }
+
+    ghost back = { let m : Messages N.Meaning = record {
+      merged = N.merged;
+      blank = N.blank_is;
+      encoding = N.encoding;
+      records = N.records;
+      levels = N.levels;
+      normal = N.normal;
+      as_records = N.MessageSpec.encoding_records;
+      fields = merged_fields (by_payload N.MessageSpec.stays N.MessageSpec.merged_is N.MessageSpec.cost_is);
+      back = N.MessageSpec.merged_encoding;
+    } in record {
+      back = there_back F.frame F.holds m;
+      exact = λ exact. record {
+        numbers = optional_numbers (datum_of_value F.frame N.encoding N.records);
+        least = there_least F.frame F.holds m exact;
+      };
+    } };
+}
