@@ -82,7 +82,7 @@ module _ {M P A B : Type 0} (s : Shape P A) (k : ℕ) where
         let own = subst (λ z. Fits (records_of z)) (sym (l.own_is k v.1)) (fits_joined (l.front k v.1) (l.behind k v.1) each.0 inner.1) in
         let one = others_back k l.declares sound.1 all l.takes (λ d a b u n w p off h. rw (off, h) refl) d s.blank l.blank (l.only_front k v.1) (records_encoding (l.front k v.1)) (l.back_front owes.1 its k d v.1 own normal.1 below) in
         let two = both_back k s.takes l.takes l.declares sound.1 d s.blank v.0 (l.only_front k v.1) (l.bare v.1) (s.records k v.0) (l.behind k v.1)
-            (owes.0.back k sound.0 d v.0 inner.0 normal.0 low) (l.back_behind owes.1 its k d v.1 own normal.1 below) in
+        (owes.0.back k sound.0 d v.0 inner.0 normal.0 low) (l.back_behind owes.1 its k d v.1 own normal.1 below) in
         joined_back all (λ n. n == k || l.declares n) d (s.blank, l.blank) (s.blank, l.only_front k v.1) (v.0, l.bare v.1) (l.front k v.1) (s.records k v.0 ++ l.behind k v.1)
         one.pieces two.pieces one.spelled two.spelled one.leads two.leads
 

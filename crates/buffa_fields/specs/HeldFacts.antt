@@ -183,7 +183,7 @@ module _ {M X : Type 0} (l : Layout M X) (k each : ℕ) where
         let others = back_holds Taken (inside_records l k each ns) (l.behind k v ++ l.kept v) inner in
         let kept = back_holds Taken (l.behind k v) (l.kept v) others in
         let own = subst (λ z. AllByRecursion Taken z) (sym (l.own_is k v)) (all_joined Taken (l.front k v) (l.behind k v)
-            (front_holds Taken (l.front k v) (inside_records l k each ns ++ (l.behind k v ++ l.kept v)) all) (front_holds Taken (l.behind k v) (l.kept v) others)) in
+        (front_holds Taken (l.front k v) (inside_records l k each ns ++ (l.behind k v ++ l.kept v)) all) (front_holds Taken (l.behind k v) (l.kept v) others)) in
         let other = (sound_parts k (l.declares k) (true && l.sound) (is_sound l k each normal.0.0 sound)).1 in
         others_low k all_takes l normal.0.1 exact other (λ d v n w p off. rw off refl) d [] v sound normal.2 (height_low all_takes d (l.kept v) kept) own
         (of_any_number all_takes d (λ n. n == k || l.declares n) (l.kept v) kept)

@@ -16,7 +16,7 @@ use Rattle.buffa_fields.specs.Layout.{Choice, IsFieldKept, Layout, Passed, Reads
 use Rattle.buffa_fields.specs.LayoutFacts.{field_apart, field_asks, field_taken, is_kept, kept_asks, kept_stays, is_passed, none_keep, passed_asks, more_none, seen_field}
 use Rattle.buffa_fields.specs.BackFacts.{no_pieces}
 use Rattle.buffa_fields.specs.PairFacts.{both_again, both_back, both_stay, fits_both, sound_parts}
-use Rattle.buffa_fields.specs.PlaceFacts.{behind_back, behind_seen, front_back, front_seen, others_back, owes_in_two, own_in_two, slots_in_two, slots_then}
+use Rattle.buffa_fields.specs.PlaceFacts.{behind_reads_back, behind_seen, front_reads_back, front_seen, others_back, owes_in_two, own_in_two, slots_in_two, slots_then}
 use Rattle.buffa_fields.specs.Aside.{AllAside, Aside, Kept, ReadsBackBeside, TookBeside, aside_levels, beside_take, kept_among}
 use Rattle.buffa_fields.specs.AsideFacts.{beside_again, beside_back, kept_field_apart, kept_field_asks, kept_field_taken}
 use Rattle.buffa_fields.specs.LevelFacts.{aside_low, both_numbers, first_one, firsts, others_low}
@@ -91,14 +91,14 @@ field {M} {P} {A} {B} k get s l = record {
   back_front = λ owes ok j d v fits normal low.
       let sound = sound_parts k (l.declares k) (s.whole && l.sound) ok in
       let each = fits_both (s.records k v.0) (l.own v.1) fits in
-      front_back (both_take k s.takes l.takes) (λ n. n == k || l.declares n) d (nat_lt k j) (s.blank, l.blank) (v.0, l.only_front j v.1) (s.records k v.0 ++ l.front j v.1)
+      front_reads_back (both_take k s.takes l.takes) (λ n. n == k || l.declares n) d (nat_lt k j) (s.blank, l.blank) (v.0, l.only_front j v.1) (s.records k v.0 ++ l.front j v.1)
       (both_back k s.takes l.takes l.declares sound.1 d s.blank v.0 l.blank (l.only_front j v.1) (s.records k v.0) (l.front j v.1)
       (owes.0.back k sound.0 d v.0 each.0 normal.0 (omega (arith, low))) (l.back_front owes.1 (and_parts s.whole l.sound sound.2).1 j d v.1 each.1 normal.1 (omega (arith, low))));
   back_behind = λ owes ok j d v fits normal low.
       let sound = sound_parts k (l.declares k) (s.whole && l.sound) ok in
       let each = fits_both (s.records k v.0) (l.own v.1) fits in
       let all : Taker (A × B) = both_take k s.takes l.takes in
-      behind_back all (λ n. n == k || l.declares n) d (nat_lt k j) (s.blank, l.blank) (v.0, l.only_front j v.1) (v.0, l.bare v.1) (l.behind j v.1) (s.records k v.0 ++ l.own v.1)
+      behind_reads_back all (λ n. n == k || l.declares n) d (nat_lt k j) (s.blank, l.blank) (v.0, l.only_front j v.1) (v.0, l.bare v.1) (l.behind j v.1) (s.records k v.0 ++ l.own v.1)
       (others_back k l.declares sound.1 all l.takes (λ d a b u n w p off h. rw (off, h) refl) d v.0 (l.only_front j v.1) (l.bare v.1) (records_encoding (l.behind j v.1))
       (l.back_behind owes.1 (and_parts s.whole l.sound sound.2).1 j d v.1 each.1 normal.1 (omega (arith, low))))
       (both_back k s.takes l.takes l.declares sound.1 d s.blank v.0 l.blank (l.bare v.1) (s.records k v.0) (l.own v.1)
@@ -188,14 +188,14 @@ field_kept {M} {P} {A} {B} k get s a l = record {
   back_front = λ owes ok j d v fits normal low.
       let sound = sound_parts k (l.declares k) (l.keeps && l.sound) ok in
       let each = fits_both (s.records k v.0) (l.own v.1) fits in
-      front_back (beside_take k a.takes l.adds l.takes) (λ n. n == k || l.declares n) d (nat_lt k j) (s.blank, l.blank) (v.0, l.only_front j v.1) (s.records k v.0 ++ l.front j v.1)
+      front_reads_back (beside_take k a.takes l.adds l.takes) (λ n. n == k || l.declares n) d (nat_lt k j) (s.blank, l.blank) (v.0, l.only_front j v.1) (s.records k v.0 ++ l.front j v.1)
       (beside_back a k l.adds l.takes l.adds_none l.adds_twice l.declares sound.1 d s.blank v.0 l.blank (l.only_front j v.1) (s.records k v.0) (l.front j v.1)
       (owes.0.back k sound.0 d v.0 each.0 normal.0 (omega (arith, low))) (l.back_front owes.1 (and_parts l.keeps l.sound sound.2).1 j d v.1 each.1 normal.1 (omega (arith, low))));
   back_behind = λ owes ok j d v fits normal low.
       let sound = sound_parts k (l.declares k) (l.keeps && l.sound) ok in
       let each = fits_both (s.records k v.0) (l.own v.1) fits in
       let all : Taker (A × B) = beside_take k a.takes l.adds l.takes in
-      behind_back all (λ n. n == k || l.declares n) d (nat_lt k j) (s.blank, l.blank) (v.0, l.only_front j v.1) (v.0, l.bare v.1) (l.behind j v.1) (s.records k v.0 ++ l.own v.1)
+      behind_reads_back all (λ n. n == k || l.declares n) d (nat_lt k j) (s.blank, l.blank) (v.0, l.only_front j v.1) (v.0, l.bare v.1) (l.behind j v.1) (s.records k v.0 ++ l.own v.1)
       (others_back k l.declares sound.1 all l.takes (λ d a b u n w p off h. rw (off, h) refl) d v.0 (l.only_front j v.1) (l.bare v.1) (records_encoding (l.behind j v.1))
       (l.back_behind owes.1 (and_parts l.keeps l.sound sound.2).1 j d v.1 each.1 normal.1 (omega (arith, low))))
       (beside_back a k l.adds l.takes l.adds_none l.adds_twice l.declares sound.1 d s.blank v.0 l.blank (l.bare v.1) (s.records k v.0) (l.own v.1)

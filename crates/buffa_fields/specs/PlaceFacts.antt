@@ -44,14 +44,14 @@ owes_in_two false both front behind = behind
 
 -- ---- encodings that read back
 module _ {X : Type 0} (T : Taker X) (P : ℕ → Bool) (d : ℕ) where
-  pub front_back : (t : Bool) (blank v : X) (rs : List (ℕ × Datum)) → ReadsBack T P d blank (records_encoding rs) v → ReadsBack T P d blank (records_encoding (if t then rs else [])) (if t then v else blank)
-  front_back true blank v rs h = h
-  front_back false blank v rs h = no_pieces T P d blank
+  pub front_reads_back : (t : Bool) (blank v : X) (rs : List (ℕ × Datum)) → ReadsBack T P d blank (records_encoding rs) v → ReadsBack T P d blank (records_encoding (if t then rs else [])) (if t then v else blank)
+  front_reads_back true blank v rs h = h
+  front_reads_back false blank v rs h = no_pieces T P d blank
 
-  pub behind_back : (t : Bool) (blank front v : X) (behind all : List (ℕ × Datum)) → ReadsBack T P d front (records_encoding behind) v → ReadsBack T P d blank (records_encoding all) v →
+  pub behind_reads_back : (t : Bool) (blank front v : X) (behind all : List (ℕ × Datum)) → ReadsBack T P d front (records_encoding behind) v → ReadsBack T P d blank (records_encoding all) v →
       ReadsBack T P d (if t then front else blank) (records_encoding (if t then behind else all)) v
-  behind_back true blank front v behind all h j = h
-  behind_back false blank front v behind all h j = j
+  behind_reads_back true blank front v behind all h j = h
+  behind_reads_back false blank front v behind all h j = j
 
 -- the others do, beside a field
 pub others_back : {A B : Type 0} (k : ℕ) (D : ℕ → Bool) (other : D k ≡ false) (T : Taker (A × B)) (g : Taker B) →

@@ -84,7 +84,7 @@ pub trait Holds: Drop {
     /// The default of its own members.
     ///
     /// ```ignore
-    /// let own = BranchOwn::blank(alloc);
+    /// own: O::blank(alloc),
     /// ```
     fn blank(alloc: Global) -> Self
         ensures { layout.meaning result ≡ layout.blank };
