@@ -1,5 +1,5 @@
 -- What a message that holds a list of its own type is read as and written as, by its own members: l lists these, k is the
--- number of the messages inside, and each is what one of them costs. Source: the protobuf encoding guide, "Submessages".
+-- field number of the list, and each is what one message in it costs. Source: the protobuf encoding guide, "Submessages".
 use Rattle.std.specs.Prelude.{◌≡◌, ℕ, zero, suc, max, ◌==◌, ◌&&◌, Bool, true, not, refl, List, [], ◌∷◌, ◌++◌, length, map, Option, None}
 use Rattle.std.specs.List.{AllByRecursion}
 use Rattle.std.specs.Option.{option_map}
@@ -154,7 +154,8 @@ owing l sound Fact so = record {
   least = λ owes exact ok d v normal high own kept. l.least owes.1 exact (so owes.0 ok) d v normal high own kept;
 }
 
--- a member under a number, in its place among the others: behind those in front of the number
+-- A member under a number, in its place among the others: behind those in front of the number. What it makes isn't split in
+-- two again: all of it is behind every number.
 abbrev pub among : {M P A B : Type 0} → ℕ → (M → P) → Shape P A → Layout M B → Layout M (A × B)
 among {M} {P} {A} {B} k get s l = let f : Layout M (A × B) = field k get s l in record {
   meaning = f.meaning;
@@ -227,14 +228,14 @@ module _ {M X : Type 0} (l : Layout M X) (k each : ℕ) where
   abbrev pub blank_nest : Nest X
   blank_nest = nest l.blank no_nest
 
-  -- the number of the messages inside may be a field's, and is no other member's
+  -- the list's number may be a field's, and is no other member's
   abbrev pub IsInsideNumber : Type 0
   IsInsideNumber = (is_number k && not (l.declares k)) ≡ true
 
   pub is_sound : IsInsideNumber → l.sound ≡ true → (is_number k && not (l.declares k) && (true && l.sound)) ≡ true
   is_sound other sound = rw (other, sound) refl
 
-  -- ---- written: its own records in front of the number, a record for each message inside, and then the others of its own
+  -- ---- written: its own records in front of the number, a record for each message inside, the others of its own, what is kept
   abbrev mutual
     pub nest_records : Nest X → List (ℕ × Datum)
     nest_records (nest v ns) = l.front k v ++ (inside_records ns ++ (l.behind k v ++ l.kept v))
@@ -262,7 +263,7 @@ module _ {M X : Type 0} (l : Layout M X) (k each : ℕ) where
     inside_levels no_nest = 0
     inside_levels (first t ns) = max (suc (nest_levels t)) (inside_levels ns)
 
-  -- it reads back: its own members do, none of the fields that it keeps has the number of the messages inside, and these do
+  -- it reads back: its own members do, none of the fields that it keeps has the list's number, and the messages inside do
   abbrev mutual
     pub IsNormalNest : Nest X → Type 0
     IsNormalNest (nest v ns) = (IsInsideNumber × l.Owes) × AreNormalInside ns × l.normal v × AllNumbers (λ n. not (n == k)) (l.kept v)

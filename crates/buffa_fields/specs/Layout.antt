@@ -170,8 +170,8 @@ pub record Layout (M X : Type 0) : Type 1 where
   pub adds : X → List (ℕ × Datum) → X
   pub bare : X → X
   pub own : X → List (ℕ × Datum)
-  -- the members in front of a number, up to the first whose own number isn't less, and those behind: their records; their slots,
-  -- of the former with others that follow; a value with the former alone; and what these owe
+  -- the members in front of a number, and those behind: `field` has those in front that come before the first whose own number
+  -- isn't less. Their records; their slots, of the former with others that follow; a value with the former alone; what these owe
   pub front : ℕ → X → List (ℕ × Datum)
   pub behind : ℕ → X → List (ℕ × Datum)
   pub front_slots : ℕ → X → List ℕ → List ℕ

@@ -15,7 +15,8 @@ use buffa_wire::{
 };
 use std::alloc::Global;
 
-/// How fields of one kind hold messages.
+/// A framing: how a field holds a message. [`Delimited`](crate::nested::Delimited) is a length and so many bytes,
+/// [`Grouped`](crate::group::Grouped) is a group.
 ///
 /// ```ignore
 /// pub type Nested<N> = MessageIn<Delimited, N>;
@@ -25,7 +26,7 @@ pub trait Framing {
     /// How a field holds a message, by the words of `Frame` in `specs/Framing.antt`.
     ghost frame: { Frame };
 
-    /// What these words owe.
+    /// What these words owe, by `HoldsMessages` beside `Frame`: above all that the record reads back to the message.
     ghost holds: { HoldsMessages frame };
 
     /// The wire type of a field.
@@ -70,11 +71,11 @@ pub trait Framing {
         requires { IsNumber number }
         ensures { Writes result (S.written sink.old) (frame.tail number) (S.written sink.new) };
 
-    /// Merges the message of a field of the number and of the wire type, whose tag was read.
+    /// Merges the message of a field, whose tag of that number and of the framing's wire type was read.
     ///
     /// # Errors
-    /// Those of the bytes and of [`Message::merge_field`]. The message is as it was where no level is left, or nothing
-    /// of a message is there.
+    /// Those of the bytes and of [`Message::merge_field`]. The message is as it was where no level is left, and where
+    /// what has to be there isn't (`There` of `frame`): a length and so many bytes, or the tag of a group's first field.
     ///
     /// ```ignore
     /// F::merge(alloc, message, tag.field_number(), buf, ctx)

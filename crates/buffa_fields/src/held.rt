@@ -1,4 +1,9 @@
 //! Messages that hold a list of themselves.
+//!
+//! The author writes an impl of [`Holds`] for the other members, and the message is a [`Nest`] of these. A message inside
+//! is sized, written and merged by `size_nest`, `write_nest` and `merge_nest`, each of which comes to itself again, a level
+//! down, through the functions beside it. The list is a member of the member type [`Inside`]. So a [`Nest`] has [`Fields`],
+//! as each message from its fields.
 
 ghost use Rattle.std.specs.Prelude.{◌≡◌, ◌≢◌, ◌<◌, ◌∷◌, ◌&&◌, [], ℕ, List, IfErr, IsOk, OnErr, OnOk, length, map, not, refl, true};
 ghost use Rattle.std.specs.List.{AllByRecursion};
@@ -36,8 +41,9 @@ use buffa_wire::{
 use std::alloc::Global;
 use std::marker::{Model, PhantomData};
 
-/// What a message has of its own, where it holds a list of itself besides: its members, and the number of the field that
-/// holds the list. Those members whose numbers are less are written in front of the list, and the others behind it.
+/// What a message has beside a list of itself: its other members, and the number of the field that holds the list. The
+/// members before the first whose number isn't less than the list's are written in front of the list, the others behind
+/// it.
 ///
 /// ```ignore
 /// impl Holds for BranchOwn { .. }
@@ -51,7 +57,8 @@ pub trait Holds: Drop {
     /// ```
     type Meaning;
 
-    /// The units of element memory that each message in the list costs: 1 or more.
+    /// The units of element memory that a message costs where it is an element of a list, its own or another one, or
+    /// the value of a map: 1 or more.
     ///
     /// ```ignore
     /// const COST: usize = 96;
@@ -89,7 +96,7 @@ pub trait Holds: Drop {
     fn blank(alloc: Global) -> Self
         ensures { layout.meaning result ≡ layout.blank };
 
-    /// Visits each of its own members in front of the list, up to the first whose number isn't less.
+    /// Visits its own members in front of the list: those before the first whose number isn't less than the list's.
     ///
     /// ```ignore
     /// visitor.visit::<Plain<Str>>(1, &self.name);
@@ -101,7 +108,7 @@ pub trait Holds: Drop {
             V.Waits rest visitor.new }
         ensures back { layout.OwesFront NUMBER };
 
-    /// Visits the others, behind the list.
+    /// Visits the others, behind the list, and then the fields that are kept.
     ///
     /// ```ignore
     /// visitor.visit_kept(&self.rest);
@@ -112,7 +119,7 @@ pub trait Holds: Drop {
         ensures back { layout.OwesBehind NUMBER };
 
     /// Merges the field whose tag was read into its own member of that number, as
-    /// [`Fields::take`](crate::fields::Fields::take) does.
+    /// [`Fields::take`](crate::fields::Fields::take) does. A [`Nest`] passes it no field of the list's number.
     ///
     /// # Errors
     /// That of the member. For a field that isn't declared, that of keeping it or of passing over it.
@@ -137,9 +144,9 @@ pub trait Holds: Drop {
 /// ```
 #[derive(Drop)]
 pub struct Nest<O> {
-    /// What it has of its own.
+    /// Its other members.
     pub own: O,
-    /// The messages inside it.
+    /// The list: the messages inside it.
     pub inside: Vec<Nest<O>>,
 }
 
@@ -160,7 +167,7 @@ impl<O> Model for Nest<O> {
 
 // ---- sizes
 
-// The length of the record of a message inside. Its own length, and then its slots, are appended.
+// The length of the record of a message inside. Its own length, and then its slots, are appended to the cache.
 #[cycle(held_sizes)]
 fn kid_len<O: Holds>(number: u32, kid: &Nest<O>, cache: &mut SizeCache) -> Result<u32, EncodeError>
     requires { IsNumber number }
@@ -182,7 +189,8 @@ fn kid_len<O: Holds>(number: u32, kid: &Nest<O>, cache: &mut SizeCache) -> Resul
     }
 }
 
-// The length of the records of the messages inside, or 2^32 - 1 where it is more. The slots of each are appended.
+// The length of the records of the messages inside, or 2^32 - 1 where it is more. The slots of each are appended to the
+// cache.
 #[cycle(held_sizes)]
 fn kids_len<O: Holds>(
     number: u32,
@@ -301,7 +309,7 @@ fn write_nest<O: Holds, S: EncodeSink>(
 
 // ---- merging
 
-// Cuts off a length and so many bytes.
+// Takes a length and so many bytes off the front, and returns these bytes.
 #[tactic(auto, unfolding(buffa_bytes::specs::Front::taken))]
 fn cut<'a>(buf: &mut &'a [u8]) -> Result<&'a [u8], DecodeError>
     ensures { Gives (λ b. (b.now, buf.new.now)) result (delimited_at buf.old.now) }
@@ -318,7 +326,7 @@ fn cut<'a>(buf: &mut &'a [u8]) -> Result<&'a [u8], DecodeError>
     Ok(&all[..len as usize])
 }
 
-// A message with nothing inside, and with the default of its own.
+// The default message: the defaults of its other members, and nothing inside.
 fn blank_kid<O: Holds>(alloc: Global) -> Nest<O>
     ensures { nest_means O.layout.meaning result ≡ blank_nest O.layout O.NUMBER O.COST }
 {
@@ -357,7 +365,7 @@ fn merge_kid<O: Holds>(
     merge_nest(alloc, kid, bytes, depth - 1, budget)
 }
 
-// The same of the field whose tag was read, which costs what an element does.
+// Merges the message of the field whose tag was read, which costs what an element does.
 #[cycle(held_merges)]
 fn take_charged<O: Holds>(
     alloc: Global,
@@ -468,7 +476,7 @@ fn merge_nest<O: Holds>(
 
 // ---- the messages inside are a member
 
-/// The messages inside one that holds a list of itself.
+/// The member type of the list in which a message holds itself.
 ///
 /// ```ignore
 /// visitor.visit::<Inside<O>>(O::NUMBER, &self.inside);

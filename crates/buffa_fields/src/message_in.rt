@@ -28,8 +28,8 @@ use buffa_wire::{
 use std::alloc::Global;
 use std::marker::PhantomData;
 
-// The length of a message's field. Its own length, and then its slots, are appended. Where no length is written, a slot
-// is needed too: a size pass may run out of memory only where there is one.
+// The length of a message's field. Its own length, and then its slots, are appended to the cache. A group, whose length
+// isn't written, has a slot for it too: a size pass may run out of memory only where there is a slot.
 pub(crate) fn message_len<F: Framing, N: Message>(
     number: u32,
     message: &N,
@@ -83,8 +83,8 @@ fn take_message<F: Framing, N: Message>(
     F::merge(alloc, message, tag.field_number(), buf, ctx)
 }
 
-/// A message that may be absent, in a framing. What is read is merged into the message that is there; where none is and a
-/// field is refused, none does afterwards.
+/// A message that may be absent, in a framing. What is read is merged into the message that is there. Where none is
+/// there and a field is refused, none is there afterwards.
 ///
 /// ```ignore
 /// pub type Nested<N> = MessageIn<Delimited, N>;

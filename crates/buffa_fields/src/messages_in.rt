@@ -75,7 +75,7 @@ fn take_element<F: Framing, N: Message>(
     Ok(messages.push(message)?)
 }
 
-// The length of the fields of messages, or 2^32 - 1 where it is more. The slots of each are appended.
+// The length of the fields of messages, or 2^32 - 1 where it is more. The slots of each are appended to the cache.
 fn messages_len<F: Framing, N: Message>(
     number: u32,
     messages: &[N],

@@ -1,5 +1,7 @@
-//! The passes over what a message has of its own beside a list of itself: over its members in front of the list, and over
-//! those behind it.
+//! The size pass and the write pass over the other members of a message that holds a list of itself.
+//!
+//! Each is in two parts: the members in front of the list, and those behind it. They are for a message inside the list
+//! (`size_nest` and `write_nest` in `held.rt`). The outermost one is visited as each message from its fields is.
 
 ghost use Rattle.std.specs.Prelude.{◌≡◌, ◌++◌, [], List, ℕ, Ok};
 ghost use Rattle.buffa_wire.specs.Encoding.{records_encoding};

@@ -217,6 +217,7 @@ pub(crate) fn merge_entry_by<
 /// Key and value start as defaults, each occurrence is merged in order, and other fields are skipped at
 /// the context's depth. A declared pair is put into the map; one with a value that is undeclared is
 /// dropped. Each entry costs `KC::COST + VC::COST` units of element memory, and what its messages cost.
+/// The contract's `number` is 0, since no entry is kept under a number.
 ///
 /// # Errors
 /// The first of these, in this order: the faults of the length's varint; [`DecodeError::UnexpectedEof`]

@@ -102,14 +102,15 @@ fn write_with<
 /// Rewrites a map field: empties the map, reads the records to the end of the buffer into it, and writes
 /// the map and behind it, in order, the entries with a value that is undeclared, byte for byte.
 ///
-/// `number` is 1 to [`MAX_FIELD_NUMBER`](buffa_wire::MAX_FIELD_NUMBER). A reader whose enum declares more
-/// numbers, and has the same default, reads the same map from what was written as from what was read, if the run
-/// is ordered; into an empty map only then: [`crate::laws::rewrite_means`], in `map_laws.rt`.
+/// `number` is 1 to [`MAX_FIELD_NUMBER`](buffa_wire::MAX_FIELD_NUMBER). Take a reader whose enum declares more
+/// numbers, and has the same default. If the run is ordered (docs/DEFINITIONS.md says what that is), the reader makes
+/// the same map of what was written as of what was read. Into an empty map it does so only then. The law is
+/// [`crate::laws::rewrite_means`], in `map_laws.rt`.
 ///
 /// # Errors
 /// [`RewriteError::Decode`] with the faults of [`crate::map_codec::read_map_field`] where a list is passed;
 /// nothing was written, and the map has the entries before the fault. [`RewriteError::Encode`] with those
-/// of [`crate::map_codec::write_field`]; the map has all entries. What fits the sink for sure isn't refused for
+/// of [`crate::map_codec::write_field`]; the map has all entries. What the sink has room for isn't refused for
 /// want of memory.
 ///
 /// Source: the protobuf language guide on unknown values of an enum in a map.
