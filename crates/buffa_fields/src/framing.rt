@@ -75,7 +75,8 @@ pub trait Framing {
     ///
     /// # Errors
     /// Those of the bytes and of [`Message::merge_field`]. The message is as it was where no level is left, and where
-    /// what has to be there isn't (`There` of `frame`): a length and so many bytes, or the tag of a group's first field.
+    /// what has to be there isn't (`There` of `frame`): a length and so many bytes, or the tag of a group's first
+    /// field.
     ///
     /// ```ignore
     /// F::merge(alloc, message, tag.field_number(), buf, ctx)

@@ -1,9 +1,9 @@
 //! Messages that hold a list of themselves.
 //!
-//! The author writes an impl of [`Holds`] for the other members, and the message is a [`Nest`] of these. A message inside
-//! is sized, written and merged by `size_nest`, `write_nest` and `merge_nest`, each of which comes to itself again, a level
-//! down, through the functions beside it. The list is a member of the member type [`Inside`]. So a [`Nest`] has [`Fields`],
-//! as each message from its fields.
+//! The author writes an impl of [`Holds`] for the other members, and the message is a [`Nest`] of these. A message
+//! inside is sized, written and merged by `size_nest`, `write_nest` and `merge_nest`. Each of them comes to itself
+//! again, a level down, through the functions beside it. The list is a member of the member type [`Inside`]. So a
+//! [`Nest`] has [`Fields`], as each message from its fields.
 
 ghost use Rattle.std.specs.Prelude.{◌≡◌, ◌≢◌, ◌<◌, ◌∷◌, ◌&&◌, [], ℕ, List, IfErr, IsOk, OnErr, OnOk, length, map, not, refl, true};
 ghost use Rattle.std.specs.List.{AllByRecursion};
