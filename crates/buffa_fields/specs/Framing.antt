@@ -55,7 +55,7 @@ pub record Frame : Type 1 where
   pub datum : List ℕ → List (ℕ × Datum) → Datum
   pub head : ℕ → ℕ → List ℕ
   pub tail : ℕ → List ℕ
-  -- what has to be of a value to be normal inside: by whether it is by itself, and by its records
+  -- when a value is normal inside a field: by whether it is by itself, and by its records
   pub Normal : Type 0 → List (ℕ × Datum) → Type 0
 
 -- the record of a value

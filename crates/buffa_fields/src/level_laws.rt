@@ -81,7 +81,8 @@ where
         ↔ AreExactLevels N.merged N.encoding N.records N.normal N.levels }
 {}
 
-/// In the list that a message holds of itself they are those of its other members; and so in the whole message.
+/// The levels of the list in which a message holds itself are exact where those of its other members are. So are the
+/// levels of the whole message.
 pub fn messages_in_lists_of_themselves_are_these<O: Holds>()
     ensures list { ⟦<Inside<O> as Member>⟧.shape.Exact ↔ O.layout.Exact }
     ensures message { ⟦<Nest<O> as Fields>⟧.layout.Exact ↔ O.layout.Exact }

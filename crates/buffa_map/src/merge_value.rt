@@ -19,7 +19,8 @@ use buffa_wire::{Blank, Budget, Buf, DecodeContext, DecodeError, MessageSpec, Wi
 use std::alloc::Global;
 use std::marker::PhantomData;
 
-/// How the value of an entry is merged: [`ByCodec`], or [`ByFunction`] for messages whose type holds itself.
+/// How the value of an entry is merged: [`ByCodec`], or [`ByFunction`] for messages whose type holds itself and is
+/// written by hand.
 pub trait MergeValue {
     /// The Rust type of the values.
     type Value: Blank;
