@@ -3,6 +3,7 @@ pub mod DigitLemmas
 pub mod ShortestLemmas
 pub mod StepLemmas
 pub mod ScanLemmas
+pub mod SequenceLemmas
 pub mod ListLemmas
 pub mod VarintLemmas
 pub mod FieldLemmas
