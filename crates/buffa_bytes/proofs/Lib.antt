@@ -1,5 +1,6 @@
 -- The lemmas that this crate hands out.
 pub mod DigitLemmas
+pub mod ReadVarintLemmas
 pub mod ShortestLemmas
 pub mod StepLemmas
 pub mod ScanLemmas
