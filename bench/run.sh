@@ -27,7 +27,7 @@ crates=()
 wanted=" $(grep -E '^(buffa_ext|buffa_fields|buffa_map|buffa_message_set|sample_types):' "$top/crates.txt" | tr -d ':' | tr '\n' ' ') "
 while IFS=: read -r crate _; do
     case $wanted in *" $crate "*) crates+=("$crate") ;; esac
-done < <(grep -v '^#' "$top/crates.txt")
+done < <(grep -E '^[a-z]' "$top/crates.txt")
 
 # Ours: the crates copied, with what their last check kept, and a static library over them. The gate reads every
 # Rattle file of this repository, so the library stands outside it, in a repository of its own.

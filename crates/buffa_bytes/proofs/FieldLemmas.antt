@@ -1,5 +1,5 @@
 -- What is read of tags, payloads and groups, and their grammar.
-use Rattle.std.proofs.Common.{◌≡◌, ◌≢◌, inl, inr, ℕ, zero, suc, ◌+◌, ◌-◌, ◌*◌, ◌/◌, ◌%◌, ◌^◌, ◌==◌, nat_lt, nat_eq, ◌<◌, ◌≤◌, Bool, true, false, List, [], ◌++◌, length, take, Option, None, Some, Result, Ok, Err, IsOk, refl, sym, ap, subst, ◌∙◌, arith, append_assoc, length-append, length-take, if◌then◌else◌}
+use Rattle.std.proofs.Common.{◌≡◌, ◌≢◌, inl, inr, ℕ, zero, suc, ◌+◌, ◌-◌, ◌*◌, ◌/◌, ◌%◌, ◌^◌, ◌==◌, nat_lt, nat_eq, ◌<◌, ◌≤◌, Bool, true, false, List, [], ◌∷◌, ◌++◌, length, take, Option, None, Some, Result, Ok, Err, IsOk, refl, sym, ap, subst, ◌∙◌, arith, append_assoc, length-append, length-take, if◌then◌else◌}
 use Rattle.std.proofs.lemmas.Bool.{lt-ltb, le-ltb, ltb-true, ltb-false, cond_both, eqb-true, eqb-false, eq-eqb, ne_eqb}
 use Rattle.std.proofs.lemmas.List.{take-append-drop, append_cancel_right}
 use Rattle.std.proofs.Math.Seq.{drop-append_seam}
@@ -15,10 +15,12 @@ use Rattle.buffa_bytes.specs.Number.{IsNumber}
 use Rattle.buffa_bytes.specs.Join.Join.{none, more}
 use Rattle.buffa_bytes.specs.Field.{IsTag, PayloadOver, SomeFieldOver, SomeField, Group, TakesTag, TakesPayload, BadTag, TagFault, PayloadFaultOver, FieldFaultOver, GroupFault, PayloadFault, TakesBytes}
 use Rattle.buffa_bytes.specs.Front.{varint_at, tag_of, tag_at, past, skip_by, is_end, fields_at, fields_step, group_at, group_step, passed, skip_at}
-use Rattle.buffa_bytes.specs.Scan.{step_then}
-use Rattle.buffa_bytes.specs.Scan.Scanned.{ends}
+use Rattle.buffa_bytes.specs.Scan.{Scanned, scan, step_then}
+use Rattle.buffa_bytes.specs.Scan.Scanned.{ends, goes}
+use Rattle.buffa_bytes.specs.Sequence.{join, ParsesEach}
+use Rattle.buffa_bytes.proofs.SequenceLemmas.{Ends, Meets, if_meets, upto_agrees, upto_complete, upto_sound, upto_turn}
 use Rattle.buffa_bytes.proofs.StepLemmas.{Agrees, agree_bind, agree_err, agree_if, agree_ok, agree_weaker}
-use Rattle.buffa_bytes.proofs.ScanLemmas.{Leads, Shortens, if_leads, if_short, scan_leads, scan_step}
+pub use Rattle.buffa_bytes.proofs.StepLemmas.{err_same, ok_no_err, ok_same}
 use Rattle.buffa_bytes.specs.Values.{tag_encoding}
 use Rattle.buffa_bytes.proofs.VarintLemmas.{IsVarint-varint_encoding, varint_sound, varint_complete, varint_faulty, varint_falls}
 
@@ -233,87 +235,97 @@ module _ (inner : Inner) (G : ℕ → List ℕ → Type 0) (F : ℕ → List ℕ
   abbrev pub FieldsFault : ℕ → List ℕ → DecodeError → Type 0
   FieldsFault f bs e = (body : List ℕ) × (rest : List ℕ) × Join (SomeFieldOver G) body × (bs ≡ body ++ rest) × FieldFaultOver F f rest e
 
-  module _ (s : Sound) where
-    -- ---- each step takes a byte
-    passed_short : (bs : List ℕ) (t : ℕ × WireType × List ℕ) → tag_at bs ≡ Ok t → (r : Result (List ℕ) DecodeError) → skip_by inner t.0 t.1 t.2 ≡ r → Shortens (passed r) bs
-    passed_short bs t e (Ok mid) h =
-        let p = agree_ok (skip_by inner t.0 t.1 t.2) mid (skip_sound s t.0 t.1 t.2) h in omega (arith, tag_falls bs t e, ap length p.2, length-append p.0 mid)
-    passed_short bs t e (Err x) h = tt
+  -- ---- fields up to the end tag, as pieces up to an end
+  abbrev Passes : Unit {0} → List ℕ → Unit {0} → Type 0
+  Passes s p t = SomeFieldOver G p
 
-    step_short : (f : ℕ) (bs : List ℕ) (r : Result (ℕ × WireType × List ℕ) DecodeError) → tag_at bs ≡ r → Shortens (fields_step inner f r) bs
-    step_short f bs (Ok t) e =
-        if_short (is_end t.1) (if t.0 == f then Ok t.2 else Err (InvalidEndGroup t.0)) (passed (skip_by inner t.0 t.1 t.2)) bs (λ _. passed_short bs t e (skip_by inner t.0 t.1 t.2) refl)
-    step_short f bs (Err x) e = tt
+  abbrev EndsAt : ℕ → Unit {0} → List ℕ → List ℕ → Type 0
+  EndsAt f s bs rest = (t : List ℕ) × IsTag t f EndGroup × (bs ≡ t ++ rest)
 
-    pub fields_turn : (f : ℕ) (bs : List ℕ) (r : Result (ℕ × WireType × List ℕ) DecodeError) → tag_at bs ≡ r → fields_at inner f bs ≡ step_then (λ _. fields_at inner f) (fields_step inner f r)
-    unfolding fields_at
-    fields_turn f bs r e =
-        scan_step (λ _ rest. fields_step inner f (tag_at rest)) (Err UnexpectedEof) (λ _ rest. step_short f rest (tag_at rest) refl) tt bs
-        ∙ ap (λ z. step_then (λ _. fields_at inner f) (fields_step inner f z)) e
+  abbrev Breaks : ℕ → Unit {0} → List ℕ → DecodeError → Type 0
+  Breaks f s bs e = FieldFaultOver F f bs e
 
-    -- ---- what is read is in the grammar
-    abbrev Reads : ℕ → List ℕ → Result (List ℕ) DecodeError → Type 0
-    Reads f bs r = Agrees r (λ rest. TakesFields f bs rest) (FieldsFault f bs)
+  abbrev field_step : ℕ → Unit {0} → List ℕ → Scanned (Unit {0}) (Result (List ℕ) DecodeError)
+  field_step f s bs = fields_step inner f (tag_at bs)
 
-    passed_leads : (f : ℕ) (bs : List ℕ) (t : ℕ × WireType × List ℕ) → tag_at bs ≡ Ok t → t.1 ≢ EndGroup → (r : Result (List ℕ) DecodeError) → skip_by inner t.0 t.1 t.2 ≡ r
-        → Leads (λ _. Reads f) (passed r) tt bs
-    passed_leads f bs t e other (Ok mid) h = λ r q.
-        let u = agree_ok (tag_at bs) t (tag_sound bs) e in
-        let p = agree_ok (skip_by inner t.0 t.1 t.2) mid (skip_sound s t.0 t.1 t.2) h in
-        agree_weaker q
-        (λ rest x. ((u.0 ++ p.0) ++ x.0, x.1, more (u.0 ++ p.0) x.0 (t.0, t.1, (u.0, p.0, u.1, p.1, refl)) x.2, x.3, one_more bs u.0 p.0 t.2 mid x.0 (x.1 ++ rest) u.2 p.2 x.4))
-        (λ d x. ((u.0 ++ p.0) ++ x.0, x.1, more (u.0 ++ p.0) x.0 (t.0, t.1, (u.0, p.0, u.1, p.1, refl)) x.2, one_more bs u.0 p.0 t.2 mid x.0 x.1 u.2 p.2 x.3, x.4))
-    passed_leads f bs t e other (Err d) h =
-        let u = agree_ok (tag_at bs) t (tag_sound bs) e in
-        let x = agree_err (skip_by inner t.0 t.1 t.2) d (skip_sound s t.0 t.1 t.2) h in
-        record { holds = ([], bs, none, refl, inr (inr (t.0, t.1, t.2, u, other, x))) }
+  some_field : (s t : Unit {0}) (p : List ℕ) → Passes s p t → 0 < length p
+  some_field s t p (g, w, (tag, q, is, x, e)) = omega (arith, tag_some tag g w is, ap length e, length-append tag q)
 
-    step_leads : (f : ℕ) (bs : List ℕ) (r : Result (ℕ × WireType × List ℕ) DecodeError) → tag_at bs ≡ r → Leads (λ _. Reads f) (fields_step inner f r) tt bs
-    step_leads f bs (Ok t) e =
-        let u = agree_ok (tag_at bs) t (tag_sound bs) e in
-        if_leads (λ _. Reads f) (is_end t.1) (if t.0 == f then Ok t.2 else Err (InvalidEndGroup t.0)) (passed (skip_by inner t.0 t.1 t.2)) tt bs
-        (λ last. let end : IsTag u.0 t.0 EndGroup = subst (λ w. IsTag u.0 t.0 w) (end_true t.1 last) u.1 in agree_if (t.0 == f)
-        (λ m. record { holds = ([], u.0, none, subst (λ g. IsTag u.0 g EndGroup) (eqb-true t.0 f m) end, u.2) })
-        (λ m. record { holds = ([], bs, none, refl, inr (inl (t.0, t.2, (u.0, end, u.2), eqb-false t.0 f m, refl))) }))
-        (λ other. passed_leads f bs t e (end_false t.1 other) (skip_by inner t.0 t.1 t.2) refl)
-    step_leads f bs (Err d) e = record { holds = ([], bs, none, refl, inl (agree_err (tag_at bs) d (tag_sound bs) e)) }
+  joined : (s t : Unit {0}) (ps : List (List ℕ)) → ParsesEach Passes s ps t → Join (SomeFieldOver G) (join ps)
+  joined s t [] h = none
+  joined s t (p ∷ ps) (u, h, w) = more p (join ps) h (joined u t ps w)
 
-    pub fields_sound : (f : ℕ) (bs : List ℕ) → Agrees (fields_at inner f bs) (λ rest. TakesFields f bs rest) (FieldsFault f bs)
-    unfolding fields_at
-    fields_sound f bs =
-        scan_leads (λ _ rest. fields_step inner f (tag_at rest)) (Err UnexpectedEof) (λ _ rest. step_short f rest (tag_at rest) refl) (λ _. Reads f)
-        (λ _ rest. step_leads f rest (tag_at rest) refl) tt bs
+  pieces : (body : List ℕ) → Join (SomeFieldOver G) body → (ps : List (List ℕ)) × (body ≡ join ps) × ParsesEach Passes tt ps tt
+  pieces body none = ([], refl, refl)
+  pieces body (more first rest h j) = let q = pieces rest j in (first ∷ q.0, ap (λ z. first ++ z) q.1, (tt, h, q.2))
 
   -- an end tag has no payload
   payload_no_end : (f : ℕ) (w : WireType) (p : List ℕ) → PayloadOver G f w p → w ≢ EndGroup
   payload_no_end f w p h e = subst (λ v. PayloadOver G f v p) e h
 
-  module _ (s : Sound) (c : Complete) where
-    pass_one : (f : ℕ) (first rest x : List ℕ) (g : ℕ) (w : WireType) (t p : List ℕ) → IsTag t g w → PayloadOver G g w p → first ≡ t ++ p → fields_at inner f ((first ++ rest) ++ x) ≡ fields_at inner f (rest ++ x)
-    pass_one f first rest x g w t p tag q e =
-        let is : (first ++ rest) ++ x ≡ t ++ (p ++ (rest ++ x)) = ap (λ z. (z ++ rest) ++ x) e ∙ simp append_assoc in
-        ap (fields_at inner f) is ∙ fields_turn s f (t ++ (p ++ (rest ++ x))) (Ok (g, w, p ++ (rest ++ x))) (tag_complete t g w (p ++ (rest ++ x)) tag)
-        ∙ rw (not_end w (payload_no_end g w p q), skip_complete c g w p (rest ++ x) q) refl
+  module _ (s : Sound) where
+    passed_meets : (f : ℕ) (bs : List ℕ) (t : ℕ × WireType × List ℕ) → tag_at bs ≡ Ok t → t.1 ≢ EndGroup → (r : Result (List ℕ) DecodeError) → skip_by inner t.0 t.1 t.2 ≡ r
+        → Meets Passes (Ends (EndsAt f) (Breaks f)) (passed r) tt bs
+    passed_meets f bs t e other (Ok mid) h =
+        let u = agree_ok (tag_at bs) t (tag_sound bs) e in
+        let p = agree_ok (skip_by inner t.0 t.1 t.2) mid (skip_sound s t.0 t.1 t.2) h in
+        (u.0 ++ p.0, (t.0, t.1, (u.0, p.0, u.1, p.1, refl)), u.2 ∙ ap (λ z. u.0 ++ z) p.2 ∙ sym (append_assoc u.0 p.0 mid), λ r. refl)
+    passed_meets f bs t e other (Err d) h =
+        let u = agree_ok (tag_at bs) t (tag_sound bs) e in
+        inr (inr (t.0, t.1, t.2, u, other, agree_err (skip_by inner t.0 t.1 t.2) d (skip_sound s t.0 t.1 t.2) h))
 
-    -- whole fields are passed
-    pass : (f : ℕ) (body x : List ℕ) → Join (SomeFieldOver G) body → fields_at inner f (body ++ x) ≡ fields_at inner f x
-    pass f body x none = refl
-    pass f body x (more first rest (g, w, (t, p, tag, q, e)) j) = pass_one f first rest x g w t p tag q e ∙ pass f rest x j
+    step_meets : (f : ℕ) (bs : List ℕ) (r : Result (ℕ × WireType × List ℕ) DecodeError) → tag_at bs ≡ r → Meets Passes (Ends (EndsAt f) (Breaks f)) (fields_step inner f r) tt bs
+    step_meets f bs (Ok t) e =
+        let u = agree_ok (tag_at bs) t (tag_sound bs) e in
+        if_meets Passes (Ends (EndsAt f) (Breaks f)) (is_end t.1) (if t.0 == f then Ok t.2 else Err (InvalidEndGroup t.0)) (passed (skip_by inner t.0 t.1 t.2)) tt bs
+        (λ last. let end : IsTag u.0 t.0 EndGroup = subst (λ w. IsTag u.0 t.0 w) (end_true t.1 last) u.1 in
+        (agree_if {Q = EndsAt f tt bs} {E = Breaks f tt bs} (t.0 == f)
+        (λ m. record { holds = (u.0, subst (λ g. IsTag u.0 g EndGroup) (eqb-true t.0 f m) end, u.2) })
+        (λ m. record { holds = inr (inl (t.0, t.2, (u.0, end, u.2), eqb-false t.0 f m, refl)) })).holds)
+        (λ other. passed_meets f bs t e (end_false t.1 other) (skip_by inner t.0 t.1 t.2) refl)
+    step_meets f bs (Err d) e = inl (agree_err (tag_at bs) d (tag_sound bs) e)
+
+    meets : (f : ℕ) (u : Unit {0}) (bs : List ℕ) → Meets Passes (Ends (EndsAt f) (Breaks f)) (field_step f u bs) u bs
+    meets f u bs = step_meets f bs (tag_at bs) refl
+
+    pub fields_turn : (f : ℕ) (bs : List ℕ) (r : Result (ℕ × WireType × List ℕ) DecodeError) → tag_at bs ≡ r → fields_at inner f bs ≡ step_then (λ _. fields_at inner f) (fields_step inner f r)
+    unfolding fields_at
+    fields_turn f bs r e =
+        upto_turn Passes (Ends (EndsAt f) (Breaks f)) some_field (field_step f) (Err UnexpectedEof) (meets f) tt bs
+        ∙ ap (λ z. step_then (λ _. fields_at inner f) (fields_step inner f z)) e
+
+    pub fields_sound : (f : ℕ) (bs : List ℕ) → Agrees (fields_at inner f bs) (λ rest. TakesFields f bs rest) (FieldsFault f bs)
+    unfolding fields_at
+    fields_sound f bs =
+        let all = upto_sound Passes (Ends (EndsAt f) (Breaks f)) some_field (field_step f) (Err UnexpectedEof) (meets f) tt bs in
+        agree_weaker (upto_agrees Passes (EndsAt f) (Breaks f) (scan (field_step f) (Err UnexpectedEof) tt bs) tt bs all)
+        (λ rest (u, mid, (ps, is, w), (t, tag, e)). (join ps, t, joined tt u ps w, tag, is ∙ ap (λ z. join ps ++ z) e))
+        (λ e (u, rest, (ps, is, w), x). (join ps, rest, joined tt u ps w, is, x))
+
+  module _ (s : Sound) (c : Complete) where
+    -- a whole field is passed
+    goes_on : (f : ℕ) (u v : Unit {0}) (p rest : List ℕ) → Passes u p v → field_step f u (p ++ rest) ≡ goes v rest (λ r. r)
+    goes_on f u v p rest (g, w, (t, q, tag, x, e)) =
+        ap (λ z. fields_step inner f (tag_at z)) (ap (λ z. z ++ rest) e ∙ append_assoc t q rest)
+        ∙ rw (tag_complete t g w (q ++ rest) tag, not_end w (payload_no_end g w q x), skip_complete c g w q rest x) refl
+
+    -- fields, and then what ends them
+    through : (f : ℕ) (bs body rest : List ℕ) (r : Result (List ℕ) DecodeError) → Join (SomeFieldOver G) body → bs ≡ body ++ rest → fields_step inner f (tag_at rest) ≡ ends r → fields_at inner f bs ≡ r
+    unfolding fields_at
+    through f bs body rest r j is end =
+        let q = pieces body j in
+        upto_complete Passes (Ends (EndsAt f) (Breaks f)) some_field (field_step f) (Err UnexpectedEof) (meets s f) (goes_on f) tt bs r (tt, rest, (q.0, is ∙ ap (λ z. z ++ rest) q.1, q.2), end)
 
     pub fields_complete : (f : ℕ) (bs rest : List ℕ) → TakesFields f bs rest → fields_at inner f bs ≡ Ok rest
-    fields_complete f bs rest (body, t, j, tag, e) =
-        ap (fields_at inner f) e ∙ pass f body (t ++ rest) j
-        ∙ fields_turn s f (t ++ rest) (Ok (f, EndGroup, rest)) (tag_complete t f EndGroup rest tag) ∙ rw (eq-eqb f f refl) refl
+    fields_complete f bs rest (body, t, j, tag, e) = through f bs body (t ++ rest) (Ok rest) j e (rw (tag_complete t f EndGroup rest tag, eq-eqb f f refl) refl)
 
-    at_fault : Faults → (f : ℕ) (bs : List ℕ) (e : DecodeError) → FieldFaultOver F f bs e → fields_at inner f bs ≡ Err e
-    at_fault d f bs e (inl x) = fields_turn s f bs (Err e) (tag_faulty bs e x)
-    at_fault d f bs e (inr (inl (g, rest, (t, tag, is), n, k))) =
-        fields_turn s f bs (Ok (g, EndGroup, rest)) (ap tag_at is ∙ tag_complete t g EndGroup rest tag) ∙ rw (ne_eqb g f n) (ap (λ x. Err x) (sym k))
-    at_fault d f bs e (inr (inr (g, w, rest, (t, tag, is), n, x))) =
-        fields_turn s f bs (Ok (g, w, rest)) (ap tag_at is ∙ tag_complete t g w rest tag) ∙ rw (not_end w n, skip_faulty d g w rest e x) refl
+    at_fault : Faults → (f : ℕ) (bs : List ℕ) (e : DecodeError) → FieldFaultOver F f bs e → fields_step inner f (tag_at bs) ≡ ends (Err e)
+    at_fault d f bs e (inl x) = rw (tag_faulty bs e x) refl
+    at_fault d f bs e (inr (inl (g, rest, (t, tag, is), n, k))) = rw (is, tag_complete t g EndGroup rest tag, ne_eqb g f n) (ap (λ x. ends (Err x)) (sym k))
+    at_fault d f bs e (inr (inr (g, w, rest, (t, tag, is), n, x))) = rw (is, tag_complete t g w rest tag, not_end w n, skip_faulty d g w rest e x) refl
 
     pub fields_faulty : Faults → (f : ℕ) (bs : List ℕ) (e : DecodeError) → FieldsFault f bs e → fields_at inner f bs ≡ Err e
-    fields_faulty d f bs e (body, rest, j, is, x) = ap (fields_at inner f) is ∙ pass f body rest j ∙ at_fault d f rest e x
+    fields_faulty d f bs e (body, rest, j, is, x) = through f bs body rest (Err e) j is (at_fault d f rest e x)
 
 pub group_sound : (d : ℕ) → Sound (group_at d) (Group d) (GroupFault d)
 unfolding group_at Group GroupFault
@@ -402,15 +414,6 @@ varint_less bs n rest e = let t = agree_ok (varint_at bs) (n, rest) (varint_soun
 pub ok_there : {A E : Type 0} (r : Result A E) → IsOk r → (x : A) × (r ≡ Ok x)
 ok_there (Ok x) h = (x, refl)
 ok_there (Err e) h = cc
-
-pub ok_same : {A : Type 0} {x y : A} → (let r : Result A DecodeError = Ok x in r ≡ Ok y) → x ≡ y
-ok_same e = cc
-
-pub err_same : {A : Type 0} {x y : DecodeError} → (let r : Result A DecodeError = Err x in r ≡ Err y) → x ≡ y
-err_same e = cc
-
-pub ok_no_err : {A : Type 0} {x : A} {y : DecodeError} → (let r : Result A DecodeError = Ok x in r ≡ Err y) → ⊥
-ok_no_err e = cc
 
 -- ---- no payload and no field begins another
 pub one_payload : (d f : ℕ) (w : WireType) (bs x y : List ℕ) → TakesPayload d f w bs x → TakesPayload d f w bs y → x ≡ y

@@ -1,8 +1,10 @@
 -- The lemmas that this crate hands out.
 pub mod DigitLemmas
+pub mod ReadVarintLemmas
 pub mod ShortestLemmas
 pub mod StepLemmas
 pub mod ScanLemmas
+pub mod SequenceLemmas
 pub mod ListLemmas
 pub mod VarintLemmas
 pub mod FieldLemmas

@@ -8,6 +8,16 @@ use Rattle.buffa_bytes.specs.declared.error.DecodeError.{DecodeError}
 use Rattle.buffa_bytes.specs.declared.error.DecodeError.TheVariants.{UnexpectedEof, VarintTooLong}
 use Rattle.buffa_bytes.specs.Front.{varint_within}
 
+-- answers and faults are told apart
+pub ok_same : {A : Type 0} {x y : A} → (let r : Result A DecodeError = Ok x in r ≡ Ok y) → x ≡ y
+ok_same e = cc
+
+pub err_same : {A : Type 0} {x y : DecodeError} → (let r : Result A DecodeError = Err x in r ≡ Err y) → x ≡ y
+err_same e = cc
+
+pub ok_no_err : {A : Type 0} {x : A} {y : DecodeError} → (let r : Result A DecodeError = Ok x in r ≡ Err y) → ⊥
+ok_no_err e = cc
+
 -- what holds of each answer, and of each fault
 pub record Agrees {A : Type 0} (r : Result A DecodeError) (P : A → Type 0) (F : DecodeError → Type 0) : Type 0 where
   pub holds : MatchResult r P F

@@ -10,6 +10,7 @@ pub mod Varint
 pub mod Join
 pub mod Number
 pub mod Scan
+pub mod Sequence
 pub mod Field
 pub mod Front
 pub mod Left

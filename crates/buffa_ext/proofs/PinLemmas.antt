@@ -15,7 +15,7 @@ use Rattle.buffa_ext.specs.MessageFacts.{all_merged, left_yes}
 use Rattle.buffa_ext.specs.Pinned.{ListIsExact, MergingIsPinned, RecordMergeIsPinned}
 use Rattle.std.proofs.lemmas.Option.{none-some, same_Some}
 use Rattle.std.proofs.lemmas.Bool.{false≢true}
-use Rattle.buffa_wire.proofs.SequenceLemmas.{heads, tails}
+use Rattle.buffa_bytes.proofs.SequenceLemmas.{heads, tails}
 use Rattle.buffa_wire.proofs.SpentLemmas.{not_lacked}
 
 -- ---- records that are merged

@@ -16,7 +16,7 @@ use Rattle.buffa_bytes.specs.declared.error.DecodeError.{DecodeError}
 use Rattle.buffa_bytes.specs.declared.wire_type.WireType.{WireType}
 use Rattle.buffa_bytes.specs.declared.wire_type.WireType.TheVariants.{LengthDelimited, Varint}
 use Rattle.buffa_map.specs.Codec.{value_at}
-use Rattle.buffa_wire.proofs.SequenceLemmas.{err_same}
+use Rattle.buffa_bytes.proofs.SequenceLemmas.{err_same}
 use Rattle.buffa_wire.proofs.SpentLemmas.{PaysAtMost_nothing}
 use Rattle.buffa_wire.specs.BudgetLeft.{BudgetLeft, Pays}
 use Rattle.buffa_wire.specs.ByField.{value_of}

@@ -13,7 +13,7 @@ use Rattle.buffa_bytes.proofs.FullLemmas.{payload_full}
 use Rattle.buffa_bytes.specs.Varint.{IsVarint, TakesVarint}
 use Rattle.buffa_bytes.specs.Gives.{FullOnlyIf}
 use Rattle.buffa_wire.proofs.MessageLemmas.{payload_no_limit}
-use Rattle.buffa_wire.proofs.SequenceLemmas.{err_same, ok_same}
+use Rattle.buffa_bytes.proofs.SequenceLemmas.{err_same, ok_same}
 use Rattle.buffa_wire.proofs.TakesLemmas.{full_weaker}
 use Rattle.buffa_bytes.specs.Front.{check_wire, skip_at, varint_at}
 use Rattle.buffa_bytes.specs.Gives.{◌>>=◌}

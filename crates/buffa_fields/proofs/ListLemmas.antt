@@ -12,7 +12,7 @@ use Rattle.buffa_bytes.specs.declared.wire_type.WireType.{WireType}
 use Rattle.buffa_bytes.specs.declared.wire_type.WireType.TheVariants.{LengthDelimited}
 use Rattle.buffa_wire.proofs.MessageLemmas.{NoLimit, length_no_limit, as_no_limit}
 use Rattle.buffa_wire.proofs.SpentLemmas.{PaysAtMost_nothing}
-use Rattle.buffa_wire.proofs.SequenceLemmas.{along_err, err_same, parse_keeps}
+use Rattle.buffa_bytes.proofs.SequenceLemmas.{along_err, err_same, parse_keeps}
 use Rattle.buffa_wire.specs.BudgetLeft.{BudgetLeft, nothing}
 use Rattle.buffa_bytes.specs.Gives.{◌>>=◌, FullOnlyIf, GivesUnlessFull}
 use Rattle.buffa_wire.specs.Message.{IsLimit}

@@ -9,11 +9,11 @@ use Rattle.buffa_bytes.specs.Field.{Group, PayloadOver, SomeFieldOver}
 use Rattle.buffa_bytes.specs.declared.error.DecodeError.{DecodeError}
 use Rattle.buffa_bytes.specs.declared.wire_type.WireType.{WireType}
 use Rattle.buffa_bytes.specs.declared.wire_type.WireType.TheVariants.{Varint, Fixed64, LengthDelimited, StartGroup, EndGroup, Fixed32}
-use Rattle.buffa_wire.proofs.SequenceLemmas.{ok_same}
+use Rattle.buffa_bytes.proofs.SequenceLemmas.{ok_same}
 use Rattle.buffa_wire.specs.Records.{bytes}
 use Rattle.buffa_bytes.specs.Join.{Join}
 use Rattle.buffa_bytes.specs.Join.Join.{none, more}
-use Rattle.buffa_wire.specs.Sequence.{ParsesEach, join}
+use Rattle.buffa_bytes.specs.Sequence.{ParsesEach, join}
 use Rattle.buffa_map.proofs.EntryLemmas.{entry_complete, entry_sound}
 use Rattle.buffa_map.specs.Codec.{Reading}
 use Rattle.buffa_map.specs.Entry.{IsCodecField, IsEntry, IsEntryField, blanks, entry_of}

@@ -22,7 +22,7 @@ use Rattle.buffa_wire.proofs.JoinLemmas.{payload_of_record, record_of_payload}
 use Rattle.buffa_wire.specs.Kept.{keep_need}
 use Rattle.buffa_fields.specs.Keep.{IsFieldThere, KeepTakesMemory, keep_takes}
 use Rattle.buffa_wire.specs.Takes.{IsTaken, Leads, Piece, Taker, Untaken, joined_fields}
-use Rattle.buffa_wire.proofs.SequenceLemmas.{err_same}
+use Rattle.buffa_bytes.proofs.SequenceLemmas.{err_same}
 use Rattle.buffa_wire.proofs.SpentLemmas.{is_there}
 use Rattle.buffa_fields.specs.Layout.{FieldIsRefused, IsPutBehind}
 use Rattle.buffa_bytes.specs.Gives.{FullOnlyIf}

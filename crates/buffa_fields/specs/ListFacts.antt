@@ -8,7 +8,7 @@ use Rattle.buffa_bytes.specs.Content.{Content, HasContent, content_at}
 use Rattle.buffa_bytes.specs.WireType.{same_wire}
 use Rattle.buffa_bytes.specs.declared.wire_type.WireType.{WireType}
 use Rattle.buffa_bytes.specs.declared.wire_type.WireType.TheVariants.{LengthDelimited}
-use Rattle.buffa_wire.proofs.SequenceLemmas.{along_none, along_ok}
+use Rattle.buffa_bytes.proofs.SequenceLemmas.{along_none, along_ok}
 use Rattle.buffa_bytes.specs.Field.{Payload}
 use Rattle.buffa_bytes.specs.Gives.{◌>>=◌}
 use Rattle.buffa_bytes.specs.Number.{IsNumber}

@@ -9,7 +9,7 @@ use Rattle.buffa_bytes.specs.Content.{content_at}
 use Rattle.buffa_bytes.specs.Gives.{◌>>=◌}
 use Rattle.buffa_bytes.specs.Front.{check_wire, delimited_at}
 use Rattle.buffa_wire.specs.Records.{Datum, bytes}
-use Rattle.buffa_wire.specs.Sequence.{parse_all}
+use Rattle.buffa_bytes.specs.Sequence.{parse_all}
 use Rattle.buffa_bytes.specs.WireType.{same_wire}
 use Rattle.buffa_map.specs.Codec.{Reading, value_at}
 use Rattle.buffa_wire.specs.ByField.{value_of}

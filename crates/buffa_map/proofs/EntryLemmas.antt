@@ -13,11 +13,11 @@ use Rattle.buffa_bytes.proofs.ContentLemmas.{content_sound, content_complete, co
 use Rattle.buffa_bytes.proofs.WireLemmas.{check_sound, check_same, check_differs}
 use Rattle.buffa_wire.specs.BudgetLeft.{BudgetLeft, Lacks, need_by, nothing}
 use Rattle.buffa_wire.proofs.SpentLemmas.{PaysAtMost_nothing, Pays_nothing}
-use Rattle.buffa_wire.specs.Sequence.{ParsesTo}
+use Rattle.buffa_bytes.specs.Sequence.{ParsesTo}
 use Rattle.buffa_map.specs.Codec.{Reading, RefusesValue, Spends, Tells, ValueFault, level, value_at, value_need}
 use Rattle.buffa_map.specs.Entry.{CodecFault, IsCodecField, codec_at, blanks, IsEntryField, EntryFieldFault, IsEntry, FaultOf, entry_field_at, entry_of}
 use Rattle.buffa_map.specs.declared.map_entry.MapEntry.{MapEntry}
-use Rattle.buffa_wire.proofs.SequenceLemmas.{Answers, answer, answers_as, along_sound, along_complete, along_faulty, ParsesTo-more}
+use Rattle.buffa_bytes.proofs.SequenceLemmas.{Answers, answer, answers_as, along_sound, along_complete, along_faulty, ParsesTo-more}
 
 -- ---- budgets
 -- what a codec spends, whether its payloads are nested or not

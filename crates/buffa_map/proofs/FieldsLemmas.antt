@@ -1,7 +1,7 @@
 -- A field of an entry that was merged, or refused, at each place where reading it ends; and the fields of an entry.
 use Rattle.std.proofs.Common.{arith, ◌≡◌, ◌≢◌, ◌+◌, ◌<◌, ◌≤◌, inl, inr, ℕ, Bool, false, List, [], Ok, Err, length, ap, refl, subst, sym, ◌∙◌}
 use Rattle.std.proofs.lemmas.List.{nil_from_length}
-use Rattle.buffa_wire.proofs.SequenceLemmas.{not_nil}
+use Rattle.buffa_bytes.proofs.SequenceLemmas.{not_nil}
 use Rattle.buffa_bytes.proofs.FieldLemmas.{tag_at_as}
 use Rattle.buffa_bytes.proofs.FullLemmas.{skip_no_full, tag_no_full}
 use Rattle.buffa_bytes.specs.declared.error.DecodeError.{DecodeError}
@@ -11,7 +11,7 @@ use Rattle.buffa_bytes.specs.Content.{Content}
 use Rattle.buffa_wire.specs.BudgetLeft.{BudgetLeft, Pays, PaysAtMost, nothing}
 use Rattle.buffa_bytes.specs.Front.{check_wire, skip_at, tag_at}
 use Rattle.buffa_bytes.proofs.WireLemmas.{checked_same, other_not_full}
-use Rattle.buffa_wire.specs.Sequence.{ParsesTo}
+use Rattle.buffa_bytes.specs.Sequence.{ParsesTo}
 use Rattle.buffa_map.specs.Codec.{Reading, RefusesValue, Spends, ReadingTakesMemory, is_known, value_at, value_need}
 use Rattle.buffa_map.specs.Entry.{EntryFieldFault, IsEntryField, blanks, need_at}
 use Rattle.buffa_map.specs.Fields.{EntryFieldTakesMemory, MergesEntryField, MergesFields, RefusesEntryField, RefusesFields}

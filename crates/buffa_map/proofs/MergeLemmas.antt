@@ -4,7 +4,7 @@ use Rattle.std.proofs.Common.{arith, ◌≡◌, ◌≢◌, ◌+◌, ◌<◌, ◌
 use Rattle.buffa_bytes.specs.declared.error.DecodeError.{DecodeError}
 use Rattle.buffa_bytes.specs.declared.error.DecodeError.TheVariants.{ElementMemoryLimitExceeded, OutOfMemory, UnexpectedEof, UnknownFieldLimitExceeded}
 use Rattle.buffa_bytes.specs.Left.{past_no_delimited}
-use Rattle.buffa_wire.proofs.SequenceLemmas.{ok_no_err}
+use Rattle.buffa_bytes.proofs.SequenceLemmas.{ok_no_err}
 use Rattle.buffa_wire.specs.BudgetLeft.{BudgetLeft, Lacks, need_by}
 use Rattle.buffa_bytes.specs.Front.{delimited_at, taken, varint_at}
 use Rattle.buffa_bytes.proofs.DelimitedLemmas.{taken_sound}

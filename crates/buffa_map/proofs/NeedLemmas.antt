@@ -18,7 +18,7 @@ use Rattle.buffa_bytes.proofs.ScanLemmas.{Leads, Shortens, scan_leads, scan_step
 use Rattle.buffa_bytes.specs.Content.{Content}
 use Rattle.buffa_bytes.proofs.WireLemmas.{check_same}
 use Rattle.buffa_wire.specs.ByField.{costs}
-use Rattle.buffa_wire.specs.Sequence.{ParsesTo}
+use Rattle.buffa_bytes.specs.Sequence.{ParsesTo}
 use Rattle.buffa_map.specs.Codec.{Reading, Tells, ValueFault, level, value_at, value_need}
 use Rattle.buffa_map.specs.Entry.{CodecFault, EntryFault, EntryOf, FaultOf, EntryFieldFault, IsEntry, IsEntryField, blanks, codec_need, entry_field_at, field_need, inner_need, need_at, need_of}
 use Rattle.buffa_map.specs.declared.map_entry.MapEntry.{MapEntry}

@@ -10,7 +10,7 @@ use Rattle.buffa_bytes.specs.declared.error.DecodeError.TheVariants as decoding
 use Rattle.buffa_bytes.specs.declared.error.EncodeError.{EncodeError}
 use Rattle.buffa_bytes.specs.declared.error.EncodeError.TheVariants.{GroupRefused, MessageTooLarge, OutOfMemory}
 use Rattle.buffa_bytes.specs.declared.wire_type.WireType.TheVariants.{LengthDelimited}
-use Rattle.buffa_wire.proofs.SequenceLemmas.{ok_no_err, heads, tails}
+use Rattle.buffa_bytes.proofs.SequenceLemmas.{ok_no_err, heads, tails}
 use Rattle.buffa_wire.specs.BudgetLeft.{BudgetLeft, nothing}
 use Rattle.buffa_wire.specs.Cache.{Cache}
 use Rattle.buffa_bytes.specs.Content.{Content}

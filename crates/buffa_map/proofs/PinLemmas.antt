@@ -7,7 +7,7 @@ use Rattle.buffa_bytes.proofs.StepLemmas.{agree_ok}
 use Rattle.buffa_bytes.specs.declared.error.DecodeError.{DecodeError}
 use Rattle.buffa_bytes.specs.declared.error.DecodeError.TheVariants.{OutOfMemory}
 use Rattle.buffa_bytes.specs.declared.wire_type.WireType.TheVariants.{LengthDelimited}
-use Rattle.buffa_wire.proofs.SequenceLemmas.{ok_no_err, ok_same}
+use Rattle.buffa_bytes.proofs.SequenceLemmas.{ok_no_err, ok_same}
 use Rattle.buffa_wire.proofs.SpentLemmas.{not_lacked, one_left, same_left}
 use Rattle.buffa_bytes.specs.Left.{past_no_tag}
 use Rattle.buffa_wire.specs.BudgetLeft.{BudgetLeft, Pays, nothing, plus, unknown_fields}

@@ -16,7 +16,7 @@ use Rattle.buffa_bytes.specs.Varint.{varint_encoding}
 use Rattle.buffa_wire.specs.BudgetLeft.{BudgetLeft, nothing, plus}
 use Rattle.buffa_bytes.specs.declared.wire_type.WireType.TheVariants.{LengthDelimited}
 use Rattle.buffa_bytes.proofs.VarintLemmas.{IsVarint-varint_encoding}
-use Rattle.buffa_wire.specs.Sequence.{ParsesEach}
+use Rattle.buffa_bytes.specs.Sequence.{ParsesEach}
 use Rattle.buffa_map.specs.Codec.{Reading, Writing}
 use Rattle.buffa_map.specs.Entry.{IsEntry, IsEntryField, blanks}
 use Rattle.buffa_map.specs.EnumFacts.{closed_reads_back}
@@ -26,7 +26,7 @@ use Rattle.buffa_map.specs.Rewrite.{IsOrderedClass, IsRewrite, KeepsMeaning, Ord
 use Rattle.buffa_map.specs.Run.{fold_entries, undeclared, Run, EntryRecord, inner_needs, undeclared_records}
 use Rattle.buffa_map.specs.Encoding.{AllHold, field_encoding}
 use Rattle.buffa_map.specs.declared.map_entry.MapEntry.{MapEntry}
-use Rattle.buffa_wire.proofs.SequenceLemmas.{ok_same}
+use Rattle.buffa_bytes.proofs.SequenceLemmas.{ok_same}
 use Rattle.buffa_map.proofs.BackLemmas.{as_record, plain_back, run_back}
 use Rattle.buffa_bytes.proofs.FieldLemmas.{is_tag}
 use Rattle.buffa_map.proofs.ClassLemmas.{AreNew, IsLater, IsOrderedKinds, Kind, exact, first_key, older, newer, kept_meaning, last_kind, later, nothing_known, put_all}

@@ -16,14 +16,14 @@ use Rattle.buffa_wire.specs.BudgetLeft.{BudgetLeft, Lacks, Pays, nothing, plus, 
 use Rattle.buffa_bytes.specs.Content.{Content}
 use Rattle.buffa_bytes.proofs.WireLemmas.{check_sound, check_differs, checked_same, checked_other}
 use Rattle.buffa_wire.specs.Records.{Datum, bytes}
-use Rattle.buffa_wire.specs.Sequence.{join, ParsesEach}
+use Rattle.buffa_bytes.specs.Sequence.{join, ParsesEach}
 use Rattle.buffa_map.specs.Codec.{Reading}
 use Rattle.buffa_map.specs.Entry.{IsEntry, FaultOf, EntryOf, EntryFault, blanks, inner_need, need_at, need_of}
 use Rattle.buffa_map.specs.Pairs.{InOrder, put, SamePairs}
 use Rattle.buffa_map.specs.Run.{EntryRecord, IsRecord, Run, ArePaid, RecordFault, RunFault, entry_in, inner_needs, lacks, record_need, record_at, after_entry, next_record, run_of, step, fold_entries, undeclared, undeclared_record, undeclared_records}
 use Rattle.buffa_map.specs.Merge.{Rules, kept_of_entry, kept_of_run}
 use Rattle.buffa_map.specs.declared.map_entry.MapEntry.{MapEntry}
-use Rattle.buffa_wire.proofs.SequenceLemmas.{Answers, answer, answers_as, along_sound, along_complete, along_faulty}
+use Rattle.buffa_bytes.proofs.SequenceLemmas.{Answers, answer, answers_as, along_sound, along_complete, along_faulty}
 use Rattle.buffa_map.proofs.EntryLemmas.{Plain, entry_sound, entry_complete, entry_faulty}
 use Rattle.buffa_map.proofs.NeedLemmas.{need_free}
 use Rattle.buffa_map.proofs.PutLemmas.{SamePairs-put}

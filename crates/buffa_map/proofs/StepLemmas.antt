@@ -9,7 +9,7 @@ use Rattle.buffa_bytes.specs.declared.error.DecodeError.TheVariants.{OutOfMemory
 use Rattle.buffa_bytes.specs.declared.wire_type.WireType.{WireType}
 use Rattle.buffa_bytes.specs.declared.wire_type.WireType.TheVariants.{LengthDelimited}
 use Rattle.buffa_bytes.specs.Left.{past_no_tag, past_no_delimited}
-use Rattle.buffa_wire.proofs.SequenceLemmas.{not_nil, ok_no_err}
+use Rattle.buffa_bytes.proofs.SequenceLemmas.{not_nil, ok_no_err}
 use Rattle.buffa_wire.specs.BudgetLeft.{BudgetLeft}
 use Rattle.buffa_bytes.specs.Front.{check_wire, delimited_at, tag_at}
 use Rattle.buffa_map.specs.Merge.{MergesEntry, ReadsRun, RefusesEntry, Rules, State, RefusesRun, kept_of_run, unknown_cost}

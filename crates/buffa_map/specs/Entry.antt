@@ -13,7 +13,7 @@ use Rattle.buffa_bytes.specs.declared.error.DecodeError.{DecodeError}
 use Rattle.buffa_bytes.specs.declared.error.DecodeError.TheVariants.{ElementMemoryLimitExceeded, UnknownFieldLimitExceeded, WireTypeMismatch}
 use Rattle.buffa_wire.specs.BudgetLeft.{BudgetLeft, Lacks, need_by, nothing, plus, units}
 use Rattle.buffa_wire.specs.ByField.{costs}
-use Rattle.buffa_wire.specs.Sequence.{ParsesTo, ParseStops, parse_all}
+use Rattle.buffa_bytes.specs.Sequence.{ParsesTo, ParseStops, parse_all}
 use Rattle.buffa_map.specs.Codec.{Reading, ValueFault, level, value_at, value_need}
 use Rattle.buffa_map.specs.declared.map_entry.MapEntry.{MapEntry}
 

@@ -4,7 +4,7 @@ use Rattle.buffa_bytes.specs.declared.error.DecodeError.{DecodeError}
 use Rattle.buffa_bytes.specs.declared.error.DecodeError.TheVariants.{OutOfMemory}
 use Rattle.buffa_wire.specs.BudgetLeft.{Lacks, BudgetLeft, Pays, PaysAtMost}
 use Rattle.buffa_bytes.specs.Front.{tag_at}
-use Rattle.buffa_wire.specs.Sequence.{ParseStops}
+use Rattle.buffa_bytes.specs.Sequence.{ParseStops}
 use Rattle.buffa_map.specs.Codec.{Reading, ReadingTakesMemory}
 use Rattle.buffa_map.specs.Entry.{FaultOf, EntryFieldFault, IsEntry, IsEntryField, blanks, entry_field_at, field_need, need_at}
 use Rattle.buffa_map.specs.declared.map_entry.MapEntry.{MapEntry}

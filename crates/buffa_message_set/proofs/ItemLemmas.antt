@@ -23,9 +23,9 @@ use Rattle.buffa_bytes.proofs.FullLemmas.{skip_no_full}
 use Rattle.buffa_bytes.proofs.VarintLemmas.{IsVarint-varint_encoding, varint_complete, varint_faulty, varint_sound}
 use Rattle.buffa_bytes.specs.Gives.{FullOnlyIf, Gives}
 use Rattle.buffa_bytes.specs.Unread.{IsFrontOf}
-use Rattle.buffa_wire.specs.Sequence.{ParsesEach, ParsesTo, join}
+use Rattle.buffa_bytes.specs.Sequence.{ParsesEach, ParsesTo, join}
 use Rattle.buffa_bytes.proofs.LendLemmas.{delimited_front}
-use Rattle.buffa_wire.proofs.SequenceLemmas.{Ends, Meets, ParsesTo-more, UpTo, if_meets, ok_same, parsed_meets, upto_agrees, upto_complete, upto_sound}
+use Rattle.buffa_bytes.proofs.SequenceLemmas.{Ends, Meets, ParsesTo-more, UpTo, if_meets, ok_same, parsed_meets, upto_agrees, upto_complete, upto_sound}
 use Rattle.buffa_message_set.specs.Item.{BytesAt, EndFault, ItemFieldFault, HasMessage, IsItemField, IsMessageAt, IsOther, IsOutOfRange, IsTypeId, Item, ItemFault, Reaches, Said, TakesItem, TypeIdFault, appended_at, body_encoding, ends_item, ended, item_field_at, item_at, item_from, item_step, said, says, type_id_at, unsaid}
 
 -- ---- numbers and wire types that are looked for

@@ -8,7 +8,7 @@ use Rattle.buffa_bytes.specs.declared.wire_type.WireType.TheVariants.{StartGroup
 use Rattle.buffa_bytes.proofs.StepLemmas.{agree_err, agree_ok}
 use Rattle.buffa_wire.specs.BudgetLeft.{BudgetLeft}
 use Rattle.buffa_bytes.specs.Values.{tag_encoding}
-use Rattle.buffa_wire.proofs.SequenceLemmas.{ok_same}
+use Rattle.buffa_bytes.proofs.SequenceLemmas.{ok_same}
 use Rattle.buffa_wire.proofs.SpentLemmas.{same_left}
 use Rattle.buffa_message_set.specs.Item.{IsTypeId, ItemFault, SpendsUnknown, TakesItem, body_encoding, item_at, item_in, item_encoding}
 use Rattle.buffa_message_set.specs.Pinned.{GivesItem, ItemIsPinned, WrittenItemIsPinned}

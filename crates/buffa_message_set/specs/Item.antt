@@ -15,7 +15,7 @@ use Rattle.buffa_bytes.specs.declared.wire_type.WireType.TheVariants.{Varint, Le
 use Rattle.buffa_bytes.specs.declared.error.DecodeError.{DecodeError}
 use Rattle.buffa_bytes.specs.declared.error.DecodeError.TheVariants.{InvalidMessageSet, UnexpectedEof, UnknownFieldLimitExceeded}
 use Rattle.buffa_bytes.specs.declared.error.MessageSetFault.TheVariants.{MissingTypeId, TypeIdOutOfRange}
-use Rattle.buffa_wire.specs.Sequence.{ParsesTo}
+use Rattle.buffa_bytes.specs.Sequence.{ParsesTo}
 use Rattle.buffa_message_set.specs.declared.message_set.ItemParts.{ItemParts}
 
 -- the numbers that a type id may be, and the others

@@ -13,8 +13,8 @@ use Rattle.buffa_bytes.specs.declared.error.DecodeError.{DecodeError}
 use Rattle.buffa_bytes.proofs.StepLemmas.{Agrees, agree_bind, agree_err, agree_ok, agree_weaker}
 use Rattle.buffa_bytes.proofs.FieldLemmas.{tag_complete, tag_some, tag_sound}
 use Rattle.buffa_wire.proofs.MessageLemmas.{NoLimit, tag_no_limit}
-use Rattle.buffa_wire.specs.Sequence.{parse_all}
-use Rattle.buffa_wire.proofs.SequenceLemmas.{Falls, along_err, along_none, along_ok, ok_same, parse_leads}
+use Rattle.buffa_bytes.specs.Sequence.{parse_all}
+use Rattle.buffa_bytes.proofs.SequenceLemmas.{Falls, along_err, along_none, along_ok, ok_same, parse_leads}
 use Rattle.buffa_wire.specs.ByField.{FieldReader, merged_by, next_at, value_of}
 
 pub some_of : {A : Type 0} (r : Result A DecodeError) (w : A) → value_of r ≡ Some w → r ≡ Ok w

@@ -14,7 +14,7 @@ use Rattle.buffa_bytes.specs.declared.error.DecodeError.TheVariants as error
 use Rattle.buffa_wire.proofs.JoinLemmas.{record_of_payload}
 use Rattle.buffa_wire.proofs.LoopLemmas.{field_is_read, field_refused, field_taken}
 use Rattle.buffa_wire.proofs.MessageLemmas.{NoLimit, no_limit}
-use Rattle.buffa_wire.proofs.SequenceLemmas.{ok_same}
+use Rattle.buffa_bytes.proofs.SequenceLemmas.{ok_same}
 use Rattle.buffa_wire.specs.BudgetLeft.{unknown_fields}
 use Rattle.buffa_wire.specs.Kept.{had_enough, keep_need, kept_record_at, least, more_left}
 use Rattle.buffa_wire.specs.Message.{IsLimit}

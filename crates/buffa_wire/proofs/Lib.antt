@@ -11,7 +11,6 @@ pub mod InsideLemmas
 pub mod PassLemmas
 mod LeaveLemmas
 pub mod SpentLemmas
-pub mod SequenceLemmas
 pub mod ByFieldLemmas
 pub mod CostLemmas
 pub mod TakesLemmas

@@ -13,7 +13,7 @@ use Rattle.buffa_wire.specs.Encoding.{wire_of}
 use Rattle.buffa_wire.specs.Parse.{Parse, GroupRecordsFault, TakesField, FieldFault, RecordsFault, field_count}
 use Rattle.buffa_wire.specs.RecordReading.{field_at, field_by, group_records_at, group_records_behind, list_at, payload_by, plain_at, record_next, record_step, records_at, records_behind, GroupReader}
 use Rattle.buffa_wire.proofs.ReadLemmas.{Group, closes_no, closes_yes, field_complete, field_faulty, field_sound, group_complete, group_faulty, group_sound, group_turn, next_falls, records_complete_in, records_faulty_in, records_sound_in}
-use Rattle.buffa_wire.proofs.SequenceLemmas.{Falls, along_err, along_none, along_ok}
+use Rattle.buffa_bytes.proofs.SequenceLemmas.{Falls, along_err, along_none, along_ok}
 use Rattle.buffa_bytes.proofs.FieldLemmas.{not_end}
 use Rattle.std.proofs.lemmas.Bool.{eq-eqb, ne_eqb}
 use Rattle.buffa_wire.proofs.RecordLemmas.{list-records, records-list}

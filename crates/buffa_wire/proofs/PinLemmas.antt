@@ -18,7 +18,7 @@ use Rattle.buffa_wire.specs.Pinned.{done, refusal, BudgetIsPinned, FieldIsPinned
 use Rattle.buffa_wire.specs.Records.{list_of, records_of}
 use Rattle.buffa_wire.proofs.LoopLemmas.{field_refused, field_taken, list_refused, list_taken}
 use Rattle.buffa_wire.proofs.RecordLemmas.{list-records}
-use Rattle.buffa_wire.proofs.SequenceLemmas.{ok_same}
+use Rattle.buffa_bytes.proofs.SequenceLemmas.{ok_same}
 use Rattle.buffa_wire.proofs.SpentLemmas.{not_lacked, one_left}
 use Rattle.std.proofs.lemmas.Bool.{cases_lt}
 use Rattle.std.proofs.lemmas.Option.{same_Some}

@@ -19,12 +19,12 @@ use Rattle.buffa_bytes.proofs.DelimitedLemmas.{taken_sound, taken_complete, take
 use Rattle.buffa_bytes.proofs.FieldLemmas.{tag_sound, tag_complete, tag_faulty, tag_read, tag_some, takes_tag_as, not_end, end_false, end_true}
 use Rattle.buffa_wire.specs.Records.{Datum, varint, fixed32, fixed64, bytes, group, Records, no_records, one, list_of, records_of}
 use Rattle.buffa_wire.specs.Encoding.{wire_of}
-use Rattle.buffa_wire.specs.Sequence.{ParsesEach, ParsesTo, join}
+use Rattle.buffa_bytes.specs.Sequence.{ParsesEach, ParsesTo, join}
 use Rattle.buffa_wire.specs.Parse.{FieldOf, Parse, IsPayload, field_count, fields_inside, TakesField, TakesRecords, InsideFault, FieldFaultOf, NextFault, GroupRecordsFault}
 use Rattle.buffa_wire.specs.RecordReading.{GroupReader, HaveRead, field_by, group_records_at, group_records_behind, payload_by, plain_at, record_next, record_step, record_then, records_behind}
 use Rattle.buffa_wire.proofs.JoinLemmas.{one_deeper}
 use Rattle.buffa_wire.proofs.RecordLemmas.{records-list}
-use Rattle.buffa_wire.proofs.SequenceLemmas.{Answers, Ends, Falls, Meets, UpTo, along_complete, along_faulty, along_sound, answer, has_byte, if_meets, not_nil, parsed_meets, upto_agrees, upto_complete, upto_sound, upto_turn}
+use Rattle.buffa_bytes.proofs.SequenceLemmas.{Answers, Ends, Falls, Meets, UpTo, along_complete, along_faulty, along_sound, answer, has_byte, if_meets, not_nil, parsed_meets, upto_agrees, upto_complete, upto_sound, upto_turn}
 
 -- ---- wire types
 pub payload_no_end : (x : Datum) → wire_of x ≢ wire.EndGroup

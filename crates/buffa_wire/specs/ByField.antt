@@ -8,7 +8,7 @@ use Rattle.buffa_bytes.specs.Scan.Scanned.{ends, goes}
 use Rattle.buffa_bytes.specs.declared.wire_type.WireType.{WireType}
 use Rattle.buffa_bytes.specs.declared.error.DecodeError.{DecodeError}
 use Rattle.buffa_wire.specs.BudgetLeft.{BudgetLeft, nothing, plus}
-use Rattle.buffa_wire.specs.Sequence.{parse_all}
+use Rattle.buffa_bytes.specs.Sequence.{parse_all}
 
 -- What the field whose tag, of a number and a wire type, was read makes of a value, and what follows the field.
 abbrev pub FieldReader : Type 0 → Type 0

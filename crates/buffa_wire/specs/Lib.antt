@@ -14,7 +14,6 @@ pub mod RecordReading
 pub mod Found
 pub mod ScalarFacts
 pub mod Enums
-pub mod Sequence
 pub mod ByField
 pub mod Takes
 pub mod Kept

@@ -12,7 +12,7 @@ use Rattle.buffa_bytes.specs.Scan.Scanned.{ends}
 use Rattle.buffa_bytes.specs.Scalars.{fixed32_at, fixed64_at}
 use Rattle.buffa_wire.specs.declared.context.DecodeContext.{DecodeContext}
 use Rattle.buffa_wire.specs.Records.{Datum, varint, fixed32, fixed64, bytes, group, Records, list_of, records_of}
-use Rattle.buffa_wire.specs.Sequence.{parse_all}
+use Rattle.buffa_bytes.specs.Sequence.{parse_all}
 
 -- what reads the rest of a group: of the unknown fields that are left, the group's number, and the bytes
 abbrev pub GroupReader : Type 0

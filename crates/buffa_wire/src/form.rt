@@ -14,9 +14,10 @@ ghost use Rattle.buffa_bytes.specs.Unread.{IsTailOf};
 ghost use Rattle.buffa_bytes.specs.Written.{UsesRoom, Writes};
 
 use crate::sealed::Sealed;
-use crate::short::{read_varint, write_varint};
+use crate::short::write_varint;
 use crate::unknown_fields::UnknownFieldData;
 use buffa_bytes::types::{decode_fixed32, decode_fixed64, encode_fixed32, encode_fixed64};
+use buffa_bytes::varint::read_varint;
 use buffa_bytes::{Buf, DecodeError, EncodeError, EncodeSink, WireType, varint_len};
 
 /// A spelling of numbers.

@@ -1,59 +1,14 @@
-//! Short varints, read and written in one step.
+//! Short varints, written in one step.
 //!
-//! Most numbers have one to three bytes. Where these lie together they are looked at where they lie, and a sink is
-//! handed them at once.
+//! Most numbers have one to three bytes, and a sink is handed these at once.
 
-ghost use Rattle.std.specs.Prelude.{◌≡◌, ◌≤◌, ◌++◌, Ok, drop, length, IfSome, OnErr};
-ghost use Rattle.buffa_bytes.specs.Gives.{Gives};
-ghost use Rattle.buffa_bytes.specs.Left.{past_no_varint};
-ghost use Rattle.buffa_bytes.specs.Front.{varint_at};
+ghost use Rattle.std.specs.Prelude.{◌++◌};
 ghost use Rattle.buffa_bytes.specs.Scalars.{fixed32_encoding, fixed64_encoding};
-ghost use Rattle.buffa_bytes.specs.Unread.{IsTailOf};
 ghost use Rattle.buffa_bytes.specs.Values.{delimited_encoding};
 ghost use Rattle.buffa_bytes.specs.Varint.{varint_encoding};
 ghost use Rattle.buffa_bytes.specs.Written.{UsesRoom, Writes};
 
-use buffa_bytes::{Buf, DecodeError, EncodeError, EncodeSink, decode_varint, encode_varint, types};
-
-// The varint at the front, where it has one to three bytes, and how many they are.
-#[inline(always)]
-fn short_at(bytes: &[u8]) -> Option<(u64, usize)>
-    ensures reads { IfSome result (λ r. varint_at bytes.now ≡ Ok (r.0, drop r.1 bytes.now)) }
-    ensures within { IfSome result (λ r. r.1 ≤ length bytes.now) }
-{
-    let (first, rest) = bytes.split_first()?;
-    if *first < 128 {
-        return Some((u64::from(*first), 1));
-    }
-    let (second, rest) = rest.split_first()?;
-    if *second < 128 {
-        return Some((u64::from(*first % 128) + u64::from(*second) * 128, 2));
-    }
-    let (third, _) = rest.split_first()?;
-    if *third < 128 {
-        let low = u64::from(*first % 128) + u64::from(*second % 128) * 128;
-        return Some((low + u64::from(*third) * 16_384, 3));
-    }
-    None
-}
-
-/// Reads a varint, as [`decode_varint`] does.
-///
-/// # Errors
-/// Those of [`decode_varint`].
-#[inline(always)]
-pub(crate) fn read_varint<B: Buf>(buf: &mut B) -> Result<u64, DecodeError>
-    ensures reads { Gives (λ n. (n, B.unread buf.new)) result (varint_at (B.unread buf.old)) }
-    ensures kept { B.beyond buf.new ≡ B.beyond buf.old }
-    ensures left { OnErr result (B.unread buf.new ≡ past_no_varint (B.unread buf.old)) }
-    ensures tail { IsTailOf (B.unread buf.new) (B.unread buf.old) }
-{
-    let Some((n, len)) = short_at(buf.chunk()) else {
-        return decode_varint(buf);
-    };
-    buf.advance(len);
-    Ok(n)
-}
+use buffa_bytes::{EncodeError, EncodeSink, encode_varint, types};
 
 /// Writes a varint, as [`encode_varint`] does.
 ///

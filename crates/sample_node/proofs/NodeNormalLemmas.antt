@@ -28,14 +28,14 @@ use Rattle.buffa_bytes.specs.declared.error.DecodeError.{DecodeError}
 use Rattle.buffa_bytes.specs.declared.error.DecodeError.TheVariants.{InvalidUtf8}
 use Rattle.buffa_bytes.specs.declared.wire_type.WireType.TheVariants.{LengthDelimited}
 use Rattle.buffa_wire.proofs.JoinLemmas.{join_records, payload_of_record}
-use Rattle.buffa_wire.proofs.SequenceLemmas.{ok_same}
+use Rattle.buffa_bytes.proofs.SequenceLemmas.{ok_same}
 use Rattle.buffa_wire.proofs.TakesLemmas.{merged_of_fields, merged_of_none}
 use Rattle.buffa_wire.specs.BudgetLeft.{nothing}
 use Rattle.buffa_wire.specs.Encoding.{wire_of}
 use Rattle.buffa_wire.specs.Message.{merged_in}
 use Rattle.buffa_wire.specs.Parse.{Fits, FitsDatum, IsPayload, Parse}
 use Rattle.buffa_wire.specs.Records.{Datum, Records, bytes, fixed32, fixed64, group, no_records, one, varint}
-use Rattle.buffa_wire.specs.Sequence.{ParsesEach, join}
+use Rattle.buffa_bytes.specs.Sequence.{ParsesEach, join}
 use Rattle.buffa_wire.specs.Takes.{Taker, merged_of}
 use Rattle.buffa_map.proofs.EntryLemmas.{entry_sound}
 use Rattle.buffa_map.proofs.LowLemmas.{first_taken}

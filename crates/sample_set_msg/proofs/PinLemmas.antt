@@ -9,7 +9,7 @@ use Rattle.buffa_bytes.specs.Join.Join.{none, more}
 use Rattle.buffa_bytes.specs.Front.{tag_at}
 use Rattle.buffa_bytes.specs.declared.wire_type.WireType.{WireType}
 use Rattle.buffa_bytes.specs.declared.error.DecodeError.{DecodeError}
-use Rattle.buffa_wire.proofs.SequenceLemmas.{err_same, ok_same}
+use Rattle.buffa_bytes.proofs.SequenceLemmas.{err_same, ok_same}
 use Rattle.buffa_wire.proofs.SpentLemmas.{same_left}
 use Rattle.buffa_wire.specs.BudgetLeft.{BudgetLeft, Lacks, Pays, plus}
 use Rattle.buffa_wire.specs.Records.{Datum}

@@ -12,7 +12,7 @@ use Rattle.buffa_bytes.specs.Gives.{◌>>=◌, FullOnlyIf, Gives}
 use Rattle.buffa_bytes.specs.Front.{check_wire, varint_at}
 use Rattle.buffa_bytes.specs.Values.{int32_of}
 use Rattle.buffa_bytes.proofs.VarintLemmas.{varint_complete}
-use Rattle.buffa_wire.proofs.SequenceLemmas.{err_same}
+use Rattle.buffa_bytes.proofs.SequenceLemmas.{err_same}
 use Rattle.buffa_wire.specs.BudgetLeft.{BudgetLeft, nothing}
 use Rattle.buffa_wire.specs.Records.{varint}
 use Rattle.buffa_fields.specs.BlankFacts.{is_zero}

@@ -20,7 +20,7 @@ use Rattle.buffa_map.specs.Scalars.{int32_reading}
 use Rattle.buffa_map.specs.Children.{ChildCost, ChildMeaning, child_reading, meant_children, meant_children-is}
 use Rattle.buffa_map.specs.MessageFacts.{meant_known}
 use Rattle.buffa_map.specs.Pairs.{SamePairs}
-use Rattle.buffa_wire.specs.Sequence.{ParsesEach}
+use Rattle.buffa_bytes.specs.Sequence.{ParsesEach}
 use Rattle.buffa_wire.specs.Pinned.{done, refusal}
 use Rattle.buffa_map.specs.Run.{step}
 use Rattle.buffa_map.specs.declared.map_entry.MapEntry.{MapEntry}

@@ -12,7 +12,7 @@ use Rattle.buffa_bytes.proofs.DelimitedLemmas.{delimited_sound}
 use Rattle.buffa_bytes.proofs.StepLemmas.{Agrees, agree_bind, agree_if, agree_ok}
 use Rattle.buffa_bytes.proofs.FieldLemmas.{payload_sound}
 use Rattle.buffa_bytes.proofs.VarintLemmas.{varint_sound}
-use Rattle.buffa_wire.proofs.SequenceLemmas.{ok_same}
+use Rattle.buffa_bytes.proofs.SequenceLemmas.{ok_same}
 use Rattle.buffa_map.specs.Scalars.{int32_reading}
 use Rattle.buffa_map.specs.Children.{AreNormalChildren, ChildMeaning, Children, child_reading, children_in, children_in-listed, listed, listed-children_in}
 use Rattle.buffa_map.specs.Message.{meant}
@@ -22,7 +22,7 @@ use Rattle.buffa_bytes.specs.declared.wire_type.WireType.TheVariants.{LengthDeli
 use Rattle.buffa_bytes.specs.Content.{bytes_in, number_in}
 use Rattle.buffa_wire.specs.Message.{merged_in}
 use Rattle.buffa_wire.specs.BudgetLeft.{nothing}
-use Rattle.buffa_wire.specs.Sequence.{ParsesEach}
+use Rattle.buffa_bytes.specs.Sequence.{ParsesEach}
 use Rattle.buffa_bytes.proofs.ScalarLemmas.{int32_fits}
 use Rattle.buffa_bytes.specs.Values.{int32_at, int32_of}
 use Rattle.buffa_bytes.proofs.WireLemmas.{check_sound}

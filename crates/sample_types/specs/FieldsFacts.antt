@@ -19,8 +19,8 @@ use Rattle.buffa_bytes.proofs.ShortestLemmas.{varint_encoding-last}
 use Rattle.buffa_bytes.proofs.VarintLemmas.{IsVarint-varint_encoding, varint_complete, varint_sound}
 use Rattle.buffa_bytes.proofs.WireLemmas.{check_sound}
 use Rattle.buffa_wire.proofs.MessageLemmas.{NoLimit, payload_no_limit, var_no_limit}
-use Rattle.buffa_wire.specs.Sequence.{parse_all}
-use Rattle.buffa_wire.proofs.SequenceLemmas.{ok_same, parse_keeps}
+use Rattle.buffa_bytes.specs.Sequence.{parse_all}
+use Rattle.buffa_bytes.proofs.SequenceLemmas.{ok_same, parse_keeps}
 use Rattle.buffa_wire.specs.ByField.{FieldReader, merged_by, next_at}
 use Rattle.buffa_wire.proofs.ByFieldLemmas.{IsSame, IsSound, Same, read, some_of}
 use Rattle.sample_types.specs.Fields.{int32_field, number_records, number_encoding, skipped_field, value_field}

@@ -16,7 +16,7 @@ use Rattle.buffa_map.proofs.ChildrenLemmas.{child_limits, children_encoding_reco
 use Rattle.buffa_map.specs.Scalars.{int32_reading}
 use Rattle.buffa_map.specs.Children.{ChildCost, ChildMeaning, child_reading, children_encoding, children_records}
 use Rattle.buffa_bytes.specs.Varint.{IsVarint}
-use Rattle.buffa_wire.proofs.SequenceLemmas.{ok_same}
+use Rattle.buffa_bytes.proofs.SequenceLemmas.{ok_same}
 use Rattle.buffa_map.proofs.EntryLemmas.{entry_sound}
 use Rattle.buffa_map.specs.Entry.{FaultOf, entry_of, need_of}
 use Rattle.buffa_map.specs.declared.map_entry.MapEntry.{MapEntry}

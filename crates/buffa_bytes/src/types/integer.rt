@@ -15,7 +15,7 @@ use crate::sink::EncodeSink;
 use crate::types::zigzag::{
     zigzag_decode_i32, zigzag_decode_i64, zigzag_encode_i32, zigzag_encode_i64,
 };
-use crate::varint::{decode_varint, encode_varint, varint_len};
+use crate::varint::{encode_varint, read_varint, varint_len};
 
 /// The length of an int32's encoding: 1 to 5 bytes, or 10 for a negative one.
 ///
@@ -58,7 +58,7 @@ pub fn decode_int32<B: Buf>(buf: &mut B) -> Result<i32, DecodeError>
     ensures left { OnErr result (B.unread buf.new ≡ past_no_varint (B.unread buf.old)) }
     ensures tail { IsTailOf (B.unread buf.new) (B.unread buf.old) }
 {
-    let number = decode_varint(buf)?;
+    let number = read_varint(buf)?;
     Ok(((number % (1 << 32)) as u32).cast_signed())
 }
 
@@ -103,7 +103,7 @@ pub fn decode_int64<B: Buf>(buf: &mut B) -> Result<i64, DecodeError>
     ensures left { OnErr result (B.unread buf.new ≡ past_no_varint (B.unread buf.old)) }
     ensures tail { IsTailOf (B.unread buf.new) (B.unread buf.old) }
 {
-    let number = decode_varint(buf)?;
+    let number = read_varint(buf)?;
     Ok(number.cast_signed())
 }
 
@@ -147,7 +147,7 @@ pub fn decode_uint32<B: Buf>(buf: &mut B) -> Result<u32, DecodeError>
     ensures left { OnErr result (B.unread buf.new ≡ past_no_varint (B.unread buf.old)) }
     ensures tail { IsTailOf (B.unread buf.new) (B.unread buf.old) }
 {
-    let number = decode_varint(buf)?;
+    let number = read_varint(buf)?;
     Ok((number % (1 << 32)) as u32)
 }
 
@@ -191,7 +191,7 @@ pub fn decode_uint64<B: Buf>(buf: &mut B) -> Result<u64, DecodeError>
     ensures left { OnErr result (B.unread buf.new ≡ past_no_varint (B.unread buf.old)) }
     ensures tail { IsTailOf (B.unread buf.new) (B.unread buf.old) }
 {
-    decode_varint(buf)
+    read_varint(buf)
 }
 
 /// The length of a sint32's encoding: 1 to 5 bytes.
@@ -234,7 +234,7 @@ pub fn decode_sint32<B: Buf>(buf: &mut B) -> Result<i32, DecodeError>
     ensures left { OnErr result (B.unread buf.new ≡ past_no_varint (B.unread buf.old)) }
     ensures tail { IsTailOf (B.unread buf.new) (B.unread buf.old) }
 {
-    let number = decode_varint(buf)?;
+    let number = read_varint(buf)?;
     Ok(zigzag_decode_i32((number % (1 << 32)) as u32))
 }
 
@@ -278,7 +278,7 @@ pub fn decode_sint64<B: Buf>(buf: &mut B) -> Result<i64, DecodeError>
     ensures left { OnErr result (B.unread buf.new ≡ past_no_varint (B.unread buf.old)) }
     ensures tail { IsTailOf (B.unread buf.new) (B.unread buf.old) }
 {
-    let number = decode_varint(buf)?;
+    let number = read_varint(buf)?;
     Ok(zigzag_decode_i64(number))
 }
 
@@ -318,6 +318,6 @@ pub fn decode_bool<B: Buf>(buf: &mut B) -> Result<bool, DecodeError>
     ensures left { OnErr result (B.unread buf.new ≡ past_no_varint (B.unread buf.old)) }
     ensures tail { IsTailOf (B.unread buf.new) (B.unread buf.old) }
 {
-    let number = decode_varint(buf)?;
+    let number = read_varint(buf)?;
     Ok(number != 0)
 }

@@ -11,8 +11,8 @@ ghost use Rattle.buffa_wire.specs.View.{datum_of};
 
 use crate::budget::{Budget, DEFAULT_UNKNOWN_FIELD_LIMIT};
 use crate::context::{DecodeContext, RECURSION_LIMIT};
-use crate::short::read_varint;
 use crate::unknown_fields::{UnknownField, UnknownFieldData, UnknownFields};
+use buffa_bytes::varint::read_varint;
 use buffa_bytes::{Buf, DecodeError, Tag, WireType, types};
 use std::alloc::Global;
 

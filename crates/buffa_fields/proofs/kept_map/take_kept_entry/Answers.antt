@@ -1,5 +1,5 @@
 use Rattle.std.proofs.Common.{◌+◌, ◌∙◌, ap, refl, true}
-use Rattle.buffa_wire.proofs.SequenceLemmas.{err_same}
+use Rattle.buffa_bytes.proofs.SequenceLemmas.{err_same}
 use Rattle.buffa_map.specs.Pairs.{means, put}
 use Rattle.buffa_fields.proofs.KeptMapLemmas.{kept_err, kept_full, kept_ok, kept_refused}
 use Rattle.buffa_fields.proofs.kept_map.take_kept_entry.Goals as goal

@@ -1,5 +1,5 @@
 use Rattle.std.proofs.Common.{◌+◌, ◌∙◌, ap, false}
-use Rattle.buffa_wire.proofs.SequenceLemmas.{err_same}
+use Rattle.buffa_bytes.proofs.SequenceLemmas.{err_same}
 use Rattle.std.specs.BTreeMap.{insert_entry}
 use Rattle.buffa_map.proofs.InsertLemmas.{is_put_by}
 use Rattle.buffa_map.specs.Pairs.{means}

@@ -5,7 +5,7 @@ use Rattle.buffa_bytes.specs.Front.{check_wire}
 use Rattle.buffa_bytes.proofs.WireLemmas.{checked_same, checked_other, other_not_full}
 use Rattle.buffa_fields.proofs.ListLemmas.{element_refused, element_taken, neither_err, neither_refused, other_wire, own_wire, packed_refused, packed_taken, packed_wire}
 use Rattle.buffa_fields.specs.Lists.{ElementsTakeMemory, PackedTakeMemory}
-use Rattle.buffa_wire.proofs.SequenceLemmas.{err_same}
+use Rattle.buffa_bytes.proofs.SequenceLemmas.{err_same}
 use Rattle.buffa_wire.specs.BudgetLeft.{nothing}
 use Rattle.buffa_wire.proofs.TakesLemmas.{full_weaker}
 use Rattle.buffa_fields.proofs.list.take_elements.Goals as goal

@@ -1,5 +1,5 @@
 use Rattle.std.proofs.Common.{◌+◌, refl, true}
-use Rattle.buffa_wire.proofs.SequenceLemmas.{err_same}
+use Rattle.buffa_bytes.proofs.SequenceLemmas.{err_same}
 use Rattle.buffa_map.specs.Pairs.{means, put}
 use Rattle.buffa_fields.proofs.MapLemmas.{map_err, map_full, map_ok, map_refused, other_refused}
 use Rattle.buffa_fields.proofs.map.take_entry.Goals as goal

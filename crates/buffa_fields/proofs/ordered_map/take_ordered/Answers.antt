@@ -1,6 +1,6 @@
 use Rattle.std.proofs.Common.{◌+◌, false}
 use Rattle.std.specs.BTreeMap.{insert_entry}
-use Rattle.buffa_wire.proofs.SequenceLemmas.{err_same}
+use Rattle.buffa_bytes.proofs.SequenceLemmas.{err_same}
 use Rattle.buffa_map.specs.Pairs.{means}
 use Rattle.buffa_map.proofs.InsertLemmas.{is_put_by}
 use Rattle.buffa_fields.proofs.OrderedLemmas.{means_ascend}

@@ -2,7 +2,7 @@ use Rattle.std.proofs.Common.{◌≡◌, ◌∙◌, Err, ap, refl, sym}
 use Rattle.buffa_bytes.specs.Front.{check_wire}
 use Rattle.buffa_bytes.proofs.WireLemmas.{checked_same, other_not_full}
 use Rattle.buffa_map.specs.Codec.{value_need}
-use Rattle.buffa_wire.proofs.SequenceLemmas.{err_same}
+use Rattle.buffa_bytes.proofs.SequenceLemmas.{err_same}
 use Rattle.buffa_fields.proofs.ValueLemmas.{kept_by, refused_plain, value_err, value_ok, value_told, wire_err, wire_told}
 use Rattle.buffa_fields.proofs.value.take_value.Goals as goal
 

@@ -1,7 +1,7 @@
 use Rattle.std.proofs.Common.{◌∙◌, sym, ap}
 use Rattle.buffa_wire.specs.BudgetLeft.{BudgetLeft, plus}
 use Rattle.buffa_map.specs.Run.{inner_needs}
-use Rattle.buffa_wire.proofs.SequenceLemmas.{ok_same, ok_no_err}
+use Rattle.buffa_bytes.proofs.SequenceLemmas.{ok_same, ok_no_err}
 use Rattle.buffa_map.proofs.RunLemmas.{run_complete, run_faulty}
 use Rattle.std.proofs.Common.{arith}
 use Rattle.buffa_map.proofs.FrontLemmas.{entry_no_fault, paid_no_fault, same_entry, same_front}

@@ -7,8 +7,8 @@ use Rattle.buffa_bytes.specs.Scan.{Scanned, parsed, scan, step_then}
 use Rattle.buffa_bytes.specs.Scan.Scanned.{ends, goes}
 use Rattle.buffa_bytes.proofs.StepLemmas.{Agrees, agree_weaker}
 use Rattle.buffa_bytes.proofs.ScanLemmas.{Leads, Shortens, parsed_leads, parsed_short, scan_keeps, scan_leads, scan_step}
-use Rattle.buffa_wire.specs.Sequence.{join, ParsesEach, ParsesTo, ParseStops, parse_all, parse_step}
-pub use Rattle.buffa_bytes.proofs.FieldLemmas.{err_same, ok_no_err, ok_same}
+use Rattle.buffa_bytes.specs.Sequence.{join, ParsesEach, ParsesTo, ParseStops, parse_all, parse_step}
+pub use Rattle.buffa_bytes.proofs.StepLemmas.{err_same, ok_no_err, ok_same}
 
 -- lists that are the same have the same first, and the same others
 pub heads : {A : Type 0} {x y : A} {xs ys : List A} → x ∷ xs ≡ y ∷ ys → x ≡ y

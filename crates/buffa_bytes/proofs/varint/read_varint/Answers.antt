@@ -1,6 +1,6 @@
 use Rattle.std.proofs.Common.{Ok, ap, sym, ◌∙◌}
-use Rattle.buffa_wire.proofs.ShortLemmas.{read_of_all}
-use Rattle.buffa_wire.proofs.short.read_varint.Goals as goal
+use Rattle.buffa_bytes.proofs.ReadVarintLemmas.{read_of_all}
+use Rattle.buffa_bytes.proofs.varint.read_varint.Goals as goal
 
 pub returns-clause-reads : goal.returns-clause-reads
 returns-clause-reads g c =

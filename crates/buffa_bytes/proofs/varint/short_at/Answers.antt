@@ -1,6 +1,6 @@
 use Rattle.std.proofs.Common.{arith}
-use Rattle.buffa_wire.proofs.ShortLemmas.{read_one, read_two, read_three}
-use Rattle.buffa_wire.proofs.short.short_at.Goals as goal
+use Rattle.buffa_bytes.proofs.ReadVarintLemmas.{read_one, read_two, read_three}
+use Rattle.buffa_bytes.proofs.varint.short_at.Goals as goal
 
 pub returns-then-first-lt128-clause-reads : goal.returns-then-first-lt128-clause-reads
 returns-then-first-lt128-clause-reads c = read_one _ _ _ _ c.in_ok-first.ensures.cases.0 c.if-first-lt128.true c.from.ensures
