@@ -1,6 +1,6 @@
 //! What a message that holds a list of itself is.
 
-ghost use Rattle.std.specs.Prelude.{◌≡◌, ◌≢◌, ◌↔◌, ◌==◌, ◌&&◌, ◌||◌, ℕ, List, [], ◌∷◌, ◌++◌, None, length, map, max, not, true};
+ghost use Rattle.std.specs.Prelude.{◌≡◌, ◌≢◌, ◌↔◌, ◌==◌, ◌&&◌, ◌||◌, ℕ, List, [], ◌∷◌, ◌++◌, None, if◌then◌else◌, length, map, max, nat_lt, not, true};
 ghost use Rattle.std.specs.List.{AllByRecursion};
 ghost use Rattle.std.specs.Option.{option_map};
 ghost use Rattle.buffa_bytes.specs.Field.{IsTag, Payload};
@@ -12,6 +12,7 @@ ghost use Rattle.buffa_wire.specs.Records.{Datum, bytes};
 ghost use Rattle.buffa_fields.specs.Held.{through};
 ghost use Rattle.buffa_fields.specs.Keep.{AllNumbers};
 ghost use Rattle.buffa_fields.specs.Layout.{Choice, both_need, both_take, is_number};
+ghost use Rattle.buffa_fields.specs.Members.{field, field_kept, keep};
 ghost use Rattle.buffa_fields.specs.Nested.{FitsInside};
 ghost use Rattle.buffa_fields.specs.Nests.{inside_of, nest_list, nest_means, nest_of, own_of, parts_of};
 ghost use Rattle.buffa_fields.specs.Pinned.{MemberOrOthers, TakeAlike, meaning_so};
@@ -20,6 +21,7 @@ ghost use Rattle.buffa_fields.specs.RepeatedNested.{MessagesTakeMemory, messages
 
 use crate::fields::Fields;
 use crate::held::{Holds, Inside, Nest};
+use crate::keeping::Keeping;
 use crate::member::Member;
 use buffa_wire::{Blank, MessageSpec, WireType};
 
@@ -132,3 +134,32 @@ pub fn members_are_parts<O: Holds>(message: &Nest<O>) -> (&O, &[Nest<O>])
 {
     (&message.own, message.inside.as_slice())
 }
+
+/// Which members stand in front of a number, where a list of the message's own type has its place, and which behind it: in front
+/// are the members, one after the other, up to the first whose own number isn't less. What is kept stands behind all of them.
+pub fn members_in_front_are_these<M: Fields, N: Member>()
+    ensures front { (k j : ℕ) (get : M → N.Part) (v : _) → (field k get N.shape M.layout).front j v
+        ≡ (if nat_lt k j then N.shape.records k v.0 ++ M.layout.front j v.1 else []) }
+    ensures behind { (k j : ℕ) (get : M → N.Part) (v : _) → (field k get N.shape M.layout).behind j v
+        ≡ (if nat_lt k j then M.layout.behind j v.1 else N.shape.records k v.0 ++ M.layout.own v.1) }
+    ensures front_slots { (k j : ℕ) (get : M → N.Part) (v : _) (rest : List ℕ) →
+        (field k get N.shape M.layout).front_slots j v rest
+        ≡ (if nat_lt k j then N.shape.slots v.0 ++ M.layout.front_slots j v.1 rest else rest) }
+    ensures slots_behind { (k j : ℕ) (get : M → N.Part) (v : _) → (field k get N.shape M.layout).slots_behind j v
+        ≡ (if nat_lt k j then M.layout.slots_behind j v.1 else N.shape.slots v.0 ++ M.layout.slots v.1) }
+    ensures none { (j : ℕ) (get : M → List (ℕ × Datum)) (v : List (ℕ × Datum)) →
+        ((keep get).front j v ≡ []) × ((keep get).behind j v ≡ []) }
+{}
+
+/// The same of a member that puts aside what it doesn't understand.
+pub fn keeping_members_in_front_are_these<M: Fields, N: Keeping>()
+    ensures front { (k j : ℕ) (get : M → N.Part) (v : _) → (field_kept k get N.shape N.aside M.layout).front j v
+        ≡ (if nat_lt k j then N.shape.records k v.0 ++ M.layout.front j v.1 else []) }
+    ensures behind { (k j : ℕ) (get : M → N.Part) (v : _) → (field_kept k get N.shape N.aside M.layout).behind j v
+        ≡ (if nat_lt k j then M.layout.behind j v.1 else N.shape.records k v.0 ++ M.layout.own v.1) }
+    ensures front_slots { (k j : ℕ) (get : M → N.Part) (v : _) (rest : List ℕ) →
+        (field_kept k get N.shape N.aside M.layout).front_slots j v rest
+        ≡ (if nat_lt k j then N.shape.slots v.0 ++ M.layout.front_slots j v.1 rest else rest) }
+    ensures slots_behind { (k j : ℕ) (get : M → N.Part) (v : _) → (field_kept k get N.shape N.aside M.layout).slots_behind j v
+        ≡ (if nat_lt k j then M.layout.slots_behind j v.1 else N.shape.slots v.0 ++ M.layout.slots v.1) }
+{}

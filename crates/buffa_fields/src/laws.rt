@@ -47,8 +47,9 @@ ghost use Rattle.buffa_fields.specs.Values.{IfThere, RefusesAlone, ValueTakesMem
 use crate::fields::Fields;
 use crate::group::Group;
 pub use crate::held_laws::{
-    fields_of_messages_that_hold_themselves_are_these, lists_of_themselves_are_these,
-    members_are_parts, messages_that_hold_themselves_are_these,
+    fields_of_messages_that_hold_themselves_are_these, keeping_members_in_front_are_these,
+    lists_of_themselves_are_these, members_are_parts, members_in_front_are_these,
+    messages_that_hold_themselves_are_these,
 };
 use crate::keeping::Keeping;
 pub use crate::level_laws::{

@@ -1,6 +1,7 @@
-//! Branches on branches. The bytes are worked out by hand, from the protobuf encoding guide.
+//! Branches on branches, and answers to posts. The bytes are worked out by hand, from the protobuf encoding guide.
 
 use crate::branch::Branch;
+use crate::post::Post;
 use buffa_fields::laws::members_are_parts;
 use buffa_wire::{Blank, Budget, DecodeContext, DecodeError, Message, RECURSION_LIMIT};
 use std::test::Fail;
@@ -53,5 +54,28 @@ fn a_branch_is_its_parts(rt: HostRuntime) -> Result<(), Fail> {
     branch.merge_from_slice(alloc, &[0x0A, 0x01, 0x61, 0x1A, 0x00])?;
     let (own, inside) = members_are_parts(&branch);
     assert!(rt; own.name.as_str() == "a" && inside.len() == 1);
+    Ok(())
+}
+
+#[test]
+fn answers_stand_between_author_and_text(rt: HostRuntime) -> Result<(), Fail> {
+    let alloc = rt.alloc();
+    let mut post: Post = Blank::blank(alloc);
+    let bytes: [u8; 16] = [
+        0x1A, 0x01, 0x62, // text is "b"
+        0x12, 0x06, 0x1A, 0x01, 0x63, 0x0A, 0x01, 0x64, // an answer by "d", "c"
+        0x0A, 0x01, 0x61, // author is "a"
+        0x20, 0x07, // field 4 isn't declared
+    ];
+    post.merge_from_slice(alloc, &bytes)?;
+    assert!(rt; post.own.author.as_str() == "a" && post.inside.len() == 1);
+    let again: [u8; 16] = [
+        0x0A, 0x01, 0x61, // the author,
+        0x12, 0x06, 0x0A, 0x01, 0x64, 0x1A, 0x01, 0x63, // the answer, in the same order,
+        0x1A, 0x01, 0x62, // the text,
+        0x20, 0x07, // and what isn't declared
+    ];
+    let encoding = post.try_encode_to_vec(alloc)?;
+    assert!(rt; encoding.as_slice() == again.as_slice());
     Ok(())
 }
