@@ -316,10 +316,8 @@ impl<C: LastWins + StrictSingularCodec> StrictCodec for C {
         number: u32,
         fields: &UnknownFields,
     ) -> Result<Option<C::Value>, DecodeError> {
-        match check_values::<C>(number, fields) {
-            Ok(()) => Ok(<C as ExtensionCodec>::decode(alloc, number, fields)?),
-            Err(error) => Err(error),
-        }
+        check_values::<C>(number, fields)?;
+        Ok(<C as ExtensionCodec>::decode(alloc, number, fields)?)
     }
 
     ghost not_both = { λ n ds e h k. either_fault (C.fault n) ds e h k };
@@ -339,10 +337,7 @@ fn check_elements<C: StrictElementCodec>(
     let mut budget = Budget::new(DEFAULT_UNKNOWN_FIELD_LIMIT);
     for field in fields.iter().as_slice() {
         if field.number == number {
-            match C::check_element(alloc, number, &field.payload, &mut budget) {
-                Ok(()) => {}
-                Err(error) => return Err(error),
-            }
+            C::check_element(alloc, number, &field.payload, &mut budget)?;
         }
     }
     Ok(())
@@ -358,10 +353,8 @@ impl<C: StrictElementCodec> StrictCodec for Repeated<C> {
         number: u32,
         fields: &UnknownFields,
     ) -> Result<Vec<C::Value>, DecodeError> {
-        match check_elements::<C>(alloc, number, fields) {
-            Ok(()) => Ok(<Repeated<C> as ExtensionCodec>::decode(alloc, number, fields)?),
-            Err(error) => Err(error),
-        }
+        check_elements::<C>(alloc, number, fields)?;
+        Ok(<Repeated<C> as ExtensionCodec>::decode(alloc, number, fields)?)
     }
 
     ghost not_both = { λ n ds e h k.

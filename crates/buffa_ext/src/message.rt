@@ -164,10 +164,7 @@ pub fn merge_number<K: MessageRecord, M: Message>(
                 depth: RECURSION_LIMIT,
                 budget: &mut *budget,
             };
-            match K::merge_in(alloc, &field.payload, message, lent) {
-                Ok(here) => found |= here,
-                Err(error) => return Err(error),
-            }
+            found |= K::merge_in(alloc, &field.payload, message, lent)?;
         }
     }
     Ok(found)

@@ -126,10 +126,8 @@ impl MessageRecord for Delimited {
             budget: &mut *budget,
         };
         let mut bytes = encoding.as_slice();
-        match message.merge(alloc, &mut bytes, lent) {
-            Ok(()) => Ok(true),
-            Err(error) => Err(error),
-        }
+        message.merge(alloc, &mut bytes, lent)?;
+        Ok(true)
     }
 
     fn hold(_alloc: Global, encoding: Vec<u8>) -> Result<UnknownFieldData, EncodeError> {
@@ -180,10 +178,8 @@ impl MessageRecord for Grouped {
             budget: &mut *budget,
         };
         let mut encoding = bytes.as_slice();
-        match message.merge(alloc, &mut encoding, lent) {
-            Ok(()) => Ok(true),
-            Err(error) => Err(error),
-        }
+        message.merge(alloc, &mut encoding, lent)?;
+        Ok(true)
     }
 
     fn hold(alloc: Global, encoding: Vec<u8>) -> Result<UnknownFieldData, EncodeError> {

@@ -37,15 +37,14 @@ fn merge_one<K: MessageRecord, M: Message>(
         depth: RECURSION_LIMIT,
         budget: &mut *budget,
     };
-    match K::merge_in(alloc, payload, message, lent) {
-        Ok(true) => Ok(()),
-        Ok(false) => Err(DecodeError::WireTypeMismatch {
-            field_number: number,
-            expected: K::WIRE_TYPE,
-            actual: payload.wire_type(),
-        }),
-        Err(error) => Err(error),
+    if K::merge_in(alloc, payload, message, lent)? {
+        return Ok(());
     }
+    Err(DecodeError::WireTypeMismatch {
+        field_number: number,
+        expected: K::WIRE_TYPE,
+        actual: payload.wire_type(),
+    })
 }
 
 // Merges the encodings in all records of the number, 100 levels deep, and tells whether there is one. A record of
@@ -68,10 +67,8 @@ fn merge_each<K: MessageRecord, M: Message>(
     let mut found = false;
     for field in fields.iter().as_slice() {
         if field.number == number {
-            match merge_one::<K, M>(alloc, number, &field.payload, &mut *budget, &mut *message) {
-                Ok(()) => found = true,
-                Err(error) => return Err(error),
-            }
+            merge_one::<K, M>(alloc, number, &field.payload, &mut *budget, &mut *message)?;
+            found = true;
         }
     }
     Ok(found)
@@ -96,10 +93,8 @@ impl<K: MessageRecord, M: Message> StrictCodec for MessageIn<K, M> {
     ) -> Result<Option<M>, DecodeError> {
         let mut budget = Budget::new(DEFAULT_UNKNOWN_FIELD_LIMIT);
         let mut message = M::blank(alloc);
-        match merge_each::<K, M>(alloc, number, fields, &mut budget, &mut message) {
-            Ok(there) => Ok(taken_if(there, message)),
-            Err(error) => Err(error),
-        }
+        let there = merge_each::<K, M>(alloc, number, fields, &mut budget, &mut message)?;
+        Ok(taken_if(there, message))
     }
 
     ghost not_both = { λ n ds e h k.
@@ -119,10 +114,8 @@ impl<K: MessageRecord, M: Message> StrictElementCodec for MessageIn<K, M> {
         budget: &mut Budget,
     ) -> Result<(), DecodeError> {
         let mut message = M::blank(alloc);
-        match merge_one::<K, M>(alloc, number, payload, &mut *budget, &mut message) {
-            Ok(()) => Ok(()),
-            Err(error) => Err(error),
-        }
+        merge_one::<K, M>(alloc, number, payload, &mut *budget, &mut message)?;
+        Ok(())
     }
 
     ghost no_element_fault = { λ n b d e h k.
