@@ -176,17 +176,10 @@ fn kid_len<O: Holds>(number: u32, kid: &Nest<O>, cache: &mut SizeCache) -> Resul
         IsSized (records_encoding ((number, bytes encoding) ∷ []))
         (cap (length encoding) ∷ nest_slots O.layout O.NUMBER O.COST v) cache.old result cache.new }
 {
-    let slot = match cache.reserve() {
-        Ok(slot) => slot,
-        Err(error) => return Err(error),
-    };
-    match size_nest(kid, cache) {
-        Ok(inner) => {
-            cache.set(slot, inner);
-            Ok(record_len(number, u64::from(inner)))
-        }
-        Err(error) => Err(error),
-    }
+    let slot = cache.reserve()?;
+    let inner = size_nest(kid, cache)?;
+    cache.set(slot, inner);
+    Ok(record_len(number, u64::from(inner)))
 }
 
 // The length of the records of the messages inside, or 2^32 - 1 where it is more. The slots of each are appended to the
@@ -207,10 +200,7 @@ fn kids_len<O: Holds>(
 {
     let mut total: u32 = 0;
     for kid in kids {
-        match kid_len(number, kid, cache) {
-            Ok(len) => total = total.saturating_add(len),
-            Err(error) => return Err(error),
-        }
+        total = total.saturating_add(kid_len(number, kid, cache)?);
     }
     Ok(total)
 }
@@ -222,18 +212,10 @@ fn size_nest<O: Holds>(kid: &Nest<O>, cache: &mut SizeCache) -> Result<u32, Enco
         IsSized (nest_encoding O.layout O.NUMBER O.COST v) (nest_slots O.layout O.NUMBER O.COST v) cache.old result
         cache.new }
 {
-    let front = match size_front(&kid.own, cache) {
-        Ok(front) => front,
-        Err(error) => return Err(error),
-    };
-    let below = match kids_len(O::NUMBER, kid.inside.as_slice(), cache) {
-        Ok(below) => below,
-        Err(error) => return Err(error),
-    };
-    match size_behind(&kid.own, cache) {
-        Ok(behind) => Ok(front.saturating_add(below.saturating_add(behind))),
-        Err(error) => Err(error),
-    }
+    let front = size_front(&kid.own, cache)?;
+    let below = kids_len(O::NUMBER, kid.inside.as_slice(), cache)?;
+    let behind = size_behind(&kid.own, cache)?;
+    Ok(front.saturating_add(below.saturating_add(behind)))
 }
 
 // ---- encodings
@@ -255,10 +237,8 @@ fn write_kid<O: Holds, S: EncodeSink>(
         (nest_means O.layout.meaning kid.now) }
 {
     let inner = cache.consume_next();
-    match write_head(number, u64::from(inner), sink) {
-        Ok(()) => write_nest(kid, cache, sink),
-        Err(error) => Err(error),
-    }
+    write_head(number, u64::from(inner), sink)?;
+    write_nest(kid, cache, sink)
 }
 
 // Writes a record for each message inside, whose slots are next.
@@ -277,10 +257,7 @@ fn write_kids<O: Holds, S: EncodeSink>(
         (map (nest_means O.layout.meaning) kids.now) }
 {
     for kid in kids {
-        match write_kid(number, kid, cache, sink) {
-            Ok(()) => {}
-            Err(error) => return Err(error),
-        }
+        write_kid(number, kid, cache, sink)?;
     }
     Ok(())
 }
@@ -297,14 +274,9 @@ fn write_nest<O: Holds, S: EncodeSink>(
         IsWritten (nest_encoding O.layout O.NUMBER O.COST v) (nest_slots O.layout O.NUMBER O.COST v) cache.old
         (S.written sink.old) result cache.new (S.written sink.new) }
 {
-    match write_front(&kid.own, cache, sink) {
-        Ok(()) => {}
-        Err(error) => return Err(error),
-    }
-    match write_kids(O::NUMBER, kid.inside.as_slice(), cache, sink) {
-        Ok(()) => write_behind(&kid.own, cache, sink),
-        Err(error) => Err(error),
-    }
+    write_front(&kid.own, cache, sink)?;
+    write_kids(O::NUMBER, kid.inside.as_slice(), cache, sink)?;
+    write_behind(&kid.own, cache, sink)
 }
 
 // ---- merging
@@ -314,10 +286,7 @@ fn write_nest<O: Holds, S: EncodeSink>(
 fn cut<'a>(buf: &mut &'a [u8]) -> Result<&'a [u8], DecodeError>
     ensures { Gives (λ b. (b.now, buf.new.now)) result (delimited_at buf.old.now) }
 {
-    let len = match decode_varint(buf) {
-        Ok(len) => len,
-        Err(error) => return Err(error),
-    };
+    let len = decode_varint(buf)?;
     let all: &'a [u8] = *buf;
     if len > all.len() as u64 {
         return Err(DecodeError::UnexpectedEof);
@@ -358,10 +327,7 @@ fn merge_kid<O: Holds>(
     if depth == 0 {
         return Err(DecodeError::RecursionLimitExceeded);
     }
-    let bytes = match cut(buf) {
-        Ok(bytes) => bytes,
-        Err(error) => return Err(error),
-    };
+    let bytes = cut(buf)?;
     merge_nest(alloc, kid, bytes, depth - 1, budget)
 }
 
@@ -383,14 +349,8 @@ fn take_charged<O: Holds>(
     ensures wire { ChecksWire tag WireType.LengthDelimited result (nest_means O.layout.meaning kid.old)
         (nest_means O.layout.meaning kid.new) buf.old buf.new }
 {
-    match check_wire_type(tag, WireType::LengthDelimited) {
-        Ok(()) => {}
-        Err(error) => return Err(error),
-    }
-    match budget.take_memory(<O as Holds>::COST) {
-        Ok(()) => {}
-        Err(error) => return Err(error),
-    }
+    check_wire_type(tag, WireType::LengthDelimited)?;
+    budget.take_memory(<O as Holds>::COST)?;
     merge_kid(alloc, kid, buf, depth, budget)
 }
 
@@ -416,10 +376,7 @@ fn take_kid<O: Holds>(
         (map (nest_means O.layout.meaning) kids.new.items) buf.old result }
 {
     let mut kid = blank_kid(alloc);
-    match take_charged(alloc, &mut kid, tag, buf, depth, budget) {
-        Ok(()) => {}
-        Err(error) => return Err(error),
-    }
+    take_charged(alloc, &mut kid, tag, buf, depth, budget)?;
     Ok(kids.push(kid)?)
 }
 
@@ -462,14 +419,8 @@ fn merge_nest<O: Holds>(
 {
     let mut rest = bytes;
     'fields: while rest.remaining() > 0 {
-        let tag = match Tag::decode(&mut rest) {
-            Ok(tag) => tag,
-            Err(error) => return Err(error),
-        };
-        match take_field(alloc, message, tag, &mut rest, depth, budget) {
-            Ok(()) => {}
-            Err(error) => return Err(error),
-        }
+        let tag = Tag::decode(&mut rest)?;
+        take_field(alloc, message, tag, &mut rest, depth, budget)?;
     }
     Ok(())
 }

@@ -66,10 +66,7 @@ fn sift<E: Enumeration>(
     ensures front { (more : List E) × (values.new.items ≡ values.old.items ++ more) }
 {
     for varint in varints {
-        match sift_one::<E>(values, aside, number, *varint, budget) {
-            Ok(()) => {}
-            Err(error) => return Err(error),
-        }
+        sift_one::<E>(values, aside, number, *varint, budget)?;
     }
     Ok(())
 }
@@ -90,10 +87,7 @@ fn put_aside<E: Enumeration>(
     ensures stays { OnErr result (kept.old.records ≡ kept.new.records) }
 {
     let mut aside = UnknownFields::new(alloc);
-    match sift::<E>(values, &mut aside, number, varints, budget) {
-        Ok(()) => {}
-        Err(error) => return Err(error),
-    }
+    sift::<E>(values, &mut aside, number, varints, budget)?;
     kept.reserve(aside.len())?;
     kept.append(aside);
     Ok(())
@@ -151,10 +145,7 @@ fn take_numbers<E: Enumeration>(
 {
     let DecodeContext { depth, budget } = ctx;
     let mut varints: Vec<u64> = Vec::new(alloc);
-    match take_elements::<Uint64>(alloc, &mut varints, tag, buf, depth) {
-        Ok(()) => {}
-        Err(error) => return Err(error),
-    }
+    take_elements::<Uint64>(alloc, &mut varints, tag, buf, depth)?;
     put_numbers::<E>(
         alloc,
         values,

@@ -50,10 +50,7 @@ where
     ensures stays { OnErr result (kept.old.records ≡ kept.new.records) }
 {
     limits_are_told_where_needs_are_not_left::<KC, VC>();
-    match check_wire_type(tag, WireType::LengthDelimited) {
-        Ok(()) => {}
-        Err(error) => return Err(error),
-    }
+    check_wire_type(tag, WireType::LengthDelimited)?;
     let DecodeContext { depth, budget } = ctx;
     let unknown = budget.unknown_left();
     let lent = DecodeContext {

@@ -42,15 +42,9 @@ fn take_number<E: Enumeration>(
         (option_map E.meaning part.new) }
     ensures stays { OnErr result (kept.old.records ≡ kept.new.records) }
 {
-    match check_wire_type(tag, WireType::Varint) {
-        Ok(()) => {}
-        Err(error) => return Err(error),
-    }
+    check_wire_type(tag, WireType::Varint)?;
     let field = *buf;
-    let number = match decode_int32(buf) {
-        Ok(number) => number,
-        Err(error) => return Err(error),
-    };
+    let number = decode_int32(buf)?;
     if let Some(declared) = E::from_i32(number) {
         *part = Some(declared);
         return Ok(());

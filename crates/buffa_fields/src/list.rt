@@ -40,10 +40,7 @@ fn take_element<C: MapCodec>(
         budget: &mut none,
     };
     let mut value = <C::Value as Blank>::blank(alloc);
-    match C::merge(alloc, &mut value, buf, lent) {
-        Ok(_) => {}
-        Err(error) => return Err(error),
-    }
+    C::merge(alloc, &mut value, buf, lent)?;
     Ok(values.push(value)?)
 }
 
@@ -62,10 +59,7 @@ fn take_all<C: MapCodec>(
 {
     let mut rest = body;
     while rest.remaining() > 0 {
-        match take_element::<C>(alloc, values, &mut rest, depth) {
-            Ok(()) => {}
-            Err(error) => return Err(error),
-        }
+        take_element::<C>(alloc, values, &mut rest, depth)?;
     }
     Ok(())
 }
@@ -75,10 +69,7 @@ fn take_all<C: MapCodec>(
 fn take_body<'a>(buf: &mut &'a [u8]) -> Result<&'a [u8], DecodeError>
     ensures { Gives (λ b. (b.now, buf.new.now)) result (delimited_at buf.old.now) }
 {
-    let len = match decode_varint(buf) {
-        Ok(len) => len,
-        Err(error) => return Err(error),
-    };
+    let len = decode_varint(buf)?;
     let bytes = *buf;
     if len > bytes.len() as u64 {
         return Err(DecodeError::UnexpectedEof);
@@ -100,10 +91,8 @@ fn take_packed<C: MapCodec>(
     ensures refused { IfErr result (λ e. RefusesPacked C.reading depth (map C.Value.meaning values.old.items)
         buf.old.now e (map C.Value.meaning values.new.items)) }
 {
-    match take_body(buf) {
-        Ok(body) => take_all::<C>(alloc, values, body, depth),
-        Err(error) => Err(error),
-    }
+    let body = take_body(buf)?;
+    take_all::<C>(alloc, values, body, depth)
 }
 
 // Merges the elements of the field whose tag was read.
@@ -155,10 +144,7 @@ pub(crate) fn write_elements<C: ProtoType, S: EncodeSink>(
         (element_records C.datum number (map C.Value.meaning values.now))) (S.written sink.new) }
 {
     for value in values {
-        match write_value::<C, S>(number, value, sink) {
-            Ok(()) => {}
-            Err(error) => return Err(error),
-        }
+        write_value::<C, S>(number, value, sink)?;
     }
     Ok(())
 }

@@ -63,14 +63,9 @@ where
         KC.Value.meaning VC.Value.meaning KC.reading VC.reading (KC.COST + VC.COST) }
 {
     limits_are_told_where_needs_are_not_left::<KC, VC>();
-    match check_wire_type(tag, WireType::LengthDelimited) {
-        Ok(()) => {}
-        Err(error) => return Err(error),
-    }
-    match merge_entry::<KC, VC, Map<KC::Value, VC::Value>, &[u8]>(alloc, map, buf, ctx) {
-        Ok(()) => Ok(()),
-        Err(error) => Err(error),
-    }
+    check_wire_type(tag, WireType::LengthDelimited)?;
+    merge_entry::<KC, VC, Map<KC::Value, VC::Value>, &[u8]>(alloc, map, buf, ctx)?;
+    Ok(())
 }
 
 // Writes a map field. An entry that is too long for any length is in no encoding of a message.

@@ -51,10 +51,8 @@ where
     ensures some { OnErr result (C.pairs map.now ≢ []) }
 {
     let tag = Tag::new(number, WireType::LengthDelimited).encoded_len() as u64;
-    match message_field_len::<KC, N, C>(map, tag, cache) {
-        Ok(total) => Ok(capped(total)),
-        Err(error) => Err(error),
-    }
+    let total = message_field_len::<KC, N, C>(map, tag, cache)?;
+    Ok(capped(total))
 }
 
 // Writes a map field of messages, whose slots are next.

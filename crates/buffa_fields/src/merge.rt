@@ -40,18 +40,12 @@ pub fn merge_fields<M: Fields>(
     let DecodeContext { depth, budget } = ctx;
     let mut rest = *buf;
     'fields: while rest.remaining() > 0 {
-        let tag = match Tag::decode(&mut rest) {
-            Ok(tag) => tag,
-            Err(error) => return Err(error),
-        };
+        let tag = Tag::decode(&mut rest)?;
         let lent = DecodeContext {
             depth,
             budget: &mut *budget,
         };
-        match message.take(alloc, tag, &mut rest, lent) {
-            Ok(()) => {}
-            Err(error) => return Err(error),
-        }
+        message.take(alloc, tag, &mut rest, lent)?;
     }
     *buf = rest;
     Ok(())

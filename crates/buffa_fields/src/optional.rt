@@ -83,13 +83,9 @@ impl<C: ProtoType> Member for Optional<C> {
         ctx: DecodeContext<'_>,
     ) -> Result<(), DecodeError> {
         let mut value = <C::Value as Blank>::blank(alloc);
-        match take_value::<C>(alloc, &mut value, tag, buf, ctx) {
-            Ok(()) => {
-                *part = Some(value);
-                Ok(())
-            }
-            Err(error) => Err(error),
-        }
+        take_value::<C>(alloc, &mut value, tag, buf, ctx)?;
+        *part = Some(value);
+        Ok(())
     }
 
     ghost back = { record {

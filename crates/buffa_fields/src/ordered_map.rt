@@ -54,17 +54,12 @@ where
         KC.Value.meaning VC.Value.meaning KC.reading VC.reading (KC.COST + VC.COST) }
 {
     limits_are_told_where_needs_are_not_left::<KC, VC>();
-    match check_wire_type(tag, WireType::LengthDelimited) {
-        Ok(()) => {}
-        Err(error) => return Err(error),
-    }
+    check_wire_type(tag, WireType::LengthDelimited)?;
     let _old = map.len();
     let answer = merge_entry::<KC, VC, BTreeMap<KC::Value, VC::Value>, &[u8]>(alloc, map, buf, ctx);
     let _new = map.len();
-    match answer {
-        Ok(()) => Ok(()),
-        Err(error) => Err(error),
-    }
+    answer?;
+    Ok(())
 }
 
 /// A map field of scalars, strings, bytes or enums, held in a `BTreeMap`: it is written in the order of its keys.

@@ -111,10 +111,7 @@ fn write_payloads<C: ProtoType, S: EncodeSink>(
         (S.written sink.new) }
 {
     for value in values {
-        match C::encode(value, sink) {
-            Ok(()) => {}
-            Err(error) => return Err(error),
-        }
+        C::encode(value, sink)?;
     }
     Ok(())
 }
@@ -145,10 +142,8 @@ fn write_packed<C: ProtoType, S: EncodeSink>(
     if values.len() == 0 {
         return Ok(());
     }
-    match write_head(number, payloads_len::<C>(values), sink) {
-        Ok(()) => write_payloads::<C, S>(values, sink),
-        Err(error) => Err(error),
-    }
+    write_head(number, payloads_len::<C>(values), sink)?;
+    write_payloads::<C, S>(values, sink)
 }
 
 /// A list of scalars or enums, which is written packed. Elements in fields of their own are read too.

@@ -57,6 +57,7 @@ impl Visitor for Sizer<'_> {
     #[tactic(auto, using(crate::specs::LayoutFacts::is_counted, crate::specs::LayoutFacts::counted_err, crate::specs::LayoutFacts::counted_none))]
     fn visit<M: Member>(&mut self, number: u32, part: &M::Part) {
         if let Ok(total) = self.total {
+            // The error is kept for `finish`, and not handed on: the function returns nothing.
             self.total = match M::len(number, part, self.cache) {
                 Ok(len) => Ok(total.saturating_add(len)),
                 Err(error) => Err(error),

@@ -42,14 +42,9 @@ pub fn take_value<C: MapCodec>(
     ensures refused { (e : _) → result ≡ Err e → RefusesAlone C.reading (λ v. v) ctx.entry.depth (C.Value.meaning value.old)
         tag.number tag.wire_type buf.old.now e (C.Value.meaning value.new) }
 {
-    match check_wire_type(tag, C::WIRE_TYPE) {
-        Ok(()) => {}
-        Err(error) => return Err(error),
-    }
-    match C::merge(alloc, value, buf, ctx) {
-        Ok(_) => Ok(()),
-        Err(error) => Err(error),
-    }
+    check_wire_type(tag, C::WIRE_TYPE)?;
+    C::merge(alloc, value, buf, ctx)?;
+    Ok(())
 }
 
 /// The length of a field in bytes, or 2^32 - 1 where it is more.

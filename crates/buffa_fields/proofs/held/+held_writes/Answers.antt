@@ -1,4 +1,5 @@
 use Rattle.std.proofs.Common.{◌∙◌, ◌+◌, ◌*◌, ◌<◌, length, arith, ap, map, subst, sym}
+use Rattle.std.proofs.lemmas.Result.{err_from_is_err_and}
 use Rattle.buffa_wire.proofs.PassLemmas.{next_ok}
 use Rattle.buffa_bytes.specs.Number.{IsNumber}
 use Rattle.buffa_wire.specs.Encoding.{records_encoding}
@@ -13,23 +14,24 @@ use Rattle.buffa_fields.specs.RepeatedNested.{messages_records, messages_slots}
 use Rattle.buffa_fields.specs.RepeatedNestedFacts.{next_of, write_on, write_stops, written_no}
 use Rattle.buffa_fields.proofs.held.+held_writes.Goals as goal
 
-pub write_kid-returns-in-Ok : goal.write_kid-returns-in-Ok
-write_kid-returns-in-Ok g t c =
+pub write_kid-returns : goal.write_kid-returns
+write_kid-returns g t c =
     let v = nest_means g.O.Holds.layout.meaning c.args.kid.now in
     let encoding = nest_encoding g.O.Holds.layout g.O.Holds.NUMBER g.O.Holds.COST v in
     let slots = nest_slots g.O.Holds.layout g.O.Holds.NUMBER g.O.Holds.COST v in
     let written = g.S.EncodeSink.written in
     record_written c.args.number c.from.result encoding (c.from.ensures ∙ (c.consume_next-inner.ensures.size ∙ (next_ok (cap (length encoding)) slots c.args.cache.now c.requires.next).1)) slots c.args.cache.now c.consume_next-inner.new.self c.write_nest.new.cache
-    (written c.args.sink.now) (written c.write_head.new.sink) (written c.write_nest.new.sink) c.consume_next-inner.ensures.rest c.write_nest.result c.in-Ok.ensures c.write_nest.ensures
+    (written c.args.sink.now) (written c.write_head.new.sink) (written c.write_nest.new.sink) c.consume_next-inner.ensures.rest c.write_nest.result c.in_ok-write_head.ensures c.write_nest.ensures
 
-pub write_kid-returns-in-Err : goal.write_kid-returns-in-Err
-write_kid-returns-in-Err g t c =
+pub write_kid-returns-in_err-write_head : goal.write_kid-returns-in_err-write_head
+write_kid-returns-in_err-write_head g t c =
     let v = nest_means g.O.Holds.layout.meaning c.args.kid.now in
     let encoding = nest_encoding g.O.Holds.layout g.O.Holds.NUMBER g.O.Holds.COST v in
     let slots = nest_slots g.O.Holds.layout g.O.Holds.NUMBER g.O.Holds.COST v in
     let written = g.S.EncodeSink.written in
-    head_short c.args.number c.from.result encoding (c.from.ensures ∙ (c.consume_next-inner.ensures.size ∙ (next_ok (cap (length encoding)) slots c.args.cache.now c.requires.next).1)) slots c.args.cache.now c.consume_next-inner.new.self c.consume_next-inner.new.self
-    (written c.args.sink.now) (written c.write_head.new.sink) (written c.write_head.new.sink) c.consume_next-inner.ensures.rest c.in-Err.error c.in-Err.ensures
+    let p = err_from_is_err_and c.from_residual.result c.from_residual.ensures.1 in
+    rw (p.1, p.2) (head_short c.args.number c.from.result encoding (c.from.ensures ∙ (c.consume_next-inner.ensures.size ∙ (next_ok (cap (length encoding)) slots c.args.cache.now c.requires.next).1)) slots c.args.cache.now c.consume_next-inner.new.self c.consume_next-inner.new.self
+    (written c.args.sink.now) (written c.write_head.new.sink) (written c.write_head.new.sink) c.consume_next-inner.ensures.rest c.in_err-write_head.field-0.0 c.in_err-write_head.ensures)
 
 pub write_kids-loop-kid-init : goal.write_kids-loop-kid-init
 write_kids-loop-kid-init g t c =
@@ -63,14 +65,15 @@ write_kids-loop-kid-preserved g t c =
     let encoding = nest_encoding g.O.Holds.layout g.O.Holds.NUMBER g.O.Holds.COST in
     let slots = nest_slots g.O.Holds.layout g.O.Holds.NUMBER g.O.Holds.COST in
     write_on (λ v. bytes (encoding v)) encoding slots c.args.number (nest_means g.O.Holds.layout.meaning) c.args.kids.now c.loop-kid.kid-index c.kid-item.result c.loop-kid-test.true c.kid-item.is
-    c.args.cache.now c.loop-kid.cache c.write_kid.new.cache (g.S.EncodeSink.written c.args.sink.now) (g.S.EncodeSink.written c.loop-kid.sink) (g.S.EncodeSink.written c.write_kid.new.sink) c.loop-kid.invariant c.in-Ok.ensures
+    c.args.cache.now c.loop-kid.cache c.write_kid.new.cache (g.S.EncodeSink.written c.args.sink.now) (g.S.EncodeSink.written c.loop-kid.sink) (g.S.EncodeSink.written c.write_kid.new.sink) c.loop-kid.invariant c.in_ok-write_kid.ensures
 
-pub write_kids-returns-in-Err : goal.write_kids-returns-in-Err
-write_kids-returns-in-Err g t c =
+pub write_kids-returns-in_err-write_kid : goal.write_kids-returns-in_err-write_kid
+write_kids-returns-in_err-write_kid g t c =
     let encoding = nest_encoding g.O.Holds.layout g.O.Holds.NUMBER g.O.Holds.COST in
     let slots = nest_slots g.O.Holds.layout g.O.Holds.NUMBER g.O.Holds.COST in
-    write_stops (λ v. bytes (encoding v)) encoding slots c.args.number (nest_means g.O.Holds.layout.meaning) c.args.kids.now c.loop-kid.kid-index c.kid-item.result c.loop-kid-test.true c.kid-item.is
-    c.args.cache.now c.loop-kid.cache c.write_kid.new.cache (g.S.EncodeSink.written c.args.sink.now) (g.S.EncodeSink.written c.loop-kid.sink) (g.S.EncodeSink.written c.write_kid.new.sink) c.in-Err.error c.loop-kid.invariant c.in-Err.ensures
+    let p = err_from_is_err_and c.from_residual.result c.from_residual.ensures.1 in
+    rw (p.1, p.2) (write_stops (λ v. bytes (encoding v)) encoding slots c.args.number (nest_means g.O.Holds.layout.meaning) c.args.kids.now c.loop-kid.kid-index c.kid-item.result c.loop-kid-test.true c.kid-item.is
+    c.args.cache.now c.loop-kid.cache c.write_kid.new.cache (g.S.EncodeSink.written c.args.sink.now) (g.S.EncodeSink.written c.loop-kid.sink) (g.S.EncodeSink.written c.write_kid.new.sink) c.in_err-write_kid.field-0.0 c.loop-kid.invariant c.in_err-write_kid.ensures)
 
 pub write_nest-write_front-requires : goal.write_nest-write_front-requires
 write_nest-write_front-requires g t c =
@@ -88,7 +91,7 @@ write_nest-write_kids-requires g t c κs within =
     let means = nest_means l.meaning in
     let low : 3 * nest_heights (nests_in c.as_slice.result.now) + 2 < t = omega (arith, ap (λ xs. nest_heights (nests_in xs)) c.as_slice.ensures.value, ap nest_height c.kid.view_is, c.decreases) in
     let all = subst (λ z. IsNext (slots (means z)) c.args.cache.now) (sym c.kid.view_is) c.requires in
-    let next = next_inside l k each c.kid.inside.own c.kid.inside.inside.items c.args.cache.now c.write_front.new.cache (g.S.EncodeSink.written c.args.sink.now) (g.S.EncodeSink.written c.write_front.new.sink) all c.in-Ok.ensures in (
+    let next = next_inside l k each c.kid.inside.own c.kid.inside.inside.items c.args.cache.now c.write_front.new.cache (g.S.EncodeSink.written c.args.sink.now) (g.S.EncodeSink.written c.write_front.new.sink) all c.in_ok-write_front.ensures in (
       low,
       (
         within.0,
@@ -119,12 +122,12 @@ write_nest-write_behind-requires g t c =
     let b0 = g.S.EncodeSink.written c.args.sink.now in
     let b1 = g.S.EncodeSink.written c.write_front.new.sink in
     let b2 = g.S.EncodeSink.written c.write_kids.new.sink in
-    let numbered = subst (λ n. IsWritten (records_encoding (messages_records encoding n (map means c.as_slice.result.now))) (messages_slots encoding slots (map means c.as_slice.result.now)) c1 b1 done c2 b2) c.NUMBER.ensures c.in-Ok-write_kids.ensures in
+    let numbered = subst (λ n. IsWritten (records_encoding (messages_records encoding n (map means c.as_slice.result.now))) (messages_slots encoding slots (map means c.as_slice.result.now)) c1 b1 done c2 b2) c.NUMBER.ensures c.in_ok-write_kids.ensures in
     let below = subst (λ ts. IsWritten (records_encoding (messages_records encoding k (map means ts))) (messages_slots encoding slots (map means ts)) c1 b1 done c2 b2) c.as_slice.ensures.value numbered in
-    next_behind l k each c.kid.inside.own c.kid.inside.inside.items c0 c1 c2 b0 b1 b2 (subst (λ z. IsNext (slots (means z)) c0) (sym c.kid.view_is) c.requires) c.in-Ok.ensures below
+    next_behind l k each c.kid.inside.own c.kid.inside.inside.items c0 c1 c2 b0 b1 b2 (subst (λ z. IsNext (slots (means z)) c0) (sym c.kid.view_is) c.requires) c.in_ok-write_front.ensures below
 
-pub write_nest-returns-in-Ok-write_kids : goal.write_nest-returns-in-Ok-write_kids
-write_nest-returns-in-Ok-write_kids g t c =
+pub write_nest-returns : goal.write_nest-returns
+write_nest-returns g t c =
     let l = g.O.Holds.layout in
     let k = g.O.Holds.NUMBER in
     let each = g.O.Holds.COST in
@@ -139,13 +142,13 @@ write_nest-returns-in-Ok-write_kids g t c =
     let b1 = g.S.EncodeSink.written c.write_front.new.sink in
     let b2 = g.S.EncodeSink.written c.write_kids.new.sink in
     let b3 = g.S.EncodeSink.written c.write_behind.new.sink in
-    let numbered = subst (λ n. IsWritten (records_encoding (messages_records encoding n (map means c.as_slice.result.now))) (messages_slots encoding slots (map means c.as_slice.result.now)) c1 b1 done c2 b2) c.NUMBER.ensures c.in-Ok-write_kids.ensures in
+    let numbered = subst (λ n. IsWritten (records_encoding (messages_records encoding n (map means c.as_slice.result.now))) (messages_slots encoding slots (map means c.as_slice.result.now)) c1 b1 done c2 b2) c.NUMBER.ensures c.in_ok-write_kids.ensures in
     let below = subst (λ ts. IsWritten (records_encoding (messages_records encoding k (map means ts))) (messages_slots encoding slots (map means ts)) c1 b1 done c2 b2) c.as_slice.ensures.value numbered in
     subst (λ z. IsWritten (encoding (means z)) (slots (means z)) c0 b0 c.write_behind.result c3 b3) c.kid.view_is
-    (nest_written l k each c.kid.inside.own c.kid.inside.inside.items c0 c1 c2 c3 b0 b1 b2 b3 c.write_behind.result c.in-Ok.ensures below c.write_behind.ensures)
+    (nest_written l k each c.kid.inside.own c.kid.inside.inside.items c0 c1 c2 c3 b0 b1 b2 b3 c.write_behind.result c.in_ok-write_front.ensures below c.write_behind.ensures)
 
-pub write_nest-returns-in-Err-write_kids : goal.write_nest-returns-in-Err-write_kids
-write_nest-returns-in-Err-write_kids g t c =
+pub write_nest-returns-in_err-write_kids : goal.write_nest-returns-in_err-write_kids
+write_nest-returns-in_err-write_kids g t c =
     let l = g.O.Holds.layout in
     let k = g.O.Holds.NUMBER in
     let each = g.O.Holds.COST in
@@ -158,14 +161,15 @@ write_nest-returns-in-Err-write_kids g t c =
     let b0 = g.S.EncodeSink.written c.args.sink.now in
     let b1 = g.S.EncodeSink.written c.write_front.new.sink in
     let b2 = g.S.EncodeSink.written c.write_kids.new.sink in
-    let e = c.in-Err-write_kids.error in
-    let numbered = subst (λ n. IsWritten (records_encoding (messages_records encoding n (map means c.as_slice.result.now))) (messages_slots encoding slots (map means c.as_slice.result.now)) c1 b1 (refusal e) c2 b2) c.NUMBER.ensures c.in-Err-write_kids.ensures in
+    let e = c.in_err-write_kids.field-0.0 in
+    let numbered = subst (λ n. IsWritten (records_encoding (messages_records encoding n (map means c.as_slice.result.now))) (messages_slots encoding slots (map means c.as_slice.result.now)) c1 b1 (refusal e) c2 b2) c.NUMBER.ensures c.in_err-write_kids.ensures in
     let below = subst (λ ts. IsWritten (records_encoding (messages_records encoding k (map means ts))) (messages_slots encoding slots (map means ts)) c1 b1 (refusal e) c2 b2) c.as_slice.ensures.value numbered in
-    subst (λ z. IsWritten (encoding (means z)) (slots (means z)) c0 b0 (refusal e) c2 b2) c.kid.view_is
-    (inside_cut l k each c.kid.inside.own c.kid.inside.inside.items c0 c1 c2 b0 b1 b2 e c.in-Ok.ensures below)
+    let p = err_from_is_err_and c.from_residual-in_err-write_kids.result c.from_residual-in_err-write_kids.ensures.1 in
+    rw (p.1, p.2) (subst (λ z. IsWritten (encoding (means z)) (slots (means z)) c0 b0 (refusal e) c2 b2) c.kid.view_is
+    (inside_cut l k each c.kid.inside.own c.kid.inside.inside.items c0 c1 c2 b0 b1 b2 e c.in_ok-write_front.ensures below))
 
-pub write_nest-returns-in-Err : goal.write_nest-returns-in-Err
-write_nest-returns-in-Err g t c =
+pub write_nest-returns-in_err-write_front : goal.write_nest-returns-in_err-write_front
+write_nest-returns-in_err-write_front g t c =
     let l = g.O.Holds.layout in
     let k = g.O.Holds.NUMBER in
     let each = g.O.Holds.COST in
@@ -176,6 +180,7 @@ write_nest-returns-in-Err g t c =
     let c1 = c.write_front.new.cache in
     let b0 = g.S.EncodeSink.written c.args.sink.now in
     let b1 = g.S.EncodeSink.written c.write_front.new.sink in
-    let e = c.in-Err.error in
-    subst (λ z. IsWritten (encoding (means z)) (slots (means z)) c0 b0 (refusal e) c1 b1) c.kid.view_is
-    (front_cut l k each c.kid.inside.own c.kid.inside.inside.items c0 c1 b0 b1 e c.in-Err.ensures)
+    let e = c.in_err-write_front.field-0.0 in
+    let p = err_from_is_err_and c.from_residual.result c.from_residual.ensures.1 in
+    rw (p.1, p.2) (subst (λ z. IsWritten (encoding (means z)) (slots (means z)) c0 b0 (refusal e) c1 b1) c.kid.view_is
+    (front_cut l k each c.kid.inside.own c.kid.inside.inside.items c0 c1 b0 b1 e c.in_err-write_front.ensures))

@@ -1,4 +1,5 @@
 use Rattle.std.proofs.Common.{Ok, Err, arith}
+use Rattle.std.proofs.lemmas.Result.{err_from_is_err_and}
 use Rattle.buffa_bytes.proofs.FullLemmas.{tag_no_full}
 use Rattle.buffa_wire.proofs.MergeLoopLemmas.{begins, ended, goes_on, no_tag, refused_next, shorter, stands_refused, stands_untagged, tail}
 use Rattle.buffa_fields.proofs.StandsLemmas.{asked, by_members}
@@ -14,42 +15,51 @@ fields-init g c =
 pub fields-smaller : goal.fields-smaller
 fields-smaller g c =
     let l = g.M.Fields.layout in
-    shorter (by_members l) c.fields.invariant c.in-Ok.tag.number c.in-Ok.tag.wire_type c.decode.new.buf.now c.in-Ok.ensures.reads (l.meaning c.take.new.self) c.take.new.buf.now _
-    (merges l c.args.ctx.depth c.fields.message c.take.new.self c.in-Ok.tag.number c.in-Ok.tag.wire_type c.decode.new.buf.now c.take.new.buf.now c.fields.budget _ (Ok tt) c.in-Ok-take.ensures)
+    shorter (by_members l) c.fields.invariant c.in_ok-tag.tag.number c.in_ok-tag.tag.wire_type c.decode.new.buf.now c.in_ok-tag.ensures.reads (l.meaning c.take.new.self) c.take.new.buf.now _
+    (merges l c.args.ctx.depth c.fields.message c.take.new.self c.in_ok-tag.tag.number c.in_ok-tag.tag.wire_type c.decode.new.buf.now c.take.new.buf.now c.fields.budget _ (Ok tt) c.in_ok-take.ensures)
 
 pub fields-preserved : goal.fields-preserved
 fields-preserved g c =
     let l = g.M.Fields.layout in
-    goes_on (by_members l) c.fields.invariant c.in-Ok.tag.number c.in-Ok.tag.wire_type c.decode.new.buf.now c.in-Ok.ensures.reads (l.meaning c.take.new.self) c.take.new.buf.now _
-    (merges l c.args.ctx.depth c.fields.message c.take.new.self c.in-Ok.tag.number c.in-Ok.tag.wire_type c.decode.new.buf.now c.take.new.buf.now c.fields.budget _ (Ok tt) c.in-Ok-take.ensures)
+    goes_on (by_members l) c.fields.invariant c.in_ok-tag.tag.number c.in_ok-tag.tag.wire_type c.decode.new.buf.now c.in_ok-tag.ensures.reads (l.meaning c.take.new.self) c.take.new.buf.now _
+    (merges l c.args.ctx.depth c.fields.message c.take.new.self c.in_ok-tag.tag.number c.in_ok-tag.tag.wire_type c.decode.new.buf.now c.take.new.buf.now c.fields.budget _ (Ok tt) c.in_ok-take.ensures)
 
-pub returns-in-Err-clause-stands : goal.returns-in-Err-clause-stands
-returns-in-Err-clause-stands g c =
+pub returns-in_err-tag-clause-stands : goal.returns-in_err-tag-clause-stands
+returns-in_err-tag-clause-stands g c =
     let l = g.M.Fields.layout in
-    stands_untagged (by_members l) c.fields.invariant (IsMemberRefused l) c.in-Err.error (omega (arith, c.remaining.ensures, c.fields-test.true)) c.in-Err.ensures.reads
+    let p = err_from_is_err_and c.from_residual.result c.from_residual.ensures.1 in
+    rw (p.1, p.2) (stands_untagged (by_members l) c.fields.invariant (IsMemberRefused l) c.in_err-tag.field-0.0 (omega (arith, c.remaining.ensures, c.fields-test.true)) c.in_err-tag.ensures.reads)
 
-pub returns-in-Err-clause-full : goal.returns-in-Err-clause-full
-returns-in-Err-clause-full g c = tag_no_full c.fields.rest.now c.in-Err.error c.in-Err.ensures.reads
+pub returns-in_err-tag-clause-full : goal.returns-in_err-tag-clause-full
+returns-in_err-tag-clause-full g c =
+    let p = err_from_is_err_and c.from_residual.result c.from_residual.ensures.1 in
+    rw (p.1, p.2) (tag_no_full c.fields.rest.now c.in_err-tag.field-0.0 c.in_err-tag.ensures.reads)
 
-pub returns-in-Err-take-clause-stands : goal.returns-in-Err-take-clause-stands
-returns-in-Err-take-clause-stands g c =
+pub returns-in_err-take-clause-stands : goal.returns-in_err-take-clause-stands
+returns-in_err-take-clause-stands g c =
     let l = g.M.Fields.layout in
-    stands_refused (by_members l) c.fields.invariant c.in-Ok.tag.number c.in-Ok.tag.wire_type c.decode.new.buf.now c.in-Ok.ensures.reads (IsMemberRefused l) c.in-Err-take.error (l.meaning c.take.new.self) c.take.new.buf.now _
-    (merges l c.args.ctx.depth c.fields.message c.take.new.self c.in-Ok.tag.number c.in-Ok.tag.wire_type c.decode.new.buf.now c.take.new.buf.now c.fields.budget _ (Err c.in-Err-take.error) c.in-Err-take.ensures)
-    (refused_of l c.args.ctx.depth c.fields.message c.take.new.self c.in-Ok.tag.number c.in-Ok.tag.wire_type c.decode.new.buf.now c.take.new.buf.now c.fields.budget _ (Err c.in-Err-take.error) c.in-Err-take.ensures)
-    (full_of l c.args.ctx.depth c.fields.message c.take.new.self c.in-Ok.tag.number c.in-Ok.tag.wire_type c.decode.new.buf.now c.take.new.buf.now c.fields.budget _ (Err c.in-Err-take.error) c.in-Err-take.ensures)
+    let p = err_from_is_err_and c.from_residual-in_err-take.result c.from_residual-in_err-take.ensures.1 in
+    rw (p.1, p.2) (stands_refused (by_members l) c.fields.invariant c.in_ok-tag.tag.number c.in_ok-tag.tag.wire_type c.decode.new.buf.now c.in_ok-tag.ensures.reads (IsMemberRefused l) c.in_err-take.field-0.0 (l.meaning c.take.new.self) c.take.new.buf.now _
+    (merges l c.args.ctx.depth c.fields.message c.take.new.self c.in_ok-tag.tag.number c.in_ok-tag.tag.wire_type c.decode.new.buf.now c.take.new.buf.now c.fields.budget _ (Err c.in_err-take.field-0.0) c.in_err-take.ensures)
+    (refused_of l c.args.ctx.depth c.fields.message c.take.new.self c.in_ok-tag.tag.number c.in_ok-tag.tag.wire_type c.decode.new.buf.now c.take.new.buf.now c.fields.budget _ (Err c.in_err-take.field-0.0) c.in_err-take.ensures)
+    (full_of l c.args.ctx.depth c.fields.message c.take.new.self c.in_ok-tag.tag.number c.in_ok-tag.tag.wire_type c.decode.new.buf.now c.take.new.buf.now c.fields.budget _ (Err c.in_err-take.field-0.0) c.in_err-take.ensures))
 
-pub returns-in-Err-take-clause-full : goal.returns-in-Err-take-clause-full
-returns-in-Err-take-clause-full g c = asked g.M.Fields.layout c.fields.message c.fields.invariant c.take.new.self c.in-Ok.tag.number c.in-Ok.tag.wire_type c.decode.new.buf.now c.in-Ok.ensures.reads c.take.new.buf.now _ c.in-Err-take.error c.in-Err-take.ensures
+pub returns-in_err-take-clause-full : goal.returns-in_err-take-clause-full
+returns-in_err-take-clause-full g c =
+    let p = err_from_is_err_and c.from_residual-in_err-take.result c.from_residual-in_err-take.ensures.1 in
+    rw (p.1, p.2) (asked g.M.Fields.layout c.fields.message c.fields.invariant c.take.new.self c.in_ok-tag.tag.number c.in_ok-tag.tag.wire_type c.decode.new.buf.now c.in_ok-tag.ensures.reads c.take.new.buf.now _ c.in_err-take.field-0.0 c.in_err-take.ensures)
 
-pub returns-in-Err-clause-merged : goal.returns-in-Err-clause-merged
-returns-in-Err-clause-merged g c = no_tag (by_members g.M.Fields.layout) c.fields.invariant c.in-Err.error (omega (arith, c.remaining.ensures, c.fields-test.true)) c.in-Err.ensures.reads
+pub returns-in_err-tag-clause-merged : goal.returns-in_err-tag-clause-merged
+returns-in_err-tag-clause-merged g c =
+    let p = err_from_is_err_and c.from_residual.result c.from_residual.ensures.1 in
+    rw (p.1, p.2) (no_tag (by_members g.M.Fields.layout) c.fields.invariant c.in_err-tag.field-0.0 (omega (arith, c.remaining.ensures, c.fields-test.true)) c.in_err-tag.ensures.reads)
 
-pub returns-in-Err-take-clause-merged : goal.returns-in-Err-take-clause-merged
-returns-in-Err-take-clause-merged g c =
+pub returns-in_err-take-clause-merged : goal.returns-in_err-take-clause-merged
+returns-in_err-take-clause-merged g c =
     let l = g.M.Fields.layout in
-    refused_next (by_members l) c.fields.invariant c.in-Ok.tag.number c.in-Ok.tag.wire_type c.decode.new.buf.now c.in-Ok.ensures.reads c.in-Err-take.error (l.meaning c.take.new.self) c.take.new.buf.now _
-    (merges l c.args.ctx.depth c.fields.message c.take.new.self c.in-Ok.tag.number c.in-Ok.tag.wire_type c.decode.new.buf.now c.take.new.buf.now c.fields.budget _ (Err c.in-Err-take.error) c.in-Err-take.ensures)
+    let p = err_from_is_err_and c.from_residual-in_err-take.result c.from_residual-in_err-take.ensures.1 in
+    rw (p.1, p.2) (refused_next (by_members l) c.fields.invariant c.in_ok-tag.tag.number c.in_ok-tag.tag.wire_type c.decode.new.buf.now c.in_ok-tag.ensures.reads c.in_err-take.field-0.0 (l.meaning c.take.new.self) c.take.new.buf.now _
+    (merges l c.args.ctx.depth c.fields.message c.take.new.self c.in_ok-tag.tag.number c.in_ok-tag.tag.wire_type c.decode.new.buf.now c.take.new.buf.now c.fields.budget _ (Err c.in_err-take.field-0.0) c.in_err-take.ensures))
 
 pub returns-clause-merged : goal.returns-clause-merged
 returns-clause-merged g c = ended (by_members g.M.Fields.layout) c.fields.invariant (omega (arith, c.remaining.ensures, c.fields-test.false))
