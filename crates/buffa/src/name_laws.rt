@@ -167,6 +167,7 @@ where
     ensures inside { (n : ℕ) (v : _) → ⟦<fields::Inside<O> as Member>⟧.shape.records n v
         ≡ messages_records (nest_encoding O.layout O.NUMBER O.COST) n v }
     ensures nest { (v : _) → ⟦<fields::Nest<O> as Fields>⟧.layout.records v
-        ≡ messages_records (nest_encoding O.layout O.NUMBER O.COST) O.NUMBER v.0 ++ O.layout.records v.1 }
+        ≡ O.layout.front O.NUMBER v.1 ++ (messages_records (nest_encoding O.layout O.NUMBER O.COST) O.NUMBER v.0
+        ++ (O.layout.behind O.NUMBER v.1 ++ O.layout.kept v.1)) }
     ensures listed { ⟦<fields::Listed as MessageForm<M>>⟧.records ≡ M.layout.records }
 {}
