@@ -51,6 +51,11 @@ module _ {K V : Type 0} {eq : K → K → Bool} (laws : IsEquivalence eq) where
   pub one_count : (m l : List (K × V)) → IsDistinct eq (keys_of m) → ListsOnce eq m l → length l ≡ length m
   one_count m l d h = length_permutation m l (permuted m m l (d, λ q. refl) h)
 
+  -- a map without pairs is walked as none
+  pub no_pairs : (m l : List (K × V)) → IsDistinct eq (keys_of m) → ListsOnce eq m l → length m ≡ 0 → l ≡ []
+  no_pairs m [] d h none = refl
+  no_pairs m (p ∷ l) d h none = absurd (omega (arith, one_count m (p ∷ l) d h, none))
+
   -- a map of which a walk gives a pair has pairs
   pub has_pairs : (m l done rest : List (K × V)) (p : K × V) → IsDistinct eq (keys_of m) → ListsOnce eq m l → l ≡ done ++ p ∷ rest → m ≢ []
   has_pairs m l done rest p d h e none = absurd (omega (arith, one_count m l d h, ap length none, ap length e, length-append done (p ∷ rest)))

@@ -60,9 +60,15 @@ where
     ensures sized { IsFieldSized KC.writing M.encoding M.slots outer_tag_len (C.walk map.now) cache.old result cache.new }
     ensures some { OnErr result (C.pairs map.now ≢ []) }
 {
-    cache.make_room(map.storage_len())?;
+    // The contract names this walk, also where the map has no pairs.
+    let walk = map.storage_iter();
+    let pairs = map.storage_len();
+    if pairs == 0 {
+        return Ok(0);
+    }
+    cache.make_room(pairs)?;
     let mut total: u64 = 0;
-    for (key, value) in map.storage_iter() {
+    for (key, value) in walk {
         let slot = cache.reserve()?;
         let inner = size(value, cache)?;
         cache.set(slot, inner);

@@ -113,7 +113,12 @@ where
     ensures room { KeepsMessageRoom (F.post write) (λ v. M.encoding (M.meaning v)) S.room → UsesFieldRoom KC.writing M.encoding
         number (C.walk map.now) result (S.room sink.old) (S.room sink.new) }
 {
-    for (key, value) in map.storage_iter() {
+    // The contract names this walk, also where the map has no pairs.
+    let walk = map.storage_iter();
+    if map.storage_len() == 0 {
+        return Ok(());
+    }
+    for (key, value) in walk {
         write_message_record_by::<KC, M, S, F>(number, key, value, cache, sink, &write)?;
     }
     Ok(())

@@ -1,24 +1,32 @@
-use Rattle.std.proofs.Common.{arith, ◌≡◌, ℕ, ◌+◌, ◌++◌, List, [], ◌∷◌, sym, ◌∙◌, ap, Some, None, subst}
+use Rattle.std.proofs.Common.{arith, ◌≡◌, ℕ, ◌+◌, ◌++◌, List, [], ◌∷◌, refl, sym, ◌∙◌, ap, Some, None, Ok, subst}
 use Rattle.std.specs.List.{Contains}
 use Rattle.std.specs.Map.{values_of}
 use Rattle.std.proofs.lemmas.Result.{err_from_is_err_and}
 use Rattle.buffa_wire.specs.Cache.{appended}
 use Rattle.buffa_wire.specs.Passes.{cap}
 use Rattle.buffa_wire.proofs.PassLemmas.{appended_none, appended_twice, longer_through, longer_twice, set_ok, slots_step}
-use Rattle.buffa_map.specs.MessageField.{IsSmallField, field_slots}
+use Rattle.buffa_map.specs.MessageField.{IsFieldSized, IsSmallField, field_slots}
 use Rattle.buffa_map.specs.Pairs.{mean, means}
 use Rattle.buffa_map.specs.Scalars.{delimited_writing}
 use Rattle.buffa_map.specs.Encoding.{field_size, saturated}
 use Rattle.buffa_map.proofs.MessageFieldLemmas.{here, onward, size_capped, size_exact}
-use Rattle.buffa_map.proofs.WalkLemmas.{has_pairs}
+use Rattle.buffa_map.proofs.WalkLemmas.{has_pairs, no_pairs}
 use Rattle.buffa_map.proofs.message_size.message_field_len_by.Goals as goal
+
+pub returns-then-pairs-eq0-clause-sized : goal.returns-then-pairs-eq0-clause-sized
+returns-then-pairs-eq0-clause-sized g c =
+    let walked = means g.KC.Value.Blank.meaning g.M.Blank.meaning (g.C.MapWalk.left c.storage_iter-walk.result) in
+    let none : walked ≡ [] = no_pairs g.met.C.MapStorage.equivalence _ walked c.storage_len-pairs.ensures.distinct c.storage_iter-walk.ensures.pairs (sym c.storage_len-pairs.ensures.len ∙ c.if-pairs-eq0.true) in
+    let same : [] ≡ g.C.StableOrder.walk c.args.map.now = sym none ∙ g.met.C.StableOrder.stable c.args.map.now walked c.storage_iter-walk.ensures.walk in
+    subst (λ l. IsFieldSized g.KC.MapCodec.writing g.M.MessageSpec.encoding g.M.MessageSpec.slots c.args.outer_tag_len l c.args.cache.now (Ok 0) c.args.cache.now) same
+    (refl, λ _. refl, sym (appended_none c.args.cache.now))
 
 pub loop-key-init : goal.loop-key-init
 loop-key-init g c =
     let m = means g.KC.Value.Blank.meaning g.M.Blank.meaning in
     let encoding = g.M.MessageSpec.encoding in
     let same : m (g.C.MapWalk.left c.into_iter-key-iterator.result) ≡ g.C.StableOrder.walk c.args.map.now =
-    ap (λ z. m (g.C.MapWalk.left z)) c.into_iter-key-iterator.ensures.into_iter_gives ∙ g.met.C.StableOrder.stable c.args.map.now (m (g.C.MapWalk.left c.storage_iter-key-items.result)) c.storage_iter-key-items.ensures.walk in
+    ap (λ z. m (g.C.MapWalk.left z)) c.into_iter-key-iterator.ensures.into_iter_gives ∙ g.met.C.StableOrder.stable c.args.map.now (m (g.C.MapWalk.left c.storage_iter-walk.result)) c.storage_iter-walk.ensures.walk in
     record {
       within = ([], sym same);
       capped = ap (λ l. cap (0 + field_size g.KC.MapCodec.writing (delimited_writing encoding) c.args.outer_tag_len l)) same ∙ ap cap (omega arith);
@@ -35,7 +43,7 @@ size-requires g c =
     let p : g.row.KC-Value.Denot × g.row.M.Denot = (c.in-Some.key.now, c.in-Some.value.now) in
     let m = mean g.KC.Value.Blank.meaning g.M.Blank.meaning p in
     let rest = means g.KC.Value.Blank.meaning g.M.Blank.meaning (g.C.MapWalk.left c.next.new.self) in
-    let step : g.C.MapWalk.left c.loop-key.key-iterator ≡ p ∷ g.C.MapWalk.left c.next.new.self = c.storage_iter-key-items.ensures.steps c.loop-key.key-iterator (Some (c.in-Some.key, c.in-Some.value)) c.next.new.self c.in-Some.ensures.steps in
+    let step : g.C.MapWalk.left c.loop-key.key-iterator ≡ p ∷ g.C.MapWalk.left c.next.new.self = c.storage_iter-walk.ensures.steps c.loop-key.key-iterator (Some (c.in-Some.key, c.in-Some.value)) c.next.new.self c.in-Some.ensures.steps in
     let e = i.within.1 ∙ ap (λ (z : List (g.row.KC-Value.Denot × g.row.M.Denot)). i.within.0 ++ means g.KC.Value.Blank.meaning g.M.Blank.meaning z) step in
     let h : Contains (values_of (g.C.StableOrder.walk c.args.map.now)) m.1 = here m rest (g.C.StableOrder.walk c.args.map.now) i.within.0 e in
     c.requires.may _ _ h
@@ -46,7 +54,7 @@ set-requires g c =
     let p : g.row.KC-Value.Denot × g.row.M.Denot = (c.in-Some.key.now, c.in-Some.value.now) in
     let m = mean g.KC.Value.Blank.meaning g.M.Blank.meaning p in
     let rest = means g.KC.Value.Blank.meaning g.M.Blank.meaning (g.C.MapWalk.left c.next.new.self) in
-    let step : g.C.MapWalk.left c.loop-key.key-iterator ≡ p ∷ g.C.MapWalk.left c.next.new.self = c.storage_iter-key-items.ensures.steps c.loop-key.key-iterator (Some (c.in-Some.key, c.in-Some.value)) c.next.new.self c.in-Some.ensures.steps in
+    let step : g.C.MapWalk.left c.loop-key.key-iterator ≡ p ∷ g.C.MapWalk.left c.next.new.self = c.storage_iter-walk.ensures.steps c.loop-key.key-iterator (Some (c.in-Some.key, c.in-Some.value)) c.next.new.self c.in-Some.ensures.steps in
     let e = i.within.1 ∙ ap (λ (z : List (g.row.KC-Value.Denot × g.row.M.Denot)). i.within.0 ++ means g.KC.Value.Blank.meaning g.M.Blank.meaning z) step in
     let h : Contains (values_of (g.C.StableOrder.walk c.args.map.now)) m.1 = here m rest (g.C.StableOrder.walk c.args.map.now) i.within.0 e in
     let s = c.requires.keeps _ _ _ _ h c.size.ensures in
@@ -60,7 +68,7 @@ returns-in_err-inner-clause-sized g c =
     let p : g.row.KC-Value.Denot × g.row.M.Denot = (c.in-Some.key.now, c.in-Some.value.now) in
     let m = mean g.KC.Value.Blank.meaning g.M.Blank.meaning p in
     let rest = means g.KC.Value.Blank.meaning g.M.Blank.meaning (g.C.MapWalk.left c.next.new.self) in
-    let step : g.C.MapWalk.left c.loop-key.key-iterator ≡ p ∷ g.C.MapWalk.left c.next.new.self = c.storage_iter-key-items.ensures.steps c.loop-key.key-iterator (Some (c.in-Some.key, c.in-Some.value)) c.next.new.self c.in-Some.ensures.steps in
+    let step : g.C.MapWalk.left c.loop-key.key-iterator ≡ p ∷ g.C.MapWalk.left c.next.new.self = c.storage_iter-walk.ensures.steps c.loop-key.key-iterator (Some (c.in-Some.key, c.in-Some.value)) c.next.new.self c.in-Some.ensures.steps in
     let e = i.within.1 ∙ ap (λ (z : List (g.row.KC-Value.Denot × g.row.M.Denot)). i.within.0 ++ means g.KC.Value.Blank.meaning g.M.Blank.meaning z) step in
     let h : Contains (values_of (g.C.StableOrder.walk c.args.map.now)) m.1 = here m rest (g.C.StableOrder.walk c.args.map.now) i.within.0 e in
     let s = c.requires.keeps _ _ _ _ h c.size.ensures in
@@ -78,7 +86,7 @@ loop-key-preserved g c =
     let all = g.C.StableOrder.walk c.args.map.now in
     let rest : List (g.row.KC-Value-Meaning.Denot × g.row.M-Meaning.Denot) = means g.KC.Value.Blank.meaning g.M.Blank.meaning (g.C.MapWalk.left c.next.new.self) in
     let now : List (g.row.KC-Value-Meaning.Denot × g.row.M-Meaning.Denot) = means g.KC.Value.Blank.meaning g.M.Blank.meaning (g.C.MapWalk.left c.loop-key.key-iterator) in
-    let step : g.C.MapWalk.left c.loop-key.key-iterator ≡ p ∷ g.C.MapWalk.left c.next.new.self = c.storage_iter-key-items.ensures.steps c.loop-key.key-iterator (Some (c.in-Some.key, c.in-Some.value)) c.next.new.self c.in-Some.ensures.steps in
+    let step : g.C.MapWalk.left c.loop-key.key-iterator ≡ p ∷ g.C.MapWalk.left c.next.new.self = c.storage_iter-walk.ensures.steps c.loop-key.key-iterator (Some (c.in-Some.key, c.in-Some.value)) c.next.new.self c.in-Some.ensures.steps in
     let n : now ≡ m ∷ rest = ap (λ (z : List (g.row.KC-Value.Denot × g.row.M.Denot)). means g.KC.Value.Blank.meaning g.M.Blank.meaning z) step in
     let e : all ≡ i.within.0 ++ m ∷ rest = i.within.1 ∙ ap (λ (z : List (g.row.KC-Value-Meaning.Denot × g.row.M-Meaning.Denot)). i.within.0 ++ z) n in
     let h : Contains (values_of all) m.1 = here m rest all i.within.0 e in
@@ -110,7 +118,7 @@ returns-clause-sized g c =
     let encoding = g.M.MessageSpec.encoding in
     let slots = g.M.MessageSpec.slots in
     let i = c.loop-key.invariant in
-    let step = c.storage_iter-key-items.ensures.steps c.loop-key.key-iterator None c.next.new.self c.in-None.ensures.steps in
+    let step = c.storage_iter-walk.ensures.steps c.loop-key.key-iterator None c.next.new.self c.in-None.ensures.steps in
     let now : List (g.row.KC-Value-Meaning.Denot × g.row.M-Meaning.Denot) = means g.KC.Value.Blank.meaning g.M.Blank.meaning (g.C.MapWalk.left c.loop-key.key-iterator) in
     let n : now ≡ [] = ap (λ (z : List (g.row.KC-Value.Denot × g.row.M.Denot)). means g.KC.Value.Blank.meaning g.M.Blank.meaning z) step.0 in (
       ap cap (omega arith) ∙ ap (λ l. cap (c.loop-key.total + field_size key (delimited_writing encoding) c.args.outer_tag_len l)) (sym n) ∙ i.capped,
@@ -122,18 +130,18 @@ pub returns-in_err-slot-clause-some : goal.returns-in_err-slot-clause-some
 returns-in_err-slot-clause-some g c =
     let q = err_from_is_err_and c.from_residual-in_err-slot.result c.from_residual-in_err-slot.ensures.1 in
     let i = c.loop-key.invariant in
-    let walked = means g.KC.Value.Blank.meaning g.M.Blank.meaning (g.C.MapWalk.left c.storage_iter-key-items.result) in
+    let walked = means g.KC.Value.Blank.meaning g.M.Blank.meaning (g.C.MapWalk.left c.storage_iter-walk.result) in
     let p : g.row.KC-Value.Denot × g.row.M.Denot = (c.in-Some.key.now, c.in-Some.value.now) in
-    let step : g.C.MapWalk.left c.loop-key.key-iterator ≡ p ∷ g.C.MapWalk.left c.next.new.self = c.storage_iter-key-items.ensures.steps c.loop-key.key-iterator (Some (c.in-Some.key, c.in-Some.value)) c.next.new.self c.in-Some.ensures.steps in
+    let step : g.C.MapWalk.left c.loop-key.key-iterator ≡ p ∷ g.C.MapWalk.left c.next.new.self = c.storage_iter-walk.ensures.steps c.loop-key.key-iterator (Some (c.in-Some.key, c.in-Some.value)) c.next.new.self c.in-Some.ensures.steps in
     let e = i.within.1 ∙ ap (λ (z : List (g.row.KC-Value.Denot × g.row.M.Denot)). i.within.0 ++ means g.KC.Value.Blank.meaning g.M.Blank.meaning z) step in
-    rw q.1 (has_pairs g.met.C.MapStorage.equivalence _ walked i.within.0 _ _ c.storage_len.ensures.distinct c.storage_iter-key-items.ensures.pairs (g.met.C.StableOrder.stable c.args.map.now walked c.storage_iter-key-items.ensures.walk ∙ e))
+    rw q.1 (has_pairs g.met.C.MapStorage.equivalence _ walked i.within.0 _ _ c.storage_len-pairs.ensures.distinct c.storage_iter-walk.ensures.pairs (g.met.C.StableOrder.stable c.args.map.now walked c.storage_iter-walk.ensures.walk ∙ e))
 
 pub returns-in_err-inner-clause-some : goal.returns-in_err-inner-clause-some
 returns-in_err-inner-clause-some g c =
     let q = err_from_is_err_and c.from_residual-in_err-inner.result c.from_residual-in_err-inner.ensures.1 in
     let i = c.loop-key.invariant in
-    let walked = means g.KC.Value.Blank.meaning g.M.Blank.meaning (g.C.MapWalk.left c.storage_iter-key-items.result) in
+    let walked = means g.KC.Value.Blank.meaning g.M.Blank.meaning (g.C.MapWalk.left c.storage_iter-walk.result) in
     let p : g.row.KC-Value.Denot × g.row.M.Denot = (c.in-Some.key.now, c.in-Some.value.now) in
-    let step : g.C.MapWalk.left c.loop-key.key-iterator ≡ p ∷ g.C.MapWalk.left c.next.new.self = c.storage_iter-key-items.ensures.steps c.loop-key.key-iterator (Some (c.in-Some.key, c.in-Some.value)) c.next.new.self c.in-Some.ensures.steps in
+    let step : g.C.MapWalk.left c.loop-key.key-iterator ≡ p ∷ g.C.MapWalk.left c.next.new.self = c.storage_iter-walk.ensures.steps c.loop-key.key-iterator (Some (c.in-Some.key, c.in-Some.value)) c.next.new.self c.in-Some.ensures.steps in
     let e = i.within.1 ∙ ap (λ (z : List (g.row.KC-Value.Denot × g.row.M.Denot)). i.within.0 ++ means g.KC.Value.Blank.meaning g.M.Blank.meaning z) step in
-    rw q.1 (has_pairs g.met.C.MapStorage.equivalence _ walked i.within.0 _ _ c.storage_len.ensures.distinct c.storage_iter-key-items.ensures.pairs (g.met.C.StableOrder.stable c.args.map.now walked c.storage_iter-key-items.ensures.walk ∙ e))
+    rw q.1 (has_pairs g.met.C.MapStorage.equivalence _ walked i.within.0 _ _ c.storage_len-pairs.ensures.distinct c.storage_iter-walk.ensures.pairs (g.met.C.StableOrder.stable c.args.map.now walked c.storage_iter-walk.ensures.walk ∙ e))

@@ -11,8 +11,20 @@ use Rattle.buffa_map.specs.Pairs.{mean, means}
 use Rattle.buffa_map.specs.Scalars.{delimited_writing}
 use Rattle.buffa_map.specs.Encoding.{field_encoding, record_encoding}
 use Rattle.buffa_map.proofs.MessageFieldLemmas.{here, small_at}
+use Rattle.buffa_map.proofs.WalkLemmas.{no_pairs}
 use Rattle.buffa_map.proofs.WriteLemmas.{field_by_value}
 use Rattle.buffa_map.proofs.message_write.write_message_field_by.Goals as goal
+
+pub returns-then-storage_len-eq0-clause-written : goal.returns-then-storage_len-eq0-clause-written
+returns-then-storage_len-eq0-clause-written g c =
+    let key = g.KC.MapCodec.writing in
+    let encoding = g.M.MessageSpec.encoding in
+    let written = g.S.EncodeSink.written in
+    let walked = means g.KC.Value.Blank.meaning g.M.Blank.meaning (g.C.MapWalk.left c.storage_iter-walk.result) in
+    let none : walked ≡ [] = no_pairs g.met.C.MapStorage.equivalence _ walked c.storage_len.ensures.distinct c.storage_iter-walk.ensures.pairs (sym c.storage_len.ensures.len ∙ c.if-storage_len-eq0.true) in
+    let same : [] ≡ g.C.StableOrder.walk c.args.map.now = sym none ∙ g.met.C.StableOrder.stable c.args.map.now walked c.storage_iter-walk.ensures.walk in
+    subst (λ l. IsFieldWritten key encoding g.M.MessageSpec.slots c.args.number l c.args.cache.now (written c.args.sink.now) done c.args.cache.now (written c.args.sink.now)) same
+    (written_none (IsSmallField key encoding []) c.args.cache.now (written c.args.sink.now))
 
 pub loop-key-init : goal.loop-key-init
 loop-key-init g c =
@@ -22,7 +34,7 @@ loop-key-init g c =
     let slots = g.M.MessageSpec.slots in
     let written = g.S.EncodeSink.written in
     let same : m (g.C.MapWalk.left c.into_iter-key-iterator.result) ≡ g.C.StableOrder.walk c.args.map.now =
-    ap (λ z. m (g.C.MapWalk.left z)) c.into_iter-key-iterator.ensures.into_iter_gives ∙ g.met.C.StableOrder.stable c.args.map.now (m (g.C.MapWalk.left c.storage_iter-key-items.result)) c.storage_iter-key-items.ensures.walk in
+    ap (λ z. m (g.C.MapWalk.left z)) c.into_iter-key-iterator.ensures.into_iter_gives ∙ g.met.C.StableOrder.stable c.args.map.now (m (g.C.MapWalk.left c.storage_iter-walk.result)) c.storage_iter-walk.ensures.walk in
     record {
       within = ([], sym same);
       next = subst (λ l. IsNext (field_slots encoding slots l) c.args.cache.now) (sym same) c.requires.next;
@@ -39,7 +51,7 @@ write_message_record_by-requires-clause-next g c =
     let m : g.row.KC-Value-Meaning.Denot × g.row.M-Meaning.Denot = mean g.KC.Value.Blank.meaning g.M.Blank.meaning p in
     let rest : List (g.row.KC-Value-Meaning.Denot × g.row.M-Meaning.Denot) = means g.KC.Value.Blank.meaning g.M.Blank.meaning (g.C.MapWalk.left c.next.new.self) in
     let now : List (g.row.KC-Value-Meaning.Denot × g.row.M-Meaning.Denot) = means g.KC.Value.Blank.meaning g.M.Blank.meaning (g.C.MapWalk.left c.loop-key.key-iterator) in
-    let step : g.C.MapWalk.left c.loop-key.key-iterator ≡ p ∷ g.C.MapWalk.left c.next.new.self = c.storage_iter-key-items.ensures.steps c.loop-key.key-iterator (Some (c.in-Some.key, c.in-Some.value)) c.next.new.self c.in-Some.ensures.steps in
+    let step : g.C.MapWalk.left c.loop-key.key-iterator ≡ p ∷ g.C.MapWalk.left c.next.new.self = c.storage_iter-walk.ensures.steps c.loop-key.key-iterator (Some (c.in-Some.key, c.in-Some.value)) c.next.new.self c.in-Some.ensures.steps in
     let n : now ≡ m ∷ rest = ap (λ (z : List (g.row.KC-Value.Denot × g.row.M.Denot)). means g.KC.Value.Blank.meaning g.M.Blank.meaning z) step in
     next_front (cap (length (encoding m.1)) ∷ slots m.1) (field_slots encoding slots rest) c.loop-key.cache (subst (λ l. IsNext (field_slots encoding slots l) c.loop-key.cache) n i.next)
 
@@ -49,7 +61,7 @@ write_message_record_by-requires-clause-may g c =
     let p : g.row.KC-Value.Denot × g.row.M.Denot = (c.in-Some.key.now, c.in-Some.value.now) in
     let m : g.row.KC-Value-Meaning.Denot × g.row.M-Meaning.Denot = mean g.KC.Value.Blank.meaning g.M.Blank.meaning p in
     let rest : List (g.row.KC-Value-Meaning.Denot × g.row.M-Meaning.Denot) = means g.KC.Value.Blank.meaning g.M.Blank.meaning (g.C.MapWalk.left c.next.new.self) in
-    let step : g.C.MapWalk.left c.loop-key.key-iterator ≡ p ∷ g.C.MapWalk.left c.next.new.self = c.storage_iter-key-items.ensures.steps c.loop-key.key-iterator (Some (c.in-Some.key, c.in-Some.value)) c.next.new.self c.in-Some.ensures.steps in
+    let step : g.C.MapWalk.left c.loop-key.key-iterator ≡ p ∷ g.C.MapWalk.left c.next.new.self = c.storage_iter-walk.ensures.steps c.loop-key.key-iterator (Some (c.in-Some.key, c.in-Some.value)) c.next.new.self c.in-Some.ensures.steps in
     let e = i.within.1 ∙ ap (λ (z : List (g.row.KC-Value.Denot × g.row.M.Denot)). i.within.0 ++ means g.KC.Value.Blank.meaning g.M.Blank.meaning z) step in
     let h : Contains (values_of (g.C.StableOrder.walk c.args.map.now)) m.1 = here m rest (g.C.StableOrder.walk c.args.map.now) i.within.0 e in
     λ x d s is k. c.requires.may x d s (subst (λ z. Contains (values_of (g.C.StableOrder.walk c.args.map.now)) (g.M.Blank.meaning z)) (sym is) h) k
@@ -60,7 +72,7 @@ write_message_record_by-requires-clause-keeps g c =
     let p : g.row.KC-Value.Denot × g.row.M.Denot = (c.in-Some.key.now, c.in-Some.value.now) in
     let m : g.row.KC-Value-Meaning.Denot × g.row.M-Meaning.Denot = mean g.KC.Value.Blank.meaning g.M.Blank.meaning p in
     let rest : List (g.row.KC-Value-Meaning.Denot × g.row.M-Meaning.Denot) = means g.KC.Value.Blank.meaning g.M.Blank.meaning (g.C.MapWalk.left c.next.new.self) in
-    let step : g.C.MapWalk.left c.loop-key.key-iterator ≡ p ∷ g.C.MapWalk.left c.next.new.self = c.storage_iter-key-items.ensures.steps c.loop-key.key-iterator (Some (c.in-Some.key, c.in-Some.value)) c.next.new.self c.in-Some.ensures.steps in
+    let step : g.C.MapWalk.left c.loop-key.key-iterator ≡ p ∷ g.C.MapWalk.left c.next.new.self = c.storage_iter-walk.ensures.steps c.loop-key.key-iterator (Some (c.in-Some.key, c.in-Some.value)) c.next.new.self c.in-Some.ensures.steps in
     let e = i.within.1 ∙ ap (λ (z : List (g.row.KC-Value.Denot × g.row.M.Denot)). i.within.0 ++ means g.KC.Value.Blank.meaning g.M.Blank.meaning z) step in
     let h : Contains (values_of (g.C.StableOrder.walk c.args.map.now)) m.1 = here m rest (g.C.StableOrder.walk c.args.map.now) i.within.0 e in
     λ x d s r f t is k. c.requires.keeps x d s r f t (subst (λ z. Contains (values_of (g.C.StableOrder.walk c.args.map.now)) (g.M.Blank.meaning z)) (sym is) h) k
@@ -76,7 +88,7 @@ loop-key-preserved g c =
     let m : g.row.KC-Value-Meaning.Denot × g.row.M-Meaning.Denot = mean g.KC.Value.Blank.meaning g.M.Blank.meaning p in
     let rest : List (g.row.KC-Value-Meaning.Denot × g.row.M-Meaning.Denot) = means g.KC.Value.Blank.meaning g.M.Blank.meaning (g.C.MapWalk.left c.next.new.self) in
     let now : List (g.row.KC-Value-Meaning.Denot × g.row.M-Meaning.Denot) = means g.KC.Value.Blank.meaning g.M.Blank.meaning (g.C.MapWalk.left c.loop-key.key-iterator) in
-    let step : g.C.MapWalk.left c.loop-key.key-iterator ≡ p ∷ g.C.MapWalk.left c.next.new.self = c.storage_iter-key-items.ensures.steps c.loop-key.key-iterator (Some (c.in-Some.key, c.in-Some.value)) c.next.new.self c.in-Some.ensures.steps in
+    let step : g.C.MapWalk.left c.loop-key.key-iterator ≡ p ∷ g.C.MapWalk.left c.next.new.self = c.storage_iter-walk.ensures.steps c.loop-key.key-iterator (Some (c.in-Some.key, c.in-Some.value)) c.next.new.self c.in-Some.ensures.steps in
     let n : now ≡ m ∷ rest = ap (λ (z : List (g.row.KC-Value.Denot × g.row.M.Denot)). means g.KC.Value.Blank.meaning g.M.Blank.meaning z) step in
     let e = i.within.1 ∙ ap (λ (z : List (g.row.KC-Value-Meaning.Denot × g.row.M-Meaning.Denot)). i.within.0 ++ z) n in
     let w = rw c.in_ok-write_message_record_by.was at c.write_message_record_by.ensures.written in
@@ -101,7 +113,7 @@ returns-in_err-write_message_record_by-clause-some g c =
     let p : g.row.KC-Value.Denot × g.row.M.Denot = (c.in-Some.key.now, c.in-Some.value.now) in
     let m : g.row.KC-Value-Meaning.Denot × g.row.M-Meaning.Denot = mean g.KC.Value.Blank.meaning g.M.Blank.meaning p in
     let rest : List (g.row.KC-Value-Meaning.Denot × g.row.M-Meaning.Denot) = means g.KC.Value.Blank.meaning g.M.Blank.meaning (g.C.MapWalk.left c.next.new.self) in
-    let step : g.C.MapWalk.left c.loop-key.key-iterator ≡ p ∷ g.C.MapWalk.left c.next.new.self = c.storage_iter-key-items.ensures.steps c.loop-key.key-iterator (Some (c.in-Some.key, c.in-Some.value)) c.next.new.self c.in-Some.ensures.steps in
+    let step : g.C.MapWalk.left c.loop-key.key-iterator ≡ p ∷ g.C.MapWalk.left c.next.new.self = c.storage_iter-walk.ensures.steps c.loop-key.key-iterator (Some (c.in-Some.key, c.in-Some.value)) c.next.new.self c.in-Some.ensures.steps in
     let e = i.within.1 ∙ ap (λ (z : List (g.row.KC-Value.Denot × g.row.M.Denot)). i.within.0 ++ means g.KC.Value.Blank.meaning g.M.Blank.meaning z) step in
     rw q.1 (λ none. absurd (omega (arith, ap length none, ap length e, length-append i.within.0 (m ∷ rest))))
 
@@ -117,7 +129,7 @@ returns-in_err-write_message_record_by-clause-written g c =
     let m : g.row.KC-Value-Meaning.Denot × g.row.M-Meaning.Denot = mean g.KC.Value.Blank.meaning g.M.Blank.meaning p in
     let rest : List (g.row.KC-Value-Meaning.Denot × g.row.M-Meaning.Denot) = means g.KC.Value.Blank.meaning g.M.Blank.meaning (g.C.MapWalk.left c.next.new.self) in
     let now : List (g.row.KC-Value-Meaning.Denot × g.row.M-Meaning.Denot) = means g.KC.Value.Blank.meaning g.M.Blank.meaning (g.C.MapWalk.left c.loop-key.key-iterator) in
-    let step : g.C.MapWalk.left c.loop-key.key-iterator ≡ p ∷ g.C.MapWalk.left c.next.new.self = c.storage_iter-key-items.ensures.steps c.loop-key.key-iterator (Some (c.in-Some.key, c.in-Some.value)) c.next.new.self c.in-Some.ensures.steps in
+    let step : g.C.MapWalk.left c.loop-key.key-iterator ≡ p ∷ g.C.MapWalk.left c.next.new.self = c.storage_iter-walk.ensures.steps c.loop-key.key-iterator (Some (c.in-Some.key, c.in-Some.value)) c.next.new.self c.in-Some.ensures.steps in
     let n : now ≡ m ∷ rest = ap (λ (z : List (g.row.KC-Value.Denot × g.row.M.Denot)). means g.KC.Value.Blank.meaning g.M.Blank.meaning z) step in
     let w = rw c.in_err-write_message_record_by.was at c.write_message_record_by.ensures.written in
     let slot = cap (length (encoding m.1)) ∷ slots m.1 in
@@ -137,7 +149,7 @@ returns-clause-written g c =
     let encoding = g.M.MessageSpec.encoding in
     let slots = g.M.MessageSpec.slots in
     let written = g.S.EncodeSink.written in
-    let step = c.storage_iter-key-items.ensures.steps c.loop-key.key-iterator None c.next.new.self c.in-None.ensures.steps in
+    let step = c.storage_iter-walk.ensures.steps c.loop-key.key-iterator None c.next.new.self c.in-None.ensures.steps in
     let now : List (g.row.KC-Value-Meaning.Denot × g.row.M-Meaning.Denot) = means g.KC.Value.Blank.meaning g.M.Blank.meaning (g.C.MapWalk.left c.loop-key.key-iterator) in
     let n : now ≡ [] = ap (λ (z : List (g.row.KC-Value.Denot × g.row.M.Denot)). means g.KC.Value.Blank.meaning g.M.Blank.meaning z) step.0 in
     c.loop-key.invariant.whole done c.loop-key.cache (written c.loop-key.sink)
@@ -153,7 +165,7 @@ returns-in_err-write_message_record_by-clause-room g c keeps small =
     let p : g.row.KC-Value.Denot × g.row.M.Denot = (c.in-Some.key.now, c.in-Some.value.now) in
     let m : g.row.KC-Value-Meaning.Denot × g.row.M-Meaning.Denot = mean g.KC.Value.Blank.meaning g.M.Blank.meaning p in
     let rest : List (g.row.KC-Value-Meaning.Denot × g.row.M-Meaning.Denot) = means g.KC.Value.Blank.meaning g.M.Blank.meaning (g.C.MapWalk.left c.next.new.self) in
-    let step : g.C.MapWalk.left c.loop-key.key-iterator ≡ p ∷ g.C.MapWalk.left c.next.new.self = c.storage_iter-key-items.ensures.steps c.loop-key.key-iterator (Some (c.in-Some.key, c.in-Some.value)) c.next.new.self c.in-Some.ensures.steps in
+    let step : g.C.MapWalk.left c.loop-key.key-iterator ≡ p ∷ g.C.MapWalk.left c.next.new.self = c.storage_iter-walk.ensures.steps c.loop-key.key-iterator (Some (c.in-Some.key, c.in-Some.value)) c.next.new.self c.in-Some.ensures.steps in
     let e = i.within.1 ∙ ap (λ (z : List (g.row.KC-Value.Denot × g.row.M.Denot)). i.within.0 ++ means g.KC.Value.Blank.meaning g.M.Blank.meaning z) step in
     let all = g.C.StableOrder.walk c.args.map.now in
     let one = c.in_err-write_message_record_by.ensures.room keeps (small_at key encoding all i.within.0 m rest e small) in
@@ -164,6 +176,6 @@ returns-clause-room g c keeps small =
     let key = g.KC.MapCodec.writing in
     let encoding = g.M.MessageSpec.encoding in
     let i = c.loop-key.invariant in
-    let step = c.storage_iter-key-items.ensures.steps c.loop-key.key-iterator None c.next.new.self c.in-None.ensures.steps in
+    let step = c.storage_iter-walk.ensures.steps c.loop-key.key-iterator None c.next.new.self c.in-None.ensures.steps in
     let whole = i.within.1 ∙ ap (λ (z : List (g.row.KC-Value.Denot × g.row.M.Denot)). i.within.0 ++ means g.KC.Value.Blank.meaning g.M.Blank.meaning z) step.0 ∙ append-nil i.within.0 in
     omega (arith, i.spare keeps small, ap (λ z. length (field_encoding key (delimited_writing encoding) c.args.number z)) whole)
