@@ -62,11 +62,10 @@ where
 {
     // The contract names this walk, also where the map has no pairs.
     let walk = map.storage_iter();
-    let pairs = map.storage_len();
-    if pairs == 0 {
+    if map.storage_len() == 0 {
         return Ok(0);
     }
-    cache.make_room(pairs)?;
+    cache.make_room(map.storage_len())?;
     let mut total: u64 = 0;
     for (key, value) in walk {
         let slot = cache.reserve()?;

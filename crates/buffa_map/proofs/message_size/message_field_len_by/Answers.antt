@@ -13,10 +13,10 @@ use Rattle.buffa_map.proofs.MessageFieldLemmas.{here, onward, size_capped, size_
 use Rattle.buffa_map.proofs.WalkLemmas.{has_pairs, no_pairs}
 use Rattle.buffa_map.proofs.message_size.message_field_len_by.Goals as goal
 
-pub returns-then-pairs-eq0-clause-sized : goal.returns-then-pairs-eq0-clause-sized
-returns-then-pairs-eq0-clause-sized g c =
+pub returns-then-storage_len-eq0-clause-sized : goal.returns-then-storage_len-eq0-clause-sized
+returns-then-storage_len-eq0-clause-sized g c =
     let walked = means g.KC.Value.Blank.meaning g.M.Blank.meaning (g.C.MapWalk.left c.storage_iter-walk.result) in
-    let none : walked ≡ [] = no_pairs g.met.C.MapStorage.equivalence _ walked c.storage_len-pairs.ensures.distinct c.storage_iter-walk.ensures.pairs (sym c.storage_len-pairs.ensures.len ∙ c.if-pairs-eq0.true) in
+    let none : walked ≡ [] = no_pairs g.met.C.MapStorage.equivalence _ walked c.storage_len.ensures.distinct c.storage_iter-walk.ensures.pairs (sym c.storage_len.ensures.len ∙ c.if-storage_len-eq0.true) in
     let same : [] ≡ g.C.StableOrder.walk c.args.map.now = sym none ∙ g.met.C.StableOrder.stable c.args.map.now walked c.storage_iter-walk.ensures.walk in
     subst (λ l. IsFieldSized g.KC.MapCodec.writing g.M.MessageSpec.encoding g.M.MessageSpec.slots c.args.outer_tag_len l c.args.cache.now (Ok 0) c.args.cache.now) same
     (refl, λ _. refl, sym (appended_none c.args.cache.now))
@@ -134,7 +134,7 @@ returns-in_err-slot-clause-some g c =
     let p : g.row.KC-Value.Denot × g.row.M.Denot = (c.in-Some.key.now, c.in-Some.value.now) in
     let step : g.C.MapWalk.left c.loop-key.key-iterator ≡ p ∷ g.C.MapWalk.left c.next.new.self = c.storage_iter-walk.ensures.steps c.loop-key.key-iterator (Some (c.in-Some.key, c.in-Some.value)) c.next.new.self c.in-Some.ensures.steps in
     let e = i.within.1 ∙ ap (λ (z : List (g.row.KC-Value.Denot × g.row.M.Denot)). i.within.0 ++ means g.KC.Value.Blank.meaning g.M.Blank.meaning z) step in
-    rw q.1 (has_pairs g.met.C.MapStorage.equivalence _ walked i.within.0 _ _ c.storage_len-pairs.ensures.distinct c.storage_iter-walk.ensures.pairs (g.met.C.StableOrder.stable c.args.map.now walked c.storage_iter-walk.ensures.walk ∙ e))
+    rw q.1 (has_pairs g.met.C.MapStorage.equivalence _ walked i.within.0 _ _ c.storage_len.ensures.distinct c.storage_iter-walk.ensures.pairs (g.met.C.StableOrder.stable c.args.map.now walked c.storage_iter-walk.ensures.walk ∙ e))
 
 pub returns-in_err-inner-clause-some : goal.returns-in_err-inner-clause-some
 returns-in_err-inner-clause-some g c =
@@ -144,4 +144,4 @@ returns-in_err-inner-clause-some g c =
     let p : g.row.KC-Value.Denot × g.row.M.Denot = (c.in-Some.key.now, c.in-Some.value.now) in
     let step : g.C.MapWalk.left c.loop-key.key-iterator ≡ p ∷ g.C.MapWalk.left c.next.new.self = c.storage_iter-walk.ensures.steps c.loop-key.key-iterator (Some (c.in-Some.key, c.in-Some.value)) c.next.new.self c.in-Some.ensures.steps in
     let e = i.within.1 ∙ ap (λ (z : List (g.row.KC-Value.Denot × g.row.M.Denot)). i.within.0 ++ means g.KC.Value.Blank.meaning g.M.Blank.meaning z) step in
-    rw q.1 (has_pairs g.met.C.MapStorage.equivalence _ walked i.within.0 _ _ c.storage_len-pairs.ensures.distinct c.storage_iter-walk.ensures.pairs (g.met.C.StableOrder.stable c.args.map.now walked c.storage_iter-walk.ensures.walk ∙ e))
+    rw q.1 (has_pairs g.met.C.MapStorage.equivalence _ walked i.within.0 _ _ c.storage_len.ensures.distinct c.storage_iter-walk.ensures.pairs (g.met.C.StableOrder.stable c.args.map.now walked c.storage_iter-walk.ensures.walk ∙ e))
