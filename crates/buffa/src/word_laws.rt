@@ -151,7 +151,7 @@ pub fn map_relations_are_these<K, V, M, T, A, W>()
     ensures merges_entry { AreAlike5 (map_fields.MergesEntry {K = K} {V = V}) (merge.MergesEntry {K = K} {V = V}) }
     ensures refuses_entry { AreAlike6 (map_fields.RefusesEntry {K = K} {V = V}) (merge.RefusesEntry {K = K} {V = V}) }
     ensures reads_run { AreAlike5 (map_fields.ReadsRun {K = K} {V = V}) (merge.ReadsRun {K = K} {V = V}) }
-    ensures stops_run { AreAlike6 (map_fields.RefusesRun {K = K} {V = V}) (merge.RefusesRun {K = K} {V = V}) }
+    ensures refuses_run { AreAlike6 (map_fields.RefusesRun {K = K} {V = V}) (merge.RefusesRun {K = K} {V = V}) }
     ensures always_declared { AreAlike1 (map_fields.AlwaysDeclared {V = V}) (codec.AlwaysDeclared {V = V}) }
     ensures holds_nothing { AreAlike3 (map_fields.HoldsNothing {V = V}) (codec.HoldsNothing {V = V}) }
     ensures is_whole { AreAlike3 (map_fields.IsWhole {V = V}) (codec.IsWhole {V = V}) }
