@@ -33,6 +33,8 @@ class Edit:
                 elif line.startswith("new:"):
                     self.pairs.append((file, old, line[5:].replace("⏎", "\n")))
         self.of, _, self.name = self.title.partition("-")[0].rpartition(".")
+        # `rt ci` tries it, whatever its name says
+        self.is_of_gate = "/must-fail/" in path
 
     def locate(self, folder):
         """Finds the functions that the edit changes; says why it can't be applied, if so."""
@@ -55,7 +57,14 @@ class Edit:
             return "it has no pair of an old and a new text"
         if not self.target and not self.is_wide:
             return f"it doesn't change a function {self.name}"
+        if not self.target and not self.is_of_gate and not self.has_function(folder):
+            return f"there is no function {self.name}"
         return None
+
+    def has_function(self, folder):
+        """Whether the crate has a function of its name, or the edit writes one."""
+        files = glob.glob(f"{folder}/src/**/*.rt", recursive=True)
+        return any(re.search(rf"\bfn {self.name}\b", it) for it in [*map(read, files), *(new for _, _, new in self.pairs)])
 
 
 def read(path):
