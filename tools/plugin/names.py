@@ -26,6 +26,7 @@ FACADE = {
     "Bytes": "bytes",
     "Global": "std::alloc",
     "BTreeMap": "std::collections",
+    "Model": "std::marker",
     "String": "std::string",
 }
 # Where the crates below have them.
@@ -49,6 +50,7 @@ BELOW = {
     "BTreeMap": "std::collections",
     "Holds": "buffa_fields::held",
     "Nest": "buffa_fields::held",
+    "Model": "std::marker",
     "String": "std::string",
     "kept": "buffa_fields::kept",
 }

@@ -92,9 +92,9 @@ class World:
 
     def read_parameters(self, text):
         self.crate, self.module, self.over, self.maps = "", "messages", "buffa", ""
-        self.left, self.dropping, self.costs = set(), set(), {}
+        self.left, self.dropping, self.opaque, self.costs = set(), set(), set(), {}
         self.fields = {key: set() for key in FIELD_KEYS}
-        named = {"leave": self.left, "drop": self.dropping, **self.fields}
+        named = {"leave": self.left, "drop": self.dropping, "opaque": self.opaque, **self.fields}
         for word in filter(None, text.split(",")):
             key, _, value = word.partition("=")
             cost = re.fullmatch(r"(.*):([1-9][0-9]*)", value)
@@ -116,7 +116,7 @@ class World:
             raise Refused(f"nothing is called {name} in these files")
         for name in sorted(set().union(*self.fields.values()) - fields):
             raise Refused(f"no field is called {name} in these files")
-        for name in sorted((self.dropping | set(self.costs)) - messages):
+        for name in sorted((self.dropping | self.opaque | set(self.costs)) - messages):
             raise Refused(f"no message is called {name} in these files")
 
     def add_entries(self, full, it):
@@ -326,6 +326,7 @@ class Message:
         self.members = [k for k in self.listed if k is not self.held]
         self.own = self.rust + "Own" if self.held else self.rust
         self.is_keeping = name.full not in world.dropping
+        self.is_opaque = name.full in world.opaque
         self.see_own()
         names = {}
         for member in self.members:
@@ -354,6 +355,8 @@ class Message:
         """Refuses a name that another type has, and what would drop more than fields that aren't declared."""
         if self.held and (self.own in self.world.types.values() or self.own in TAKEN):
             self.name.refuse(f"what it has beside {self.held.it.name} is to be called {self.own}, as another type is")
+        if self.is_opaque:
+            self.see_opaque()
         if self.is_keeping:
             return
         if self.it.extension_range:
@@ -361,6 +364,16 @@ class Message:
         for member in self.members:
             if member.keeps:
                 member.field.refuse("what its closed enum doesn't declare is kept, which drop= leaves out")
+
+    def see_opaque(self):
+        """Refuses a meaning with a name of its own where no such type can be written."""
+        if not self.held:
+            self.name.refuse("it holds no list of itself, and opaque= is for messages that do")
+        if self.world.over == "buffa":
+            self.name.refuse("opaque= cites what the facade doesn't hand on: say over=buffa_fields")
+        name = f"{self.rust}Meaning"
+        if name in self.world.types.values() or name in TAKEN:
+            self.name.refuse(f"what it means is to be called {name}, as another type is")
 
     def cost(self, messages):
         """What is told, or the bytes of the struct, by the rule at the head of the plugin."""

@@ -1,4 +1,6 @@
 """The text of a file: a message from its fields, or an enum, laid out as rt fmt has it."""
+import re
+
 from names import BELOW, FACADE, ordered, path, snake
 
 WIDTH = 100
@@ -211,6 +213,8 @@ def head_of_message(world, message):
         while len(members) >= 16 and over > 1:
             names.add("And" if over == 2 else f"And{min(over, 16)}")
             over -= 15
+    if message.is_opaque:
+        names = {it for it in names if it not in ("Blank", "KeptFields") and not re.fullmatch(r"And\d*", it)} | {"Model"}
     has_set = bool(message.it.extension_range)
     names |= {"ExtensionSet"} if has_set else set()
     words = ["field"] * any(not k.keeps for k in members) + ["field_kept"] * any(k.keeps for k in members)
@@ -251,17 +255,64 @@ def blank(message):
     return made + ["    }"]
 
 
+def some_value(means):
+    """A value of what a member means, as contracts write it, and the words in it."""
+    if means.startswith("Option<"):
+        return "None", {"None"}
+    if means.startswith("["):
+        return "[]", {"[]"}
+    return {
+        "bool": ("false", {"false"}),
+        "i32": ("pos 0", {"pos"}),
+        "i64": ("pos 0", {"pos"}),
+        "(bool, i32)": ("(false, pos 0)", {"false", "pos"}),
+    }.get(means, ("0", set()))
+
+
+def opaque_meaning(message):
+    """What the members of a message that holds a list of itself mean, as a struct that has none of their types in it."""
+    values = [some_value(k.means) for k in message.members] + [("[]", {"[]"}) if message.is_keeping else ("tt", set())]
+    words = set().union(*[w for _, w in values]) | ({"List", "ℕ"} if message.is_keeping else set())
+    name = f"{message.rust}Meaning"
+    made = docs([f"What the members of `{message.own}` mean, one after the other. It is never made."])
+    made += ["#[derive(Drop)]", f"pub struct {name} {{", "    never: (),", "}", "", f"impl Model for {name} {{"]
+    made += ["    ghost use Rattle.std.specs.Coded.{codes};"]
+    made += [f"    ghost use Rattle.std.specs.Prelude.{{{', '.join(sorted(words))}}};"] * bool(words)
+    made += ["    ghost use Rattle.buffa_wire.specs.Code.{coded_datum};"]
+    made += ["    ghost use Rattle.buffa_wire.specs.Records.{Datum};"] * message.is_keeping + [""]
+    made += ["    ghost Value = { let Means : (P X : Type 0) → (P → X) → Type 0 = λ P X f. X in"]
+    made += [f"        Means _ _ ⟦<{k.member_type} as Member>⟧.shape.meaning × (" for k in message.members]
+    made += [f"        {'List (ℕ × Datum)' if message.is_keeping else 'Unit {0}'}{')' * len(message.members)} }};", ""]
+    made += ["    ghost coded = { Prim.hlevel (codes, coded_datum) };", ""]
+    return made + pairs("    ghost view = { λ m. ", [v for v, _ in values]) + ["}", ""]
+
+
+def pairs(head, parts):
+    """Pairs of parts, one in the other, on one line, or with each part and each pair on its own."""
+    line = f"{head}{', ('.join(parts[:-1])}, {parts[-1]}{')' * (len(parts) - 2)}"
+    line = f"{head}({line[len(head):]}) }};" if len(parts) > 1 else f"{head}{parts[0]} }};"
+    if len(line) <= LONGEST or len(parts) == 1:
+        return [line]
+    made, last = [f"{head}("], len(parts) - 2
+    for at, part in enumerate(parts[:-1]):
+        made += [f"{'  ' * at}      {part},"] + ([f"{'  ' * at}      ("] if at < last else [f"{'  ' * at}      {parts[-1]},"])
+    return made + [f"{'  ' * at}      )," for at in reversed(range(last))] + ["    ) };"]
+
+
 def head_of_impl(message, messages):
     """What both forms begin with: what the members mean, and what an element costs."""
     cost = message.cost(messages)
     made = meaning([k.means for k in message.members] + ["KeptFields" if message.is_keeping else "()"]) + [""]
+    if message.is_opaque:
+        made = [f"    type Meaning = {message.rust}Meaning;", ""]
     return made + [f"    const COST: usize = {cost};", "", f"    ghost COST = {{ {cost} }};", "", "    ghost positive = { lit< tt };", ""]
 
 
 def held_form(message, messages):
     """What a message that holds a list of itself has of its own, in one impl."""
     name, number = message.own, message.held.number
-    made = [f"impl Holds for {name} {{"] + head_of_impl(message, messages)
+    made = opaque_meaning(message) if message.is_opaque else []
+    made += [f"impl Holds for {name} {{"] + head_of_impl(message, messages)
     made += [f"    const NUMBER: u32 = {number};", "", f"    ghost NUMBER = {{ {number} }};", ""]
     made += layout(message.members, message.is_keeping) + [""]
     made += ["    ghost sound = { refl };", "", "    ghost other = { refl };", ""]

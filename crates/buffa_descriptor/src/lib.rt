@@ -2,18 +2,17 @@
 //!
 //! `protoc --include_imports --descriptor_set_out=x.bin x.proto` writes a [`FileDescriptorSet`]. Each `..Options` is an
 //! `ExtensionSet`, and each option, declared by `descriptor.proto` or custom, is read from it as an extension. Fields that
-//! aren't declared are kept. The message types of a file, and those inside another message type, are held as their
-//! encodings, byte for byte: [`message_types`] and [`nested_types`] read them, one level at a time.
+//! aren't declared are kept. A [`DescriptorProto`] holds a list of itself: the message types inside it are its `inside`, and
+//! what else it has is in its `own`.
 //!
-//! [`messages`] was made of `descriptor.proto`, beside `src`, by `tools/protoc-gen-buffa`; the rest is by hand.
+//! [`messages`] was made of `descriptor.proto`, beside `src`, by `tools/protoc-gen-buffa`.
 #![tactic(auto)]
 
 pub mod messages;
-pub mod nested;
 #[cfg(test)]
 mod tests;
 
-pub use messages::descriptor_proto::DescriptorProto;
+pub use messages::descriptor_proto::{DescriptorProto, DescriptorProtoMeaning, DescriptorProtoOwn};
 pub use messages::descriptor_proto_extension_range::DescriptorProtoExtensionRange;
 pub use messages::descriptor_proto_reserved_range::DescriptorProtoReservedRange;
 pub use messages::enum_descriptor_proto::EnumDescriptorProto;
@@ -38,4 +37,3 @@ pub use messages::service_descriptor_proto::ServiceDescriptorProto;
 pub use messages::service_options::ServiceOptions;
 pub use messages::source_code_info::SourceCodeInfo;
 pub use messages::source_code_info_location::SourceCodeInfoLocation;
-pub use nested::{message_types, nested_types};

@@ -7,10 +7,9 @@ use crate::messages::field_descriptor_proto_label::FieldDescriptorProtoLabel;
 use crate::messages::field_descriptor_proto_type::FieldDescriptorProtoType;
 use crate::messages::field_options::FieldOptions;
 use crate::messages::file_descriptor_set::FileDescriptorSet;
-use crate::nested::{message_types, nested_types};
 use buffa_ext::{Extension, ExtensionSet};
 use buffa_wire::scalars::{Bool, Sint64};
-use buffa_wire::{Blank, DecodeError, Message};
+use buffa_wire::{Blank, Message};
 use std::alloc::Global;
 use std::test::Fail;
 
@@ -23,6 +22,7 @@ fn read(alloc: Global, hex: &str) -> Result<(FileDescriptorSet, Vec<u8>), Fail> 
 
 fn is_called(message: &DescriptorProto, name: &str) -> bool {
     message
+        .own
         .name
         .as_ref()
         .is_some_and(|own| own.as_str() == name)
@@ -41,28 +41,18 @@ fn what_protoc_writes_is_written_back(rt: HostRuntime) -> Result<(), Fail> {
 }
 
 // The message type of this place in the one file of a set.
-fn type_at(
-    alloc: Global,
-    set: &FileDescriptorSet,
-    at: usize,
-) -> Result<DescriptorProto, DecodeError> {
-    for file in &set.file {
-        for (i, message) in message_types(alloc, file)?.into_iter().enumerate() {
-            if i == at {
-                return Ok(message);
-            }
-        }
-    }
-    Ok(DescriptorProto::blank(alloc))
+fn type_at(set: &FileDescriptorSet, at: usize) -> Option<&DescriptorProto> {
+    set.file.first()?.message_type.get(at)
 }
 
 #[test]
 fn descriptor_proto_is_described(rt: HostRuntime) -> Result<(), Fail> {
     let alloc = rt.alloc();
     let (set, _) = read(alloc, sets::DESCRIPTOR)?;
-    let message = type_at(alloc, &set, 4)?;
-    assert!(rt; is_called(&message, "FieldDescriptorProto") && message.enum_type.len() == 2);
-    for field in &message.field {
+    let none = DescriptorProto::blank(alloc);
+    let message = type_at(&set, 4).unwrap_or(&none);
+    assert!(rt; is_called(message, "FieldDescriptorProto") && message.own.enum_type.len() == 2);
+    for field in &message.own.field {
         if field.number == Some(4) {
             assert!(rt; field.type_ == Some(FieldDescriptorProtoType::Enum));
             assert!(rt; field.label == Some(FieldDescriptorProtoLabel::Optional));
@@ -75,11 +65,12 @@ fn descriptor_proto_is_described(rt: HostRuntime) -> Result<(), Fail> {
 fn options_are_extensions(rt: HostRuntime) -> Result<(), Fail> {
     let alloc = rt.alloc();
     let (set, _) = read(alloc, sets::SHOP)?;
-    let order = type_at(alloc, &set, 1)?;
-    assert!(rt; is_called(&order, "Order") && order.field.len() == 7);
+    let none = DescriptorProto::blank(alloc);
+    let order = type_at(&set, 1).unwrap_or(&none);
+    assert!(rt; is_called(order, "Order") && order.own.field.len() == 7);
     let least = Extension::<Sint64>::new(50002, FieldOptions::PROTO_FQN);
     let deprecated = Extension::<Bool>::new(3, FieldOptions::PROTO_FQN);
-    for field in &order.field {
+    for field in &order.own.field {
         if let Some(options) = &field.options {
             assert!(rt; field.number != Some(3) || options.extension(alloc, &least)? == Some(-50));
             assert!(rt;
@@ -94,14 +85,11 @@ fn options_are_extensions(rt: HostRuntime) -> Result<(), Fail> {
 fn nested_types_are_read_to_any_depth(rt: HostRuntime) -> Result<(), Fail> {
     let alloc = rt.alloc();
     let (set, _) = read(alloc, sets::SHOP)?;
-    let order = type_at(alloc, &set, 1)?;
-    let inner = nested_types(alloc, &order)?;
-    assert!(rt; inner.len() == 2);
-    for (found, bytes) in inner.iter().zip(&order.nested_type) {
-        let encoding = found.try_encode_to_vec(alloc)?;
-        assert!(rt; encoding.as_slice() == bytes.as_slice());
-        let boxes = nested_types(alloc, found)?;
-        assert!(rt; boxes.len() == 1 || is_called(found, "LabelsEntry"));
+    let none = DescriptorProto::blank(alloc);
+    let order = type_at(&set, 1).unwrap_or(&none);
+    assert!(rt; order.inside.len() == 2);
+    for found in &order.inside {
+        assert!(rt; found.inside.len() == 1 || is_called(found, "LabelsEntry"));
     }
     Ok(())
 }

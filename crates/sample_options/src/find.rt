@@ -1,32 +1,24 @@
 //! A message type in a set, by its full name.
 
-use buffa_descriptor::{DescriptorProto, FileDescriptorSet, message_types, nested_types};
-use buffa_wire::DecodeError;
-use std::alloc::Global;
+use buffa_descriptor::{DescriptorProto, FileDescriptorSet};
 
 fn is_called(message: &DescriptorProto, name: &str) -> bool {
     message
+        .own
         .name
         .as_ref()
         .is_some_and(|own| own.as_str() == name)
 }
 
 // Of types, and those in them, the one that a path of names leads to: `Order.Line` to the type `Line` in `Order`.
-fn at_path(
-    alloc: Global,
-    types: Vec<DescriptorProto>,
-    path: &str,
-) -> Result<Option<DescriptorProto>, DecodeError> {
-    let mut types = types;
-    let mut found = None;
-    for name in path.split('.') {
-        let Some(message) = types.into_iter().find(|it| is_called(it, name)) else {
-            return Ok(None);
-        };
-        types = nested_types(alloc, &message)?;
-        found = Some(message);
+fn at_path<'a>(types: &'a [DescriptorProto], path: &str) -> Option<&'a DescriptorProto> {
+    let mut names = path.split('.');
+    let first = names.next()?;
+    let mut message = types.iter().find(|it| is_called(it, first))?;
+    for name in names {
+        message = message.inside.iter().find(|it| is_called(it, name))?;
     }
-    Ok(found)
+    Some(message)
 }
 
 // What follows the package and a dot in a full name.
@@ -38,22 +30,15 @@ fn path_in<'a>(package: Option<&str>, full: &'a str) -> Option<&'a str> {
 }
 
 /// The message type with this full name, which has no dot in front; none where the set doesn't have it.
-///
-/// # Errors
-/// Those of [`message_types`].
-pub fn message_type(
-    alloc: Global,
-    set: &FileDescriptorSet,
-    full: &str,
-) -> Result<Option<DescriptorProto>, DecodeError> {
+pub fn message_type<'a>(set: &'a FileDescriptorSet, full: &str) -> Option<&'a DescriptorProto> {
     for file in &set.file {
         let package = file.package.as_ref().map(|it| it.as_str());
         let Some(path) = path_in(package, full) else {
             continue;
         };
-        if let Some(message) = at_path(alloc, message_types(alloc, file)?, path)? {
-            return Ok(Some(message));
+        if let Some(message) = at_path(file.message_type.as_slice(), path) {
+            return Some(message);
         }
     }
-    Ok(None)
+    None
 }

@@ -3,8 +3,8 @@
 //!     sample_options TYPE HEX < SET
 //!
 //! SET is what `protoc --include_imports --descriptor_set_out` writes, TYPE the full name of a message in it, HEX a message
-//! of this type. It prints each field of the type with its rules, and below it the rule that the message breaks. A malformed
-//! option is an error, and never no rule. A value that isn't spelled as the field's type is, as one of a packed list, breaks the
+//! of this type. It prints each field of the type with its rules, and below it the rule that the message breaks. Where an
+//! option is malformed, the program ends with an error. A value that isn't spelled as the field's type is, as one of a packed list, breaks the
 //! rules; a length is judged of whatever has one, a text, bytes or a message.
 #![tactic(auto)]
 
@@ -52,7 +52,7 @@ fn judge_all(
 ) -> Result<usize, Error> {
     let alloc = rt.alloc();
     let mut faults = 0usize;
-    for field in &message.field {
+    for field in &message.own.field {
         let rules = read_rules(alloc, field)?;
         println!(rt; "{}", field_line(alloc, field, &rules)?)?;
         if let Err(fault) = judge(alloc, field, &rules, fields)? {
@@ -69,11 +69,11 @@ fn main(rt: HostRuntime) -> Result<(), Error> {
     let mut input = Vec::new(alloc);
     rt.stdin().read_to_end(&mut input)?;
     let set = set_of(alloc, &input)?;
-    let Some(message) = message_type(alloc, &set, name.as_str())? else {
+    let Some(message) = message_type(&set, name.as_str()) else {
         return Err(anyhow!("no message is called {name}"));
     };
     let fields = UnknownFields::decode_from_slice(alloc, &bytes)?;
-    let faults = judge_all(&rt, &message, &fields)?;
+    let faults = judge_all(&rt, message, &fields)?;
     println!(rt; "{faults} rules are broken")?;
     Ok(())
 }

@@ -9,19 +9,18 @@ use crate::messages::enum_descriptor_proto::EnumDescriptorProto;
 use crate::messages::field_descriptor_proto::FieldDescriptorProto;
 use crate::messages::message_options::MessageOptions;
 use crate::messages::oneof_descriptor_proto::OneofDescriptorProto;
-use buffa_fields::fields::Fields;
-use buffa_fields::kept::{self, KeptFields};
-use buffa_fields::meaning::And11;
+use buffa_fields::held::{Holds, Nest};
+use buffa_fields::kept;
 use buffa_fields::member::Member;
-use buffa_fields::message::{Listed, Listing};
 use buffa_fields::nested::Nested;
 use buffa_fields::optional::Optional;
 use buffa_fields::repeated::Repeated;
 use buffa_fields::repeated_nested::RepeatedNested;
 use buffa_fields::visitor::Visitor;
-use buffa_map::map_codec::{BytesVec, Str};
-use buffa_wire::{Blank, DecodeContext, DecodeError, Formed, Tag, UnknownFields};
+use buffa_map::map_codec::Str;
+use buffa_wire::{DecodeContext, DecodeError, Tag, UnknownFields};
 use std::alloc::Global;
+use std::marker::Model;
 use std::string::String;
 
 /// A message type.
@@ -39,16 +38,18 @@ use std::string::String;
 ///     repeated string reserved_name = 10;
 /// }
 ///
-/// Held as the encodings of its messages, which merge_from_slice reads: nested_type = 3.
+/// Its `nested_type` are `inside`. Its other members are in `own`.
+///
+/// The message types that stand in it. Those of maps' entries, and of groups, are among them.
+pub type DescriptorProto = Nest<DescriptorProtoOwn>;
+
+/// What `DescriptorProto` has beside `nested_type`.
 #[derive(Drop)]
-pub struct DescriptorProto {
+pub struct DescriptorProtoOwn {
     /// Its name, without the package and the messages around it.
     pub name: Option<String>,
     /// Its fields, in the order of the text.
     pub field: Vec<FieldDescriptorProto>,
-    /// The message types that stand in it, each as its encoding: `nested_types` reads them. Those of maps'
-    /// entries, and of groups, are among them.
-    pub nested_type: Vec<Vec<u8>>,
     /// The enums that stand in it.
     pub enum_type: Vec<EnumDescriptorProto>,
     /// The ranges of numbers that are for extensions.
@@ -67,20 +68,37 @@ pub struct DescriptorProto {
     pub rest: UnknownFields,
 }
 
-impl Fields for DescriptorProto {
-    type Meaning = And11<
-        Option<[u8; 0]>,
-        [<FieldDescriptorProto as Blank>::Meaning; 0],
-        [[u8; 0]; 0],
-        [<EnumDescriptorProto as Blank>::Meaning; 0],
-        [<DescriptorProtoExtensionRange as Blank>::Meaning; 0],
-        [<FieldDescriptorProto as Blank>::Meaning; 0],
-        Option<<MessageOptions as Blank>::Meaning>,
-        [<OneofDescriptorProto as Blank>::Meaning; 0],
-        [<DescriptorProtoReservedRange as Blank>::Meaning; 0],
-        [[u8; 0]; 0],
-        KeptFields,
-    >;
+/// What the members of `DescriptorProtoOwn` mean, one after the other. It is never made.
+#[derive(Drop)]
+pub struct DescriptorProtoMeaning {
+    never: (),
+}
+
+impl Model for DescriptorProtoMeaning {
+    ghost use Rattle.std.specs.Coded.{codes};
+    ghost use Rattle.std.specs.Prelude.{List, None, [], ℕ};
+    ghost use Rattle.buffa_wire.specs.Code.{coded_datum};
+    ghost use Rattle.buffa_wire.specs.Records.{Datum};
+
+    ghost Value = { let Means : (P X : Type 0) → (P → X) → Type 0 = λ P X f. X in
+        Means _ _ ⟦<Optional<Str> as Member>⟧.shape.meaning × (
+        Means _ _ ⟦<RepeatedNested<FieldDescriptorProto> as Member>⟧.shape.meaning × (
+        Means _ _ ⟦<RepeatedNested<EnumDescriptorProto> as Member>⟧.shape.meaning × (
+        Means _ _ ⟦<RepeatedNested<DescriptorProtoExtensionRange> as Member>⟧.shape.meaning × (
+        Means _ _ ⟦<RepeatedNested<FieldDescriptorProto> as Member>⟧.shape.meaning × (
+        Means _ _ ⟦<Nested<MessageOptions> as Member>⟧.shape.meaning × (
+        Means _ _ ⟦<RepeatedNested<OneofDescriptorProto> as Member>⟧.shape.meaning × (
+        Means _ _ ⟦<RepeatedNested<DescriptorProtoReservedRange> as Member>⟧.shape.meaning × (
+        Means _ _ ⟦<Repeated<Str> as Member>⟧.shape.meaning × (
+        List (ℕ × Datum)))))))))) };
+
+    ghost coded = { Prim.hlevel (codes, coded_datum) };
+
+    ghost view = { λ m. (None, ([], ([], ([], ([], (None, ([], ([], ([], []))))))))) };
+}
+
+impl Holds for DescriptorProtoOwn {
+    type Meaning = DescriptorProtoMeaning;
 
     const COST: usize = 280;
 
@@ -88,9 +106,12 @@ impl Fields for DescriptorProto {
 
     ghost positive = { lit< tt };
 
+    const NUMBER: u32 = 3;
+
+    ghost NUMBER = { 3 };
+
     ghost layout = { field 1 (λ m. m.name) ⟦<Optional<Str> as Member>⟧.shape (
         field 2 (λ m. m.field) ⟦<RepeatedNested<FieldDescriptorProto> as Member>⟧.shape (
-        field 3 (λ m. m.nested_type) ⟦<Repeated<BytesVec> as Member>⟧.shape (
         field 4 (λ m. m.enum_type) ⟦<RepeatedNested<EnumDescriptorProto> as Member>⟧.shape (
         field 5 (λ m. m.extension_range) ⟦<RepeatedNested<DescriptorProtoExtensionRange> as Member>⟧.shape (
         field 6 (λ m. m.extension) ⟦<RepeatedNested<FieldDescriptorProto> as Member>⟧.shape (
@@ -98,14 +119,33 @@ impl Fields for DescriptorProto {
         field 8 (λ m. m.oneof_decl) ⟦<RepeatedNested<OneofDescriptorProto> as Member>⟧.shape (
         field 9 (λ m. m.reserved_range) ⟦<RepeatedNested<DescriptorProtoReservedRange> as Member>⟧.shape (
         field 10 (λ m. m.reserved_name) ⟦<Repeated<Str> as Member>⟧.shape (
-        keep (λ m. m.rest.records))))))))))) };
+        keep (λ m. m.rest.records)))))))))) };
 
     ghost sound = { refl };
 
-    fn visit<V: Visitor>(&self, visitor: &mut V) {
+    ghost other = { refl };
+
+    fn blank(alloc: Global) -> DescriptorProtoOwn {
+        DescriptorProtoOwn {
+            name: None,
+            field: Vec::new(alloc),
+            enum_type: Vec::new(alloc),
+            extension_range: Vec::new(alloc),
+            extension: Vec::new(alloc),
+            options: None,
+            oneof_decl: Vec::new(alloc),
+            reserved_range: Vec::new(alloc),
+            reserved_name: Vec::new(alloc),
+            rest: UnknownFields::new(alloc),
+        }
+    }
+
+    fn front<V: Visitor>(&self, visitor: &mut V) {
         visitor.visit::<Optional<Str>>(1, &self.name);
         visitor.visit::<RepeatedNested<FieldDescriptorProto>>(2, &self.field);
-        visitor.visit::<Repeated<BytesVec>>(3, &self.nested_type);
+    }
+
+    fn behind<V: Visitor>(&self, visitor: &mut V) {
         visitor.visit::<RepeatedNested<EnumDescriptorProto>>(4, &self.enum_type);
         visitor.visit::<RepeatedNested<DescriptorProtoExtensionRange>>(5, &self.extension_range);
         visitor.visit::<RepeatedNested<FieldDescriptorProto>>(6, &self.extension);
@@ -132,7 +172,6 @@ impl Fields for DescriptorProto {
                 buf,
                 ctx,
             ),
-            3 => Repeated::<BytesVec>::merge(&mut self.nested_type, alloc, tag, buf, ctx),
             4 => RepeatedNested::<EnumDescriptorProto>::merge(
                 &mut self.enum_type,
                 alloc,
@@ -173,38 +212,4 @@ impl Fields for DescriptorProto {
             _ => kept::keep(alloc, &mut self.rest, tag, buf, ctx),
         }
     }
-}
-
-impl Blank for DescriptorProto {
-    type Meaning = <DescriptorProto as Fields>::Meaning;
-
-    ghost meaning = { ⟦<DescriptorProto as Fields>⟧.layout.meaning };
-
-    ghost blank_is = { ⟦<DescriptorProto as Fields>⟧.layout.blank };
-
-    fn blank(alloc: Global) -> DescriptorProto {
-        DescriptorProto {
-            name: None,
-            field: Vec::new(alloc),
-            nested_type: Vec::new(alloc),
-            enum_type: Vec::new(alloc),
-            extension_range: Vec::new(alloc),
-            extension: Vec::new(alloc),
-            options: None,
-            oneof_decl: Vec::new(alloc),
-            reserved_range: Vec::new(alloc),
-            reserved_name: Vec::new(alloc),
-            rest: UnknownFields::new(alloc),
-        }
-    }
-}
-
-impl Listing for DescriptorProto {
-    ghost means = { λ m. refl };
-
-    ghost starts = { refl };
-}
-
-impl Formed for DescriptorProto {
-    type Form = Listed;
 }

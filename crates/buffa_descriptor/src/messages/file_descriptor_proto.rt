@@ -3,6 +3,7 @@
 ghost use Rattle.std.proofs.Common.{lit<, refl};
 ghost use Rattle.buffa_fields.specs.Members.{field, keep};
 
+use crate::messages::descriptor_proto::DescriptorProto;
 use crate::messages::enum_descriptor_proto::EnumDescriptorProto;
 use crate::messages::field_descriptor_proto::FieldDescriptorProto;
 use crate::messages::file_options::FileOptions;
@@ -18,7 +19,7 @@ use buffa_fields::optional::Optional;
 use buffa_fields::repeated::Repeated;
 use buffa_fields::repeated_nested::RepeatedNested;
 use buffa_fields::visitor::Visitor;
-use buffa_map::map_codec::{BytesVec, Int32, Str};
+use buffa_map::map_codec::{Int32, Str};
 use buffa_wire::{Blank, DecodeContext, DecodeError, Formed, Tag, UnknownFields};
 use std::alloc::Global;
 use std::string::String;
@@ -39,8 +40,6 @@ use std::string::String;
 ///     repeated int32 weak_dependency = 11;
 ///     optional string syntax = 12;
 /// }
-///
-/// Held as the encodings of its messages, which merge_from_slice reads: message_type = 4.
 #[derive(Drop)]
 pub struct FileDescriptorProto {
     /// Its name, from the folder in which protoc looks for imports.
@@ -49,8 +48,8 @@ pub struct FileDescriptorProto {
     pub package: Option<String>,
     /// The names of the files that it imports.
     pub dependency: Vec<String>,
-    /// The message types that stand in no other one, each as its encoding: `message_types` reads them.
-    pub message_type: Vec<Vec<u8>>,
+    /// The message types that stand in no other one.
+    pub message_type: Vec<DescriptorProto>,
     /// The enums that stand in no message.
     pub enum_type: Vec<EnumDescriptorProto>,
     /// The services.
@@ -76,7 +75,7 @@ impl Fields for FileDescriptorProto {
         Option<[u8; 0]>,
         Option<[u8; 0]>,
         [[u8; 0]; 0],
-        [[u8; 0]; 0],
+        [<DescriptorProto as Blank>::Meaning; 0],
         [<EnumDescriptorProto as Blank>::Meaning; 0],
         [<ServiceDescriptorProto as Blank>::Meaning; 0],
         [<FieldDescriptorProto as Blank>::Meaning; 0],
@@ -97,7 +96,7 @@ impl Fields for FileDescriptorProto {
     ghost layout = { field 1 (λ m. m.name) ⟦<Optional<Str> as Member>⟧.shape (
         field 2 (λ m. m.«package») ⟦<Optional<Str> as Member>⟧.shape (
         field 3 (λ m. m.dependency) ⟦<Repeated<Str> as Member>⟧.shape (
-        field 4 (λ m. m.message_type) ⟦<Repeated<BytesVec> as Member>⟧.shape (
+        field 4 (λ m. m.message_type) ⟦<RepeatedNested<DescriptorProto> as Member>⟧.shape (
         field 5 (λ m. m.enum_type) ⟦<RepeatedNested<EnumDescriptorProto> as Member>⟧.shape (
         field 6 (λ m. m.service) ⟦<RepeatedNested<ServiceDescriptorProto> as Member>⟧.shape (
         field 7 (λ m. m.extension) ⟦<RepeatedNested<FieldDescriptorProto> as Member>⟧.shape (
@@ -114,7 +113,7 @@ impl Fields for FileDescriptorProto {
         visitor.visit::<Optional<Str>>(1, &self.name);
         visitor.visit::<Optional<Str>>(2, &self.package);
         visitor.visit::<Repeated<Str>>(3, &self.dependency);
-        visitor.visit::<Repeated<BytesVec>>(4, &self.message_type);
+        visitor.visit::<RepeatedNested<DescriptorProto>>(4, &self.message_type);
         visitor.visit::<RepeatedNested<EnumDescriptorProto>>(5, &self.enum_type);
         visitor.visit::<RepeatedNested<ServiceDescriptorProto>>(6, &self.service);
         visitor.visit::<RepeatedNested<FieldDescriptorProto>>(7, &self.extension);
@@ -137,7 +136,13 @@ impl Fields for FileDescriptorProto {
             1 => Optional::<Str>::merge(&mut self.name, alloc, tag, buf, ctx),
             2 => Optional::<Str>::merge(&mut self.package, alloc, tag, buf, ctx),
             3 => Repeated::<Str>::merge(&mut self.dependency, alloc, tag, buf, ctx),
-            4 => Repeated::<BytesVec>::merge(&mut self.message_type, alloc, tag, buf, ctx),
+            4 => RepeatedNested::<DescriptorProto>::merge(
+                &mut self.message_type,
+                alloc,
+                tag,
+                buf,
+                ctx,
+            ),
             5 => RepeatedNested::<EnumDescriptorProto>::merge(
                 &mut self.enum_type,
                 alloc,
