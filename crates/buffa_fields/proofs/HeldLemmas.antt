@@ -1,6 +1,6 @@
 -- What is proved of the passes over messages that hold a list of their own type.
 use Rattle.std.proofs.Common.{◌≡◌, ◌≢◌, inr, ℕ, zero, suc, ◌==◌, ◌&&◌, not, ◌+◌, ◌-◌, ◌<◌, ◌≤◌, Bool, true, false, List, [], ◌∷◌, ◌++◌, length, map, get_or, min, Option, Result, Ok, Err, IfErr, OnErr, OnOk, refl, sym, ap, subst, ◌∙◌, arith}
-use Rattle.std.proofs.lemmas.Bool.{and_parts, eq-eqb, ne_eqb}
+use Rattle.std.proofs.lemmas.Bool.{and_parts, eq-eqb}
 use Rattle.buffa_bytes.specs.Front.{delimited_at}
 use Rattle.buffa_bytes.specs.Number.{IsNumber}
 use Rattle.buffa_bytes.specs.declared.error.DecodeError.{DecodeError}
@@ -51,10 +51,6 @@ first_of : (A B : Type 0) (t : Bool) → t ≡ true → A → Choice t A B
 first_of A B true is a = a
 first_of A B false is a = cc
 
-second_of : (A B : Type 0) (t : Bool) → t ≡ false → B → Choice t A B
-second_of A B true is b = cc
-second_of A B false is b = b
-
 module _ {M X : Type 0} (l : Layout M X) (k each : ℕ) where
   pub held_number : (is_number k && not (l.declares k)) ≡ true → IsNumber k
   held_number other = number_of_test k (and_parts (is_number k) (not (l.declares k)) other).0
@@ -69,10 +65,6 @@ module _ {M X : Type 0} (l : Layout M X) (k each : ℕ) where
               (subst (λ ys. Took (held_shape l k each (λ ts. map (nest_means l.meaning) ts)) d old n w bs before r ys after rest) (sym (nest_list-nests_in new)) took),
           refl,
         )
-
-    -- a member of its own does
-    pub field_own : (old new : M) (ns : Nests M) → n ≢ k → l.Taken d old n w bs before r new after rest → (nest_layout l k each).Taken d (nest old ns) n w bs before r (nest new ns) after rest
-    field_own old new ns other taken = second_of _ _ (n == k) (ne_eqb n k other) (refl, taken)
 
   -- ---- the passes: its own in front, those inside, and then the others of its own
   module _ (own : M) (ts : List (Nest M)) where

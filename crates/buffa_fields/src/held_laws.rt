@@ -9,13 +9,12 @@ ghost use Rattle.buffa_bytes.specs.Varint.{IsVarint};
 ghost use Rattle.buffa_wire.specs.BudgetLeft.{nothing, plus, units};
 ghost use Rattle.buffa_wire.specs.Message.{cost_in, merged_in};
 ghost use Rattle.buffa_wire.specs.Records.{Datum, bytes};
-ghost use Rattle.buffa_fields.specs.Held.{through};
 ghost use Rattle.buffa_fields.specs.Keep.{AllNumbers};
 ghost use Rattle.buffa_fields.specs.Layout.{Choice, both_need, both_take, is_number};
 ghost use Rattle.buffa_fields.specs.Members.{field, field_kept, keep};
 ghost use Rattle.buffa_fields.specs.Nested.{FitsInside};
 ghost use Rattle.buffa_fields.specs.Nests.{inside_of, nest_list, nest_means, nest_of, own_of, parts_of};
-ghost use Rattle.buffa_fields.specs.Pinned.{MemberOrOthers, TakeAlike, meaning_so};
+ghost use Rattle.buffa_fields.specs.Pinned.{ListOrOwn, TakeAlike, meaning_so};
 ghost use Rattle.buffa_fields.specs.Refusals.{RefusesAs, RefusesNew};
 ghost use Rattle.buffa_fields.specs.RepeatedNested.{MessagesTakeMemory, messages_cost, messages_levels, messages_records, messages_slots, messages_taken};
 
@@ -85,8 +84,7 @@ pub fn messages_that_hold_themselves_are_these<O: Holds>()
         ++ (⟦<Inside<O> as Member>⟧.shape.records O.NUMBER v.0 ++ O.layout.behind O.NUMBER v.1))
         × (⟦<Nest<O> as Fields>⟧.layout.adds v rs ≡ (v.0, O.layout.adds v.1 rs)) }
     ensures taken { TakeAlike ⟦<Nest<O> as Fields>⟧.layout.Taken
-        (MemberOrOthers O.NUMBER (λ t. nest_list (inside_of t))
-        (meaning_so (map (nest_means O.layout.meaning)) ⟦<Inside<O> as Member>⟧.shape) (through own_of O.layout)) }
+        (ListOrOwn O.NUMBER (meaning_so (map (nest_means O.layout.meaning)) ⟦<Inside<O> as Member>⟧.shape) O.layout) }
     ensures apart { (n : ℕ) (v u : _) → ⟦<Nest<O> as Fields>⟧.layout.Apart n v u
         ↔ Choice (n == O.NUMBER) (v.1 ≡ u.1) ((v.0 ≡ u.0) × O.layout.Apart n v.1 u.1) }
     ensures owes { ⟦<Nest<O> as Fields>⟧.layout.Owes

@@ -29,7 +29,7 @@ pub mod optional;
 pub mod ordered_key;
 pub mod ordered_map;
 pub mod ordered_nested;
-mod own_passes;
+pub mod own_passes;
 pub mod packed;
 pub mod plain;
 pub mod proto_type;

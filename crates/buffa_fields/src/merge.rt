@@ -38,7 +38,7 @@ pub fn merge_fields<M: Fields>(
     ensures tail { IsTailOf buf.new.now buf.old.now }
 {
     let DecodeContext { depth, budget } = ctx;
-    let mut rest = *buf;
+    let mut rest = &buf[..];
     'fields: while rest.remaining() > 0 {
         let tag = Tag::decode(&mut rest)?;
         let lent = DecodeContext {

@@ -25,8 +25,11 @@ fn count_front<O: Holds>(own: &O, sizer: &mut Sizer<'_>)
     own.front(sizer);
 }
 
-// The size pass over the members in front of the list.
-pub(crate) fn size_front<O: Holds>(own: &O, cache: &mut SizeCache) -> Result<u32, EncodeError>
+/// The size pass over the members in front of the list.
+///
+/// # Errors
+/// Those of `Message::compute_size`.
+pub fn size_front<O: Holds>(own: &O, cache: &mut SizeCache) -> Result<u32, EncodeError>
     ensures { let v = O.layout.meaning own.now in
         IsSized (records_encoding (O.layout.front O.NUMBER v)) (O.layout.front_slots O.NUMBER v []) cache.old result
         cache.new }
@@ -47,8 +50,11 @@ fn count_behind<O: Holds>(own: &O, sizer: &mut Sizer<'_>)
     own.behind(sizer);
 }
 
-// The size pass over the members behind the list, and the fields that are kept.
-pub(crate) fn size_behind<O: Holds>(own: &O, cache: &mut SizeCache) -> Result<u32, EncodeError>
+/// The size pass over the members behind the list, and the fields that are kept.
+///
+/// # Errors
+/// Those of `Message::compute_size`.
+pub fn size_behind<O: Holds>(own: &O, cache: &mut SizeCache) -> Result<u32, EncodeError>
     ensures { let v = O.layout.meaning own.now in
         IsSized (records_encoding (O.layout.behind O.NUMBER v ++ O.layout.kept v)) (O.layout.slots_behind O.NUMBER v)
         cache.old result cache.new }
@@ -75,8 +81,11 @@ fn put_front<O: Holds, S: EncodeSink>(own: &O, writer: &mut Writer<'_, S>)
     own.front(writer);
 }
 
-// The write pass over the members in front of the list.
-pub(crate) fn write_front<O: Holds, S: EncodeSink>(
+/// The write pass over the members in front of the list.
+///
+/// # Errors
+/// Those of `Message::write_to`.
+pub fn write_front<O: Holds, S: EncodeSink>(
     own: &O,
     cache: &mut SizeCache,
     sink: &mut S,
@@ -105,8 +114,11 @@ fn put_behind<O: Holds, S: EncodeSink>(own: &O, writer: &mut Writer<'_, S>)
     own.behind(writer);
 }
 
-// The write pass over the members behind the list, and the fields that are kept.
-pub(crate) fn write_behind<O: Holds, S: EncodeSink>(
+/// The write pass over the members behind the list, and the fields that are kept.
+///
+/// # Errors
+/// Those of `Message::write_to`.
+pub fn write_behind<O: Holds, S: EncodeSink>(
     own: &O,
     cache: &mut SizeCache,
     sink: &mut S,

@@ -236,7 +236,9 @@ pub trait Message: MessageSpec {
         ensures tail { IsTailOf buf.new.now buf.old.now }
     {
         let DecodeContext { depth, budget } = ctx;
-        let mut rest = *buf;
+        // A slice of all of it: a copy of the reference is read as one word of 16 bytes, which waits for the two that the
+        // caller has just stored.
+        let mut rest = &buf[..];
         'fields: while rest.remaining() > 0 {
             let tag = Tag::decode(&mut rest)?;
             let lent = DecodeContext {

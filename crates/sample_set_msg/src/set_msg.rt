@@ -204,7 +204,7 @@ impl Message for SetMsg {
             ctx.entry.budget.now e self.new.fields.records (budget_left ctx.exit)) }
     {
         let DecodeContext { depth, budget } = ctx;
-        let mut rest = *buf;
+        let mut rest = &buf[..];
         'fields: while rest.remaining() > 0 {
             let tag = Tag::decode(&mut rest)?;
             let lent = DecodeContext {
