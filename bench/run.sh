@@ -22,30 +22,18 @@ sizes=("$@")
 read -r -a fields <<< "${BENCH_FIELDS:-strings messages tree1 tree5 tree20 two records packed repeated message_list one items}"
 programs=(./ours ./peer_rust ./peer_cpp)
 kit=$(dirname "$(dirname "$(readlink -f "$(command -v rattle || echo /opt/rattle/bin/rattle)")")")
-# What ours stands on, lowest first.
-crates=()
-wanted=" $(grep -E '^(buffa_ext|buffa_fields|buffa_map|buffa_message_set|sample_types):' "$top/crates.txt" | tr -d ':' | tr '\n' ' ') "
-while IFS=: read -r crate _; do
-    case $wanted in *" $crate "*) crates+=("$crate") ;; esac
-done < <(grep -E '^[a-z]' "$top/crates.txt")
+# What ours stands on.
+crates=(buffa_ext buffa_fields buffa_map buffa_message_set sample_types)
 
-# Ours: the crates copied, with what their last check kept, and a static library over them. The gate reads every
+# Ours: the crates copied, with what is built of them, and a static library over them. The gate reads every
 # Rattle file of this repository, so the library stands outside it, in a repository of its own.
 build_ours() {
     local house=$build/house
     mkdir -p "$house/crates/speed/src" "$house/crates/speed/c"
     [ -d "$house/.git" ] || git init -q "$house"
-    for crate in "${crates[@]}"; do
-        mkdir -p "$house/crates/$crate"
-        [ -e "$house/crates/$crate/out" ] || [ ! -e "$top/crates/$crate/out" ] \
-            || cp -r "$top/crates/$crate/out" "$house/crates/$crate/"
-        for part in src specs proofs; do
-            rm -rf "$house/crates/$crate/$part"
-            [ ! -e "$top/crates/$crate/$part" ] || cp -r "$top/crates/$crate/$part" "$house/crates/$crate/"
-        done
-    done
-    for crate in "${crates[@]}"; do grep "^$crate:" "$top/crates.txt"; done > "$house/crates.txt"
-    echo "speed staticlib: ${crates[*]} indexmap" >> "$house/crates.txt"
+    "$top/tools/vendor" "$house" "${crates[@]}" --built >&2
+    sed -i '/^speed /d' "$house/crates.txt"
+    echo "speed staticlib: $(sed -nE 's/^(buffa_[a-z_]*|sample_types):.*/\1/p' "$house/crates.txt" | tr '\n' ' ')indexmap" >> "$house/crates.txt"
     rm -f "$house/crates/speed/src/"*.rt
     for part in "$bench"/ours/*.rt.in; do cp "$part" "$house/crates/speed/src/$(basename "$part" .in)"; done
     (cd "$house/crates/speed" && RT_ALLOW_C=speed rt lib >&2)
