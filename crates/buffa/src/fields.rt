@@ -1,7 +1,8 @@
 //! Messages by their fields: a struct of one's own is a [`Message`](crate::Message), and its author writes no proof.
 //!
 //! A struct is one by [`Fields`], [`Blank`](crate::Blank), [`Listing`] and [`Formed`]; what these cite is handed on in
-//! `specs/` under the name `Members`. [`crate::laws::fields`] says what each member type is.
+//! `specs/` under the name `Members`. One that holds a list or a map of itself is a [`Nest`] or a [`MapNest`] of a struct
+//! that has [`Holds`]. [`crate::laws::fields`] and [`crate::laws::held_maps`] say what each member type is.
 //!
 //! ```ignore
 //! impl Fields for Stock { .. }
@@ -31,4 +32,5 @@ pub use buffa_fields::repeated::Repeated;
 pub use buffa_fields::repeated_group::RepeatedGroup;
 pub use buffa_fields::repeated_nested::RepeatedNested;
 pub use buffa_fields::visitor::Visitor;
+pub use buffa_held::held_map::{self, MapInside, MapNest};
 pub use buffa_wire::Formed;

@@ -14,6 +14,7 @@ ghost use Rattle.buffa_ext.specs.Messages.{group_of};
 ghost use Rattle.std.specs.BTreeMap.{insert_entry};
 ghost use Rattle.buffa_fields.specs.Groups.{group_datum, group_records};
 ghost use Rattle.buffa_fields.specs.Held.{nest_encoding};
+ghost use Rattle.buffa_fields.specs.Layout.{both_take};
 ghost use Rattle.buffa_fields.specs.Lists.{element_records, packed_records};
 ghost use Rattle.buffa_fields.specs.MapFields.{pair_taken};
 ghost use Rattle.buffa_fields.specs.MemberRecords.{optional_records, plain_records};
@@ -169,5 +170,11 @@ where
     ensures nest { (v : _) → ⟦<fields::Nest<O> as Fields>⟧.layout.records v
         ≡ O.layout.front O.NUMBER v.1 ++ (messages_records (nest_encoding O.layout O.NUMBER O.COST) O.NUMBER v.0
         ++ (O.layout.behind O.NUMBER v.1 ++ O.layout.kept v.1)) }
+    ensures map_inside { ⟦<fields::MapInside<KC, O> as Member>⟧.shape.takes
+        ≡ pair_taken KC.reading (message_reading ⟦<fields::MapNest<KC, O> as Blank>⟧.blank_is
+        ⟦<fields::MapNest<KC, O> as MessageSpec>⟧.merged ⟦<fields::MapNest<KC, O> as MessageSpec>⟧.cost)
+        (insert_entry KC.Value.order) }
+    ensures map_nest { ⟦<fields::MapNest<KC, O> as Fields>⟧.layout.takes
+        ≡ both_take O.NUMBER ⟦<fields::MapInside<KC, O> as Member>⟧.shape.takes O.layout.takes }
     ensures listed { ⟦<fields::Listed as MessageForm<M>>⟧.records ≡ M.layout.records }
 {}
