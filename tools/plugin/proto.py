@@ -165,7 +165,7 @@ class Member:
         self.number = self.it.number
         self.name = self.it.name + "_" if self.it.name in KEYWORDS | {"rest"} else self.it.name
         self.in_contract = f"«{self.name}»" if self.name in ESCAPED else self.name
-        self.keeps, self.needs, self.inside = False, set(), []
+        self.keeps, self.needs, self.inside, self.key = False, set(), [], None
         self.world = world
         self.told = {key for key in FIELD_KEYS if field.full in world.fields[key]}
         entry = world.entries.get(self.it.type_name)
@@ -277,6 +277,7 @@ class Member:
     def as_map(self, entry):
         key, value = entry.field
         codec, rust, means = self.codec(key)[:3]
+        self.key = codec
         is_ordered = self.world.maps or "ordered" in self.told
         into, cost = ("BTreeMap", 24) if is_ordered else ("Map", 112)
         member_type = "OrderedMapOf" if is_ordered else "MapOf"
@@ -313,7 +314,7 @@ class Member:
 
 
 class Message:
-    """A message: its members in the order of their numbers, and apart from them the one list of itself that it may hold."""
+    """A message: its members in the order of their numbers, and apart from them the one list or map of itself that it may hold."""
 
     def __init__(self, world, name):
         self.world, self.name, self.rust, self.it = world, name, world.types[name.full], name.it
@@ -322,7 +323,7 @@ class Message:
         fields = [Name(name.file, name.path + (2, at), f"{name.full}.{f.name}", f) for at, f in enumerate(self.it.field)]
         self.left = sorted((f for f in fields if f.full in world.left), key=lambda f: f.it.number)
         self.listed = sorted(self.read([f for f in fields if f.full not in world.left]), key=lambda k: k.number)
-        self.held = self.list_of_itself()
+        self.held = self.member_of_itself()
         self.members = [k for k in self.listed if k is not self.held]
         self.own = self.rust + "Own" if self.held else self.rust
         self.is_keeping = name.full not in world.dropping
@@ -346,10 +347,12 @@ class Message:
             raise Refused("\n".join(refused))
         return made
 
-    def list_of_itself(self):
-        """The member that is a list of messages of this type, where no other member has one."""
-        found = [k for k in self.listed if self.name.full in k.inside]
-        return found[0] if len(found) == 1 and found[0].member_type.startswith("RepeatedNested<") else None
+    def member_of_itself(self):
+        """The member that is a list of messages of this type, or a map of them whose keys are no texts, where no other member has one."""
+        found = [k for k in self.listed if self.name.full in k.inside and k.key != "Str"]
+        kinds = ("RepeatedNested<", "MapOfNested<", "OrderedMapOfNested<")
+        is_one = sum(self.name.full in k.inside for k in self.listed) == 1
+        return found[0] if is_one and found and found[0].member_type.startswith(kinds) else None
 
     def see_own(self):
         """Refuses a name that another type has, and what would drop more than fields that aren't declared."""
@@ -368,7 +371,7 @@ class Message:
     def see_opaque(self):
         """Refuses a meaning with a name of its own where no such type can be written."""
         if not self.held:
-            self.name.refuse("it holds no list of itself, and opaque= is for messages that do")
+            self.name.refuse("it holds no list and no map of itself, and opaque= is for messages that do")
         if self.world.over == "buffa":
             self.name.refuse("opaque= cites what the facade doesn't hand on: say over=buffa_fields")
         name = f"{self.rust}Meaning"
@@ -384,11 +387,11 @@ class Message:
 
 
 def see_no_cycle(messages):
-    """A message that holds itself is no list of members, but for one list of itself."""
+    """A message that holds itself is no list of members, but for one list of itself, or one map whose keys are no texts."""
     def walk(full, above):
         if full in above:
             path = " in ".join(reversed(above[above.index(full) :] + [full]))
-            why = f"it holds itself ({path}), other than as one list, and is written by hand, as Tree is"
+            why = f"it holds itself ({path}), other than as one list, or one map whose keys are no texts, and is written by hand, as Tree is"
             messages[full].name.refuse(f"{why}, or a field is left out or encoded")
         for member in messages[full].members:
             for inner in member.inside:

@@ -100,9 +100,10 @@ def remarks(message):
 
 
 def held_docs(message):
-    """What is said of a message that holds a list of itself, beside what is said of each message."""
+    """What is said of a message that holds a list or a map of itself, beside what is said of each message."""
     name = message.held.it.name
-    made = ["", f"Its `{name}` are `inside`. Its other members are in `own`."]
+    by = ", by their keys" if message.held.key else ""
+    made = ["", f"Its `{name}` are `inside`{by}. Its other members are in `own`."]
     made += ["Its extensions are those of `own`."] * bool(message.it.extension_range)
     return docs(made + ([""] + message.held.field.said if message.held.field.said else []))
 
@@ -138,7 +139,7 @@ def visits(name, members, is_keeping):
 
 
 def visits_of(message):
-    """Of a message that holds a list of itself, the members in front of the list, and those behind it."""
+    """Of a message that holds itself, the members in front of the list or map, and those behind it."""
     if not message.held:
         return visits("visit", message.members, message.is_keeping)
     number = message.held.number
@@ -199,12 +200,17 @@ impl ExtensionSet for {message.own} {{
 }}""".split("\n")
 
 
+def outer(message):
+    """What the type of a message that holds itself is made of."""
+    return {"Holds", "MapNest", message.held.key} if message.held.key else {"Holds", "Nest"}
+
+
 def head_of_message(world, message):
     members = message.members
     names = set("Visitor kept DecodeContext DecodeError Tag Global".split())
     names = names.union(*[k.needs for k in members])
     names |= {"KeptFields", "UnknownFields"} if message.is_keeping else set()
-    names |= {"Holds", "Nest"} if message.held else {"Blank", "Fields", "Formed", "Listed", "Listing"}
+    names |= outer(message) if message.held else {"Blank", "Fields", "Formed", "Listed", "Listing"}
     names |= {"Blank"} if any(" as Blank>" in k.means for k in members) else set()
     names |= {"Member"} if members else set()
     if members:
@@ -228,10 +234,11 @@ def head_of_message(world, message):
 
 
 def struct(message):
-    """The struct of the members, and of a message that holds a list of itself the type around it."""
+    """The struct of the members, and of a message that holds itself the type around it."""
     made = message_docs(message)
     if message.held:
-        made += held_docs(message) + [f"pub type {message.rust} = Nest<{message.own}>;", ""]
+        of = f"MapNest<{message.held.key}, {message.own}>" if message.held.key else f"Nest<{message.own}>"
+        made += held_docs(message) + [f"pub type {message.rust} = {of};", ""]
         made += docs([f"What `{message.rust}` has beside `{message.held.it.name}`."])
     parts = []
     for member in message.members:
@@ -270,7 +277,7 @@ def some_value(means):
 
 
 def opaque_meaning(message):
-    """What the members of a message that holds a list of itself mean, as a struct that has none of their types in it."""
+    """What the members of a message that holds itself mean, as a struct that has none of their types in it."""
     values = [some_value(k.means) for k in message.members] + [("[]", {"[]"}) if message.is_keeping else ("tt", set())]
     words = set().union(*[w for _, w in values]) | ({"List", "ℕ"} if message.is_keeping else set())
     name = f"{message.rust}Meaning"
@@ -309,7 +316,7 @@ def head_of_impl(message, messages):
 
 
 def held_form(message, messages):
-    """What a message that holds a list of itself has of its own, in one impl."""
+    """What a message that holds itself has of its own, in one impl."""
     name, number = message.own, message.held.number
     made = opaque_meaning(message) if message.is_opaque else []
     made += [f"impl Holds for {name} {{"] + head_of_impl(message, messages)
