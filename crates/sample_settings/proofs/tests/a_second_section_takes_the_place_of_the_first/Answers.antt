@@ -3,3 +3,6 @@ use Rattle.sample_settings.proofs.tests.a_second_section_takes_the_place_of_the_
 
 pub unreachable-assert : goal.unreachable-assert
 unreachable-assert g c = search rules
+
+pub as_slice-requires-2 : goal.as_slice-requires-2
+as_slice-requires-2 g c = search rules
