@@ -215,3 +215,4 @@ declare("palette", 256, [
     (7, "ordered", ("int32", "old")), (8, "optional", "swatch"), (9, "group", "swatch"),
 ], True)
 declare("branch", 96, [(1, "plain", "string"), (2, "repeated", "int32"), (3, "repeated", "branch")], True)
+declare("settings", 96, [(1, "plain", "string"), (2, "ordered", ("string", "settings")), (3, "repeated", "int32")], True)

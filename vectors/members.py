@@ -50,7 +50,10 @@ KNOWN = Types(
 )
 
 # Types with maps that are written in the order of their keys.
-IN_ORDER = {"Ledger", "Wagon", "Palette"}
+IN_ORDER = {"Ledger", "Wagon", "Palette", "Settings"}
+
+# Types that hold themselves. They are drawn last, in this order, so that what is drawn of the others stays.
+LAST = ["Branch", "Settings"]
 
 
 def wire(kind):
@@ -145,7 +148,7 @@ def inputs(kind):
     members = [b"", *all_members(kind)]
     if kind in IN_ORDER:
         members += many_entries(kind)
-    members += at_random(20 if kind in ("Wagon", "Branch") else 9, lambda: one_field(kind, 4 if kind == "Branch" else 2))
+    members += at_random(20 if kind in ("Wagon", *LAST) else 9, lambda: one_field(kind, 4 if kind in LAST else 2))
     return [(kind.lower(), it.hex()) for it in members]
 
 
@@ -201,8 +204,8 @@ def build():
 def main():
     build()
     rows = by_hand()
-    # the branch last, so that what is drawn of the others stays
-    asked = [*rows, *(it for kind in sorted(MESSAGES, key=lambda it: it == "Branch") for it in inputs(kind))]
+    kinds = [*(it for it in MESSAGES if it not in LAST), *LAST]
+    asked = [*rows, *(it for kind in kinds for it in inputs(kind))]
     told = ask(list(dict.fromkeys(asked)))
     # what they wrote is read to the same, and written alike
     wrote = {it: (it[0], words[1].strip("-")) for it, words in told.items() if words != ["refused"]}

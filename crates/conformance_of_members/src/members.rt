@@ -1,9 +1,11 @@
 // Rows on messages from their fields, of which it is judged what stands after a refusal too.
 
 mod branches;
+mod settings;
 mod words;
 
 use crate::members::branches::Branches;
+use crate::members::settings::Sections;
 use conformance_calls::messages::parted;
 use conformance_rows::calls::StorageName;
 use conformance_rows::case::Case;
@@ -24,6 +26,7 @@ use sample_inventory::train::Train;
 use sample_inventory::wagon::Wagon;
 use sample_palette::palette::Palette;
 use sample_palette::swatch::Swatch;
+use sample_settings::settings::Settings;
 use std::alloc::Global;
 
 /// The words of messages from their fields.
@@ -48,6 +51,7 @@ pub fn on_members(
         "palette" => parted::<Members, Palette>(alloc, case, storage, mark, bytes),
         "pallet" => parted::<Members, Pallet>(alloc, case, storage, mark, bytes),
         "parcel" => parted::<Members, Parcel>(alloc, case, storage, mark, bytes),
+        "settings" => parted::<Sections<()>, Settings>(alloc, case, storage, mark, bytes),
         "store" => parted::<Members, Store>(alloc, case, storage, mark, bytes),
         "swatch" => parted::<Members, Swatch>(alloc, case, storage, mark, bytes),
         "train" => parted::<Members, Train>(alloc, case, storage, mark, bytes),
