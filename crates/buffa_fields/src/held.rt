@@ -1,4 +1,4 @@
-//! Messages that hold a list of themselves.
+//! Messages that hold a list of themselves. `held_map.rt` has those that hold a map of themselves.
 //!
 //! The author writes an impl of [`Holds`] for the other members, and the message is a [`Nest`] of these. A message
 //! inside is sized, written and merged by `size_nest`, `write_nest` and `merge_nest`. Each of them comes to itself
@@ -41,9 +41,9 @@ use buffa_wire::{
 use std::alloc::Global;
 use std::marker::{Model, PhantomData};
 
-/// What a message has beside a list of itself: its other members, and the number of the field that holds the list. The
-/// members before the first whose number isn't less than the list's are written in front of the list, the others behind
-/// it.
+/// What a message has beside the messages of its own type in it: its other members, and the number of the field that
+/// holds these messages, in a list ([`Nest`]) or in a map ([`MapNest`](crate::held_map::MapNest)). The members before the
+/// first whose number isn't less than that field's are written in front of it, the others behind it.
 ///
 /// ```ignore
 /// impl Holds for BranchOwn { .. }
@@ -70,7 +70,7 @@ pub trait Holds: Drop {
     /// An element has a cost.
     ghost positive: { 0 < COST };
 
-    /// The number of the field that holds the list.
+    /// The number of the field that holds the messages inside.
     ///
     /// ```ignore
     /// const NUMBER: u32 = 3;
@@ -85,7 +85,7 @@ pub trait Holds: Drop {
     /// Each number is valid for a field, no two members have the same one, and what closed enums don't declare is kept.
     ghost sound: { layout.sound ≡ true };
 
-    /// The list's number may be a field's, and is no other member's.
+    /// This number may be a field's, and is no other member's.
     ghost other: { (is_number NUMBER && not (layout.declares NUMBER)) ≡ true };
 
     /// The default of its own members.
@@ -96,7 +96,8 @@ pub trait Holds: Drop {
     fn blank(alloc: Global) -> Self
         ensures { layout.meaning result ≡ layout.blank };
 
-    /// Visits its own members in front of the list: those before the first whose number isn't less than the list's.
+    /// Visits its own members in front of the messages inside: those before the first whose number isn't less than
+    /// [`NUMBER`](Holds::NUMBER).
     ///
     /// ```ignore
     /// visitor.visit::<Plain<Str>>(1, &self.name);
@@ -108,7 +109,7 @@ pub trait Holds: Drop {
             V.Waits rest visitor.new }
         ensures back { layout.OwesFront NUMBER };
 
-    /// Visits the others, behind the list, and then the fields that are kept.
+    /// Visits the others, behind the messages inside, and then the fields that are kept.
     ///
     /// ```ignore
     /// visitor.visit_kept(&self.rest);
@@ -119,7 +120,8 @@ pub trait Holds: Drop {
         ensures back { layout.OwesBehind NUMBER };
 
     /// Merges the field whose tag was read into its own member of that number, as
-    /// [`Fields::take`](crate::fields::Fields::take) does. A [`Nest`] passes it no field of the list's number.
+    /// [`Fields::take`](crate::fields::Fields::take) does. It is passed no field of the number
+    /// [`NUMBER`](Holds::NUMBER).
     ///
     /// # Errors
     /// That of the member. For a field that isn't declared, that of keeping it or of passing over it.

@@ -25,7 +25,7 @@ ghost use Rattle.buffa_fields.specs.OrderedMaps.{KeysAscend};
 ghost use Rattle.buffa_fields.specs.Pinned.{TakeAlike, meaning_so};
 ghost use Rattle.buffa_fields.specs.Refusals.{RefusesPair, RefusesUnder};
 ghost use Rattle.buffa_fields.specs.Stands.{IsMemberRefused};
-ghost use Rattle.buffa_fields.specs.MapNests.{map_nest, map_nest_means, map_nest_of, no_kid, map_own_of, map_parts_of};
+ghost use Rattle.buffa_fields.specs.MapNests.{map_nest, map_nest_of, no_kid, map_own_of, map_parts_of};
 ghost use Rattle.buffa_fields.specs.MapPinned.{MapOrOwn, map_inside_of, with_entry, with_own};
 
 use crate::fields::Fields;
@@ -117,7 +117,8 @@ pub fn messages_that_hold_maps_of_themselves_are_these<KC: MapCodec<Value = K>, 
 /// A message that holds a map of itself means one value, a map nest. Its parts are what the map and the other members
 /// mean, and all that is said of the map nest is what the members say of its parts.
 pub fn parts_of_map_nests_are_these<KC: MapCodec<Value = K>, K: OrderedKey, O: Holds>()
-    ensures meaning { (t : _) → ⟦<MapNest<KC, K, O> as Blank>⟧.meaning t ≡ map_nest_means K.meaning O.layout.meaning t }
+    ensures meaning { (t : _) → map_parts_of (⟦<MapNest<KC, K, O> as Blank>⟧.meaning t)
+        ≡ (means K.meaning ⟦<MapNest<KC, K, O> as Blank>⟧.meaning (map_inside_of t), O.layout.meaning (map_own_of t)) }
     ensures blank { ⟦<MapNest<KC, K, O> as Blank>⟧.blank_is ≡ map_nest O.layout.blank no_kid }
     ensures merged { (d : ℕ) (v : _) (b : List ℕ) → ⟦<MapNest<KC, K, O> as MessageSpec>⟧.merged d v b
         ≡ option_map map_nest_of (merged_of ⟦<MapNest<KC, K, O> as Fields>⟧.layout.takes d (map_parts_of v) b) }
