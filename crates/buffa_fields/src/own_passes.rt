@@ -1,7 +1,8 @@
-//! The size pass and the write pass over the other members of a message that holds a list of itself.
+//! The size pass and the write pass over the other members of a message that holds a list or a map of itself.
 //!
-//! Each is in two parts: the members in front of the list, and those behind it. They are for a message inside the list
-//! (`size_nest` and `write_nest` in `held.rt`). The outermost one is visited as each message from its fields is.
+//! Each is in two parts: the members in front of the list or map, and those behind it. `size_nest` and `write_nest` in
+//! `held.rt`, which call them, are for a message inside a list: the outermost one is visited as each message from its fields
+//! is. Those in `held_map.rt` are for the outermost message too.
 
 ghost use Rattle.std.specs.Prelude.{◌≡◌, ◌++◌, [], List, ℕ, Ok};
 ghost use Rattle.buffa_wire.specs.Encoding.{records_encoding};
@@ -14,7 +15,7 @@ use buffa_wire::{EncodeError, EncodeSink, SizeCache};
 
 // ---- sizes
 
-// Sizes the members in front of the list.
+// Sizes the members in front of the list or map.
 fn count_front<O: Holds>(own: &O, sizer: &mut Sizer<'_>)
     requires { sizer.old.total ≡ Ok 0 }
     ensures same_reference { sizer.new.cache.ghost_name ≡ sizer.old.cache.ghost_name }
@@ -25,7 +26,7 @@ fn count_front<O: Holds>(own: &O, sizer: &mut Sizer<'_>)
     own.front(sizer);
 }
 
-/// The size pass over the members in front of the list.
+/// The size pass over the members in front of the list or map.
 ///
 /// # Errors
 /// Those of `Message::compute_size`.
@@ -39,7 +40,7 @@ pub fn size_front<O: Holds>(own: &O, cache: &mut SizeCache) -> Result<u32, Encod
     sizer.finish()
 }
 
-// Sizes the members behind the list, and the fields that are kept.
+// Sizes the members behind the list or map, and the fields that are kept.
 fn count_behind<O: Holds>(own: &O, sizer: &mut Sizer<'_>)
     requires { sizer.old.total ≡ Ok 0 }
     ensures same_reference { sizer.new.cache.ghost_name ≡ sizer.old.cache.ghost_name }
@@ -50,7 +51,7 @@ fn count_behind<O: Holds>(own: &O, sizer: &mut Sizer<'_>)
     own.behind(sizer);
 }
 
-/// The size pass over the members behind the list, and the fields that are kept.
+/// The size pass over the members behind the list or map, and the fields that are kept.
 ///
 /// # Errors
 /// Those of `Message::compute_size`.
@@ -66,7 +67,7 @@ pub fn size_behind<O: Holds>(own: &O, cache: &mut SizeCache) -> Result<u32, Enco
 
 // ---- encodings
 
-// Writes the members in front of the list.
+// Writes the members in front of the list or map.
 fn put_front<O: Holds, S: EncodeSink>(own: &O, writer: &mut Writer<'_, S>)
     requires fresh { writer.old.result ≡ Ok tt }
     requires next { (rest : List ℕ)
@@ -81,7 +82,7 @@ fn put_front<O: Holds, S: EncodeSink>(own: &O, writer: &mut Writer<'_, S>)
     own.front(writer);
 }
 
-/// The write pass over the members in front of the list.
+/// The write pass over the members in front of the list or map.
 ///
 /// # Errors
 /// Those of `Message::write_to`.
@@ -100,7 +101,7 @@ pub fn write_front<O: Holds, S: EncodeSink>(
     writer.finish()
 }
 
-// Writes the members behind the list, and the fields that are kept.
+// Writes the members behind the list or map, and the fields that are kept.
 fn put_behind<O: Holds, S: EncodeSink>(own: &O, writer: &mut Writer<'_, S>)
     requires fresh { writer.old.result ≡ Ok tt }
     requires next { IsNext (O.layout.slots_behind O.NUMBER (O.layout.meaning own.now)) writer.old.cache.now }
@@ -114,7 +115,7 @@ fn put_behind<O: Holds, S: EncodeSink>(own: &O, writer: &mut Writer<'_, S>)
     own.behind(writer);
 }
 
-/// The write pass over the members behind the list, and the fields that are kept.
+/// The write pass over the members behind the list or map, and the fields that are kept.
 ///
 /// # Errors
 /// Those of `Message::write_to`.
