@@ -249,7 +249,10 @@ impl<KC: MapCodec<Value = K>, K: OrderedKey, O: Holds> MapNest<KC, K, O> {
             kids,
             cache,
             sink,
-            |kid: &MapNest<KC, K, O>, cache: &mut SizeCache, sink: &mut S| -> Result<(), EncodeError>
+            |kid: &MapNest<KC, K, O>, cache: &mut SizeCache, sink: &mut S| -> Result<
+                (),
+                EncodeError,
+            >
                 requires { let keys = keys_by KC.reading KC.writing KC.COST K.order KC.fits KC.normal in
                     IsNext (map_nest_slots keys O.layout O.NUMBER O.COST (map_nest_means K.meaning O.layout.meaning kid.now))
                     cache.old }
