@@ -1,7 +1,11 @@
 //! Settings in settings. The bytes are worked out by hand, from the protobuf encoding guide.
 
-use crate::settings::Settings;
+use crate::settings::{Settings, SettingsOwn};
+use buffa_fields::held::Holds;
+use buffa_fields::held_map_laws::members_are_parts;
 use buffa_wire::{Blank, Budget, DecodeContext, DecodeError, Message, SizeCache};
+use std::collections::BTreeMap;
+use std::string::String;
 use std::test::Fail;
 
 #[test]
@@ -76,5 +80,24 @@ fn a_section_whose_name_is_no_text_is_refused(rt: HostRuntime) -> Result<(), Fai
     let answer = settings.merge_from_slice(alloc, &[0x12, 0x05, 0x0A, 0x01, 0xFF, 0x12, 0x00]);
     assert!(rt; answer == Err(DecodeError::InvalidUtf8));
     assert!(rt; settings.inside.len() == 0);
+    Ok(())
+}
+
+#[test]
+fn settings_are_made_of_their_members(rt: HostRuntime) -> Result<(), Fail> {
+    let alloc = rt.alloc();
+    let mut own = SettingsOwn::blank(alloc);
+    own.value = String::from_str(alloc, "x")?;
+    let mut sections = BTreeMap::new(alloc);
+    sections.insert(String::from_str(alloc, "a")?, Settings::blank(alloc))?;
+    let settings = Settings::new(own, sections);
+    let (own, inside) = members_are_parts(&settings);
+    assert!(rt; own.value.as_str() == "x" && inside.len() == 1);
+    let bytes: [u8; 10] = [
+        0x0A, 0x01, 0x78, // the value,
+        0x12, 0x05, 0x0A, 0x01, 0x61, 0x12, 0x00, // and the section "a", which is empty
+    ];
+    let encoding = settings.try_encode_to_vec(alloc)?;
+    assert!(rt; encoding.as_slice() == bytes.as_slice());
     Ok(())
 }
