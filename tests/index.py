@@ -31,7 +31,7 @@ START = {
     f"crates/{it}.rt"
     for it in (
         "buffa_bytes/src/varint buffa_wire/src/message buffa_map/src/map_codec buffa_map/src/run buffa_codec/src/codec buffa_ext/src/set "
-        "buffa_message_set/src/message_set buffa_fields/src/fields buffa_held/src/held_map buffa/src/lib buffamap/src/engine sample_stock/src/stock "
+        "buffa_message_set/src/message_set buffa_fields/src/fields buffa_fields/src/held_map buffa/src/lib buffamap/src/engine sample_stock/src/stock "
         "test_facade/src/guide conformance_rows/src/tables"
     ).split()
 }

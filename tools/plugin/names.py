@@ -49,7 +49,7 @@ BELOW = {
     "Global": "std::alloc",
     "BTreeMap": "std::collections",
     "Holds": "buffa_fields::held",
-    "MapNest": "buffa_held::held_map",
+    "MapNest": "buffa_fields::held_map",
     "Nest": "buffa_fields::held",
     "Model": "std::marker",
     "String": "std::string",

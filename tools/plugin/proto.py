@@ -165,7 +165,7 @@ class Member:
         self.number = self.it.number
         self.name = self.it.name + "_" if self.it.name in KEYWORDS | {"rest"} else self.it.name
         self.in_contract = f"«{self.name}»" if self.name in ESCAPED else self.name
-        self.keeps, self.needs, self.inside, self.key = False, set(), [], None
+        self.keeps, self.needs, self.inside, self.key, self.key_type = False, set(), [], None, None
         self.world = world
         self.told = {key for key in FIELD_KEYS if field.full in world.fields[key]}
         entry = world.entries.get(self.it.type_name)
@@ -277,7 +277,7 @@ class Member:
     def as_map(self, entry):
         key, value = entry.field
         codec, rust, means = self.codec(key)[:3]
-        self.key = codec
+        self.key, self.key_type = codec, rust
         is_ordered = self.world.maps or "ordered" in self.told
         into, cost = ("BTreeMap", 24) if is_ordered else ("Map", 112)
         member_type = "OrderedMapOf" if is_ordered else "MapOf"
@@ -348,11 +348,10 @@ class Message:
         return made
 
     def member_of_itself(self):
-        """The member that is a list of messages of this type, or a map of them whose keys are no texts, where no other member has one."""
-        found = [k for k in self.listed if self.name.full in k.inside and k.key != "Str"]
+        """The member that is a list or a map of messages of this type, where no other member has one."""
+        found = [k for k in self.listed if self.name.full in k.inside]
         kinds = ("RepeatedNested<", "MapOfNested<", "OrderedMapOfNested<")
-        is_one = sum(self.name.full in k.inside for k in self.listed) == 1
-        return found[0] if is_one and found and found[0].member_type.startswith(kinds) else None
+        return found[0] if len(found) == 1 and found[0].member_type.startswith(kinds) else None
 
     def see_own(self):
         """Refuses a name that another type has, and what would drop more than fields that aren't declared."""
@@ -387,11 +386,11 @@ class Message:
 
 
 def see_no_cycle(messages):
-    """A message that holds itself is no list of members, but for one list of itself, or one map whose keys are no texts."""
+    """A message that holds itself is no list of members, but for one list or one map of itself."""
     def walk(full, above):
         if full in above:
             path = " in ".join(reversed(above[above.index(full) :] + [full]))
-            why = f"it holds itself ({path}), other than as one list, or one map whose keys are no texts, and is written by hand, as Tree is"
+            why = f"it holds itself ({path}), other than as one list or one map, and is written by hand, as Tree is"
             messages[full].name.refuse(f"{why}, or a field is left out or encoded")
         for member in messages[full].members:
             for inner in member.inside:

@@ -202,7 +202,8 @@ impl ExtensionSet for {message.own} {{
 
 def outer(message):
     """What the type of a message that holds itself is made of."""
-    return {"Holds", "MapNest", message.held.key} if message.held.key else {"Holds", "Nest"}
+    key = message.held.key
+    return {"Holds", "MapNest", key} | ({"String"} if key == "Str" else set()) if key else {"Holds", "Nest"}
 
 
 def head_of_message(world, message):
@@ -237,7 +238,8 @@ def struct(message):
     """The struct of the members, and of a message that holds itself the type around it."""
     made = message_docs(message)
     if message.held:
-        of = f"MapNest<{message.held.key}, {message.own}>" if message.held.key else f"Nest<{message.own}>"
+        key = message.held.key
+        of = f"MapNest<{key}, {message.held.key_type}, {message.own}>" if key else f"Nest<{message.own}>"
         made += held_docs(message) + [f"pub type {message.rust} = {of};", ""]
         made += docs([f"What `{message.rust}` has beside `{message.held.it.name}`."])
     parts = []

@@ -11,6 +11,7 @@
 pub use buffa_fields::fields::Fields;
 pub use buffa_fields::group::Group;
 pub use buffa_fields::held::{self, Holds, Inside, Nest};
+pub use buffa_fields::held_map::{self, MapInside, MapNest};
 pub use buffa_fields::keeping::Keeping;
 pub use buffa_fields::kept::{self, KeptFields};
 pub use buffa_fields::map_member::MapOf;
@@ -32,5 +33,4 @@ pub use buffa_fields::repeated::Repeated;
 pub use buffa_fields::repeated_group::RepeatedGroup;
 pub use buffa_fields::repeated_nested::RepeatedNested;
 pub use buffa_fields::visitor::Visitor;
-pub use buffa_held::held_map::{self, MapInside, MapNest};
 pub use buffa_wire::Formed;

@@ -38,7 +38,7 @@ pub use buffa_ext::laws as extensions;
 /// Laws of messages that are lists of their members, and of member types.
 pub use buffa_fields::laws as fields;
 /// Laws of messages that hold a map of themselves.
-pub use buffa_held::held_map_laws as held_maps;
+pub use buffa_fields::held_map_laws as held_maps;
 /// Laws of map fields: codecs, entries, runs, sizes, encodings and rewrites.
 pub use buffa_map::laws as map_fields;
 /// Laws of Items of a MessageSet.

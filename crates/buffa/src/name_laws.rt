@@ -135,13 +135,12 @@ pub fn member_types_are_these<
     C: ProtoType,
     P: Packable,
     N: Message,
-    KC: MapCodec,
+    KC: MapCodec<Value = K>,
+    K: MapKey + Hash + OrderedKey,
     VC: MapCodec,
     M: Listing,
     O: Holds,
 >()
-where
-    KC::Value: MapKey + Hash + OrderedKey,
     ensures plain { (n : ℕ) (v : _) → ⟦<fields::Plain<C> as Member>⟧.shape.records n v
         ≡ plain_records C.is_blank C.datum n v }
     ensures optional { (n : ℕ) (v : _) → ⟦<fields::Optional<C> as Member>⟧.shape.records n v
@@ -158,23 +157,23 @@ where
     ensures repeated_group { (n : ℕ) (v : _) → ⟦<fields::RepeatedGroup<N> as Member>⟧.shape.records n v
         ≡ element_records (group_datum N.records) n v }
     ensures map { ⟦<fields::MapOf<KC, VC> as Member>⟧.shape.takes
-        ≡ pair_taken KC.reading VC.reading (put KC.Value.same) }
+        ≡ pair_taken KC.reading VC.reading (put K.same) }
     ensures map_of_nested { ⟦<fields::MapOfNested<KC, N> as Member>⟧.shape.takes
-        ≡ pair_taken KC.reading (message_reading N.blank_is N.merged N.cost) (put KC.Value.same) }
+        ≡ pair_taken KC.reading (message_reading N.blank_is N.merged N.cost) (put K.same) }
     ensures ordered_map { ⟦<fields::OrderedMapOf<KC, VC> as Member>⟧.shape.takes
-        ≡ pair_taken KC.reading VC.reading (insert_entry KC.Value.order) }
+        ≡ pair_taken KC.reading VC.reading (insert_entry K.order) }
     ensures ordered_map_of_nested { ⟦<fields::OrderedMapOfNested<KC, N> as Member>⟧.shape.takes
-        ≡ pair_taken KC.reading (message_reading N.blank_is N.merged N.cost) (insert_entry KC.Value.order) }
+        ≡ pair_taken KC.reading (message_reading N.blank_is N.merged N.cost) (insert_entry K.order) }
     ensures inside { (n : ℕ) (v : _) → ⟦<fields::Inside<O> as Member>⟧.shape.records n v
         ≡ messages_records (nest_encoding O.layout O.NUMBER O.COST) n v }
     ensures nest { (v : _) → ⟦<fields::Nest<O> as Fields>⟧.layout.records v
         ≡ O.layout.front O.NUMBER v.1 ++ (messages_records (nest_encoding O.layout O.NUMBER O.COST) O.NUMBER v.0
         ++ (O.layout.behind O.NUMBER v.1 ++ O.layout.kept v.1)) }
-    ensures map_inside { ⟦<fields::MapInside<KC, O> as Member>⟧.shape.takes
-        ≡ pair_taken KC.reading (message_reading ⟦<fields::MapNest<KC, O> as Blank>⟧.blank_is
-        ⟦<fields::MapNest<KC, O> as MessageSpec>⟧.merged ⟦<fields::MapNest<KC, O> as MessageSpec>⟧.cost)
-        (insert_entry KC.Value.order) }
-    ensures map_nest { ⟦<fields::MapNest<KC, O> as Fields>⟧.layout.takes
-        ≡ both_take O.NUMBER ⟦<fields::MapInside<KC, O> as Member>⟧.shape.takes O.layout.takes }
+    ensures map_inside { ⟦<fields::MapInside<KC, K, O> as Member>⟧.shape.takes
+        ≡ pair_taken KC.reading (message_reading ⟦<fields::MapNest<KC, K, O> as Blank>⟧.blank_is
+        ⟦<fields::MapNest<KC, K, O> as MessageSpec>⟧.merged ⟦<fields::MapNest<KC, K, O> as MessageSpec>⟧.cost)
+        (insert_entry K.order) }
+    ensures map_nest { ⟦<fields::MapNest<KC, K, O> as Fields>⟧.layout.takes
+        ≡ both_take O.NUMBER ⟦<fields::MapInside<KC, K, O> as Member>⟧.shape.takes O.layout.takes }
     ensures listed { ⟦<fields::Listed as MessageForm<M>>⟧.records ≡ M.layout.records }
 {}

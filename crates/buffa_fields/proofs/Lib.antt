@@ -19,3 +19,6 @@ pub mod LevelLemmas
 pub mod HeldLemmas
 pub mod HeldLawLemmas
 pub mod HeldFieldLemmas
+pub mod HeldMapLemmas
+pub mod HeldMapLawLemmas
+pub mod HeldMapFieldLemmas

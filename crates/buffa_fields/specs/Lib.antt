@@ -56,3 +56,8 @@ pub mod Nests
 pub mod AmongFacts
 pub mod Held
 pub mod HeldFacts
+pub mod MapNests
+pub mod HeldMap
+pub mod HeldMapFacts
+pub mod HeldMessageFacts
+pub mod MapPinned

@@ -4,6 +4,8 @@
 //! inside is sized, written and merged by `size_nest`, `write_nest` and `merge_nest`. Each of them comes to itself
 //! again, a level down, through the functions beside it. The list is a member of the member type [`Inside`]. So a
 //! [`Nest`] has [`Fields`], as each message from its fields.
+//!
+//! Messages that hold a map of themselves are in `held_map.rt`. Their other members have [`Holds`] too.
 
 ghost use Rattle.std.specs.Prelude.{◌≡◌, ◌≢◌, ◌<◌, ◌∷◌, ◌&&◌, [], ℕ, List, IfErr, IsOk, OnErr, OnOk, length, map, not, refl, true};
 ghost use Rattle.std.specs.List.{AllByRecursion};
@@ -41,9 +43,9 @@ use buffa_wire::{
 use std::alloc::Global;
 use std::marker::{Model, PhantomData};
 
-/// What a message has beside a list of itself: its other members, and the number of the field that holds the list. The
-/// members before the first whose number isn't less than the list's are written in front of the list, the others behind
-/// it.
+/// What a message has beside a list or a map of itself: its other members, and the number of the field that is the list
+/// or map. The members before the first whose number isn't less than this one are written in front of the list or map,
+/// the others behind it.
 ///
 /// ```ignore
 /// impl Holds for BranchOwn { .. }
@@ -70,7 +72,7 @@ pub trait Holds: Drop {
     /// An element has a cost.
     ghost positive: { 0 < COST };
 
-    /// The number of the field that holds the list.
+    /// The number of the field that is the list or map.
     ///
     /// ```ignore
     /// const NUMBER: u32 = 3;
@@ -85,7 +87,7 @@ pub trait Holds: Drop {
     /// Each number is valid for a field, no two members have the same one, and what closed enums don't declare is kept.
     ghost sound: { layout.sound ≡ true };
 
-    /// The list's number may be a field's, and is no other member's.
+    /// The number of the list or map may be a field's, and is no other member's.
     ghost other: { (is_number NUMBER && not (layout.declares NUMBER)) ≡ true };
 
     /// The default of its own members.
@@ -96,7 +98,7 @@ pub trait Holds: Drop {
     fn blank(alloc: Global) -> Self
         ensures { layout.meaning result ≡ layout.blank };
 
-    /// Visits its own members in front of the list: those before the first whose number isn't less than the list's.
+    /// Visits its own members in front of the list or map: those before the first whose number isn't less than its number.
     ///
     /// ```ignore
     /// visitor.visit::<Plain<Str>>(1, &self.name);
@@ -108,7 +110,7 @@ pub trait Holds: Drop {
             V.Waits rest visitor.new }
         ensures back { layout.OwesFront NUMBER };
 
-    /// Visits the others, behind the list, and then the fields that are kept.
+    /// Visits the others, behind the list or map, and then the fields that are kept.
     ///
     /// ```ignore
     /// visitor.visit_kept(&self.rest);
@@ -119,7 +121,7 @@ pub trait Holds: Drop {
         ensures back { layout.OwesBehind NUMBER };
 
     /// Merges the field whose tag was read into its own member of that number, as
-    /// [`Fields::take`](crate::fields::Fields::take) does. A [`Nest`] passes it no field of the list's number.
+    /// [`Fields::take`](crate::fields::Fields::take) does. It is passed no field of the list's or map's number.
     ///
     /// # Errors
     /// That of the member. For a field that isn't declared, that of keeping it or of passing over it.

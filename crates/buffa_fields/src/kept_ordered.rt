@@ -26,7 +26,8 @@ use std::alloc::Global;
 use std::collections::BTreeMap;
 
 // Merges the entry of the field whose tag was read, or puts it aside where its value is undeclared. A refused one takes no
-// unknown field. The two lengths are there since they tell that the keys ascend.
+// unknown field. `map.len()` is called before and after only for its contract, by which the checker knows that the keys
+// ascend.
 #[tactic(auto, unfolding(crate::specs::Entries::entry_taken, crate::specs::Entries::entry_cost))]
 fn take_kept_ordered<KC: MapCodec, VC: MapCodec>(
     alloc: Global,

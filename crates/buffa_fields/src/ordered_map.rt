@@ -32,7 +32,8 @@ use std::alloc::Global;
 use std::collections::BTreeMap;
 use std::marker::PhantomData;
 
-// Merges the entry of the field whose tag was read; the two lengths are there since they tell that the keys ascend.
+// Merges the entry of the field whose tag was read. `map.len()` is called before and after only for its contract, by which
+// the checker knows that the keys ascend.
 #[tactic(auto, unfolding(crate::specs::Entries::entry_taken, crate::specs::Entries::entry_cost))]
 pub(crate) fn take_ordered<KC: MapCodec, VC: MapValueDecode>(
     alloc: Global,

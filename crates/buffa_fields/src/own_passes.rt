@@ -1,9 +1,9 @@
-//! The size pass and the write pass over the other members of a message that holds a list of itself.
+//! The size pass and the write pass over the other members of a message that holds a list or a map of itself.
 //!
-//! Each is in two parts: the members in front of the list, and those behind it. They are for a message inside the list
-//! (`size_nest` and `write_nest` in `held.rt`). The outermost one is visited as each message from its fields is.
+//! Each is in two parts: the members in front of the list or map, and those behind it. They are called by `size_nest` and
+//! `write_nest`, which are in `held.rt` for a list and in `held_map.rt` for a map.
 
-ghost use Rattle.std.specs.Prelude.{◌≡◌, ◌++◌, [], List, ℕ, Ok};
+ghost use Rattle.std.specs.Prelude.{◌≡◌, ◌++◌, [], IsOk, List, ℕ, Ok};
 ghost use Rattle.buffa_wire.specs.Encoding.{records_encoding};
 ghost use Rattle.buffa_wire.specs.Passes.{IsNext, IsSized, IsWritten};
 
@@ -14,50 +14,54 @@ use buffa_wire::{EncodeError, EncodeSink, SizeCache};
 
 // ---- sizes
 
-// Sizes the members in front of the list.
+// Sizes the members in front of the list or map.
 fn count_front<O: Holds>(own: &O, sizer: &mut Sizer<'_>)
     requires { sizer.old.total ≡ Ok 0 }
     ensures same_reference { sizer.new.cache.ghost_name ≡ sizer.old.cache.ghost_name }
     ensures sized { let v = O.layout.meaning own.now in
         IsSized (records_encoding (O.layout.front O.NUMBER v)) (O.layout.front_slots O.NUMBER v []) sizer.old.cache.now
         sizer.new.total sizer.new.cache.now }
+    ensures always { O.layout.front_slots O.NUMBER (O.layout.meaning own.now) [] ≡ [] → IsOk sizer.new.total }
 {
     own.front(sizer);
 }
 
-/// The size pass over the members in front of the list.
+/// The size pass over the members in front of the list or map.
 ///
 /// # Errors
-/// Those of `Message::compute_size`.
+/// [`EncodeError::OutOfMemory`] alone, and only where there is a message in one of these members.
 pub fn size_front<O: Holds>(own: &O, cache: &mut SizeCache) -> Result<u32, EncodeError>
-    ensures { let v = O.layout.meaning own.now in
+    ensures sized { let v = O.layout.meaning own.now in
         IsSized (records_encoding (O.layout.front O.NUMBER v)) (O.layout.front_slots O.NUMBER v []) cache.old result
         cache.new }
+    ensures always { O.layout.front_slots O.NUMBER (O.layout.meaning own.now) [] ≡ [] → IsOk result }
 {
     let mut sizer = Sizer::new(cache);
     count_front(own, &mut sizer);
     sizer.finish()
 }
 
-// Sizes the members behind the list, and the fields that are kept.
+// Sizes the members behind the list or map, and the fields that are kept.
 fn count_behind<O: Holds>(own: &O, sizer: &mut Sizer<'_>)
     requires { sizer.old.total ≡ Ok 0 }
     ensures same_reference { sizer.new.cache.ghost_name ≡ sizer.old.cache.ghost_name }
     ensures sized { let v = O.layout.meaning own.now in
         IsSized (records_encoding (O.layout.behind O.NUMBER v ++ O.layout.kept v)) (O.layout.slots_behind O.NUMBER v)
         sizer.old.cache.now sizer.new.total sizer.new.cache.now }
+    ensures always { O.layout.slots_behind O.NUMBER (O.layout.meaning own.now) ≡ [] → IsOk sizer.new.total }
 {
     own.behind(sizer);
 }
 
-/// The size pass over the members behind the list, and the fields that are kept.
+/// The size pass over the members behind the list or map, and the fields that are kept.
 ///
 /// # Errors
-/// Those of `Message::compute_size`.
+/// [`EncodeError::OutOfMemory`] alone, and only where there is a message in one of these members.
 pub fn size_behind<O: Holds>(own: &O, cache: &mut SizeCache) -> Result<u32, EncodeError>
-    ensures { let v = O.layout.meaning own.now in
+    ensures sized { let v = O.layout.meaning own.now in
         IsSized (records_encoding (O.layout.behind O.NUMBER v ++ O.layout.kept v)) (O.layout.slots_behind O.NUMBER v)
         cache.old result cache.new }
+    ensures always { O.layout.slots_behind O.NUMBER (O.layout.meaning own.now) ≡ [] → IsOk result }
 {
     let mut sizer = Sizer::new(cache);
     count_behind(own, &mut sizer);
@@ -66,7 +70,7 @@ pub fn size_behind<O: Holds>(own: &O, cache: &mut SizeCache) -> Result<u32, Enco
 
 // ---- encodings
 
-// Writes the members in front of the list.
+// Writes the members in front of the list or map.
 fn put_front<O: Holds, S: EncodeSink>(own: &O, writer: &mut Writer<'_, S>)
     requires fresh { writer.old.result ≡ Ok tt }
     requires next { (rest : List ℕ)
@@ -81,7 +85,7 @@ fn put_front<O: Holds, S: EncodeSink>(own: &O, writer: &mut Writer<'_, S>)
     own.front(writer);
 }
 
-/// The write pass over the members in front of the list.
+/// The write pass over the members in front of the list or map.
 ///
 /// # Errors
 /// Those of `Message::write_to`.
@@ -100,7 +104,7 @@ pub fn write_front<O: Holds, S: EncodeSink>(
     writer.finish()
 }
 
-// Writes the members behind the list, and the fields that are kept.
+// Writes the members behind the list or map, and the fields that are kept.
 fn put_behind<O: Holds, S: EncodeSink>(own: &O, writer: &mut Writer<'_, S>)
     requires fresh { writer.old.result ≡ Ok tt }
     requires next { IsNext (O.layout.slots_behind O.NUMBER (O.layout.meaning own.now)) writer.old.cache.now }
@@ -114,7 +118,7 @@ fn put_behind<O: Holds, S: EncodeSink>(own: &O, writer: &mut Writer<'_, S>)
     own.behind(writer);
 }
 
-/// The write pass over the members behind the list, and the fields that are kept.
+/// The write pass over the members behind the list or map, and the fields that are kept.
 ///
 /// # Errors
 /// Those of `Message::write_to`.

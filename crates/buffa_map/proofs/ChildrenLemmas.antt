@@ -1,5 +1,5 @@
--- Messages that hold a map of their own type: their heights, slots and records, what merging a child's entry promises, and
--- how the children are read back.
+-- Messages written by hand that hold a map of their own type: their heights, slots and records, what merging a child's entry
+-- promises, and how the children are read back.
 use Rattle.std.proofs.Common.{◌≡◌, ◌≢◌, ◌^◌, ◌<◌, ◌≤◌, ℕ, zero, suc, ℤ, FitsSigned, false, true, cond, List, [], ◌∷◌, ◌++◌, length, length-append, Option, Some, Ok, refl, sym, ap, subst, ◌∙◌, arith}
 use Rattle.std.specs.BTreeMap.{insert_entry}
 use Rattle.std.specs.Cmp.{int_cmp_total}

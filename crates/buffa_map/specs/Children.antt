@@ -1,5 +1,5 @@
--- Messages that hold a map of their own type: a family is what is its own, and its children by key.
--- Source: the protobuf encoding guide, "Maps" and "Submessages".
+-- Messages written by hand that hold a map of their own type, with keys of int32: a family is what is its own, and its children
+-- by key. Source: the protobuf encoding guide, "Maps" and "Submessages".
 use Rattle.std.specs.Prelude.{◌≡◌, ℕ, suc, ℤ, ◌+◌, ◌<◌, ◌^◌, FitsSigned, max, List, [], ◌∷◌, ◌++◌, length, Option, refl}
 use Rattle.std.proofs.Common.{ap}
 use Rattle.std.specs.Coded.{Coded, coded_ℤ}

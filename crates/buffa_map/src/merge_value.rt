@@ -19,8 +19,7 @@ use buffa_wire::{Blank, Budget, Buf, DecodeContext, DecodeError, MessageSpec, Wi
 use std::alloc::Global;
 use std::marker::PhantomData;
 
-/// How the value of an entry is merged: [`ByCodec`], or [`ByFunction`] for messages whose type holds itself and is
-/// written by hand.
+/// How the value of an entry is merged: [`ByCodec`], or [`ByFunction`] for messages whose type holds itself.
 pub trait MergeValue {
     /// The Rust type of the values.
     type Value: Blank;

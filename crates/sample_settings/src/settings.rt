@@ -4,28 +4,28 @@ ghost use Rattle.std.proofs.Common.{lit<, refl};
 ghost use Rattle.buffa_fields.specs.Members.{field, keep};
 
 use buffa_fields::held::Holds;
+use buffa_fields::held_map::MapNest;
 use buffa_fields::kept::{self, KeptFields};
 use buffa_fields::meaning::And3;
 use buffa_fields::member::Member;
 use buffa_fields::plain::Plain;
 use buffa_fields::repeated::Repeated;
 use buffa_fields::visitor::Visitor;
-use buffa_held::held_map::MapNest;
 use buffa_map::map_codec::{Int32, Str};
 use buffa_wire::{DecodeContext, DecodeError, Tag, UnknownFields};
 use std::alloc::Global;
 use std::string::String;
 
-/// Settings, with those of each section in them, by its number.
+/// Settings, with those of each section in them, by its name.
 ///
 /// message Settings {
 ///     string value = 1;
-///     map<int32, Settings> sections = 2;
+///     map<string, Settings> sections = 2;
 ///     repeated int32 ports = 3 [packed = false];
 /// }
 ///
 /// Its `sections` are `inside`, by their keys. Its other members are in `own`.
-pub type Settings = MapNest<Int32, SettingsOwn>;
+pub type Settings = MapNest<Str, String, SettingsOwn>;
 
 /// What `Settings` has beside `sections`.
 #[derive(Drop)]
