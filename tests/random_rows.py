@@ -90,17 +90,17 @@ class Maker:
             for _ in range(count)
         )
 
-    def of_kind(self, kind, number):
+    def of_kind(self, kind, number, levels=3):
         """A field that holds a value of a kind."""
-        return self.varint(number * 8 + KINDS[kind][0]) + self.payload(kind)
+        return self.varint(number * 8 + KINDS[kind][0]) + self.payload(kind, levels)
 
-    def payload(self, kind):
+    def payload(self, kind, levels=3):
         wire = KINDS[kind][0]
         if wire == VARINT:
             return self.varint(self.pick(0, 1, 2, 99, self.number()))
         if wire in (EIGHT, FOUR):
             return self.any.randbytes(8 if wire == EIGHT else 4)
-        text = self.message(kind, 3) if kind in MESSAGES else self.any.choice(TEXTS)
+        text = self.message(kind, levels) if kind in MESSAGES else self.any.choice(TEXTS)
         return self.varint(len(text)) + text
 
     def node_field(self, levels):
@@ -118,17 +118,18 @@ class Maker:
         if self.is_one_in(4):
             return self.field(self.pick(number, 13, 14), self.pick(VARINT, EIGHT, DELIMITED, START, FOUR), levels)
         if how in ("map", "ordered"):
-            return tag_encoding(number, DELIMITED) + self.entry(inner)
+            return tag_encoding(number, DELIMITED) + self.entry(inner, levels - 1)
         if how in ("group", "groups"):
             end = self.pick(number, number, number, 3) * 8 + END
             return tag_encoding(number, START) + self.message(inner, levels - 1) + self.varint(end)
         if how in ("repeated", "packed") and KINDS[inner][0] != DELIMITED and self.is_one_in(2):
             return tag_encoding(number, DELIMITED) + delimited(b"".join(self.payload(inner) for _ in range(self.any.randint(0, 3))))
-        return tag_encoding(number, KINDS[inner][0]) + self.payload(inner)
+        return tag_encoding(number, KINDS[inner][0]) + self.payload(inner, levels - 1)
 
     def message(self, kind, levels):
+        """Some fields; none of a message from its fields where no level is left."""
         text = b""
-        for _ in range(self.any.randint(0, 3)):
+        for _ in range(self.any.randint(0, 3) if levels > 0 or kind not in BY_MEMBERS else 0):
             if kind in BY_MEMBERS:
                 text += self.member_field(kind, levels)
             elif kind == "node":
@@ -154,11 +155,12 @@ class Maker:
         bit = bytes([byte[0] ^ 1 << self.any.randrange(8)])
         return self.pick(before, before + self.any.randbytes(1) + after, before + bit + after, before + bit + byte + after, before + after)
 
-    def entry(self, kinds):
+    def entry(self, kinds, levels=3):
         text = b""
         for _ in range(self.pick(1, 2, 2, 2, 3, 4)):
             other = self.field(self.pick(3, 4, 16), self.pick(VARINT, EIGHT, DELIMITED, START, FOUR), 3)
-            text += self.pick(self.of_kind(kinds[0], 1), self.of_kind(kinds[1], 2), self.of_kind(kinds[1], 2), other)
+            one, another = (self.of_kind(kinds[1], 2, levels) for _ in range(2))
+            text += self.pick(self.of_kind(kinds[0], 1), one, another, other)
         text = self.mutated(text) if self.is_one_in(3) else text
         length = len(text) if not self.is_one_in(20) else abs(len(text) + self.pick(-1, 1))
         return self.varint(length) + text
