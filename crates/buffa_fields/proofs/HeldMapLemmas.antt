@@ -3,6 +3,7 @@ use Rattle.std.proofs.Common.{◌≡◌, ℕ, zero, suc, ◌==◌, ◌&&◌, not
 use Rattle.std.proofs.lemmas.Bool.{and_parts, eq-eqb}
 use Rattle.std.specs.List.{Contains}
 use Rattle.std.specs.Map.{values_of}
+use Rattle.buffa_bytes.proofs.ListLemmas.{nil_first, nil_second}
 use Rattle.buffa_bytes.specs.Number.{IsNumber}
 use Rattle.buffa_bytes.specs.declared.error.DecodeError.{DecodeError}
 use Rattle.buffa_bytes.specs.declared.error.EncodeError.{EncodeError}
@@ -114,26 +115,23 @@ module _ {N K M X : Type 0} (keys : Keys K) (l : Layout M X) (k each : ℕ) (key
     as_sized : (c0 c2 : Cache) (r : Result ℕ EncodeError) → IsSized (front_written ++ later_written) (front_slotted ++ later_slotted) c0 r c2 → IsSized (map_nest_encoding keys l k each v) (map_nest_slots keys l k each v) c0 r c2
     as_sized c0 c2 r h = subst (λ (e : List ℕ). IsSized e (map_nest_slots keys l k each v) c0 r c2) encoding_is (subst (λ (s : List ℕ). IsSized (front_written ++ later_written) s c0 r c2) slots_are h)
 
-    -- where a later part fails
-    later_fails : (t u s x : List ℕ) (c0 c1 c2 : Cache) (before : ℕ) (e : EncodeError) → IsSized t s c0 (sum before) c1 → IsSized u x c1 (failed e) c2 → IsSized (t ++ u) (s ++ x) c0 (failed e) c2
-    later_fails t u s x c0 c1 c2 before e h (which, longer) = (which, (s ++ longer.0, longer.1 ∙ appended_twice s longer.0 c0 c1 h.1))
-
     pub nest_sized : (c0 c1 c2 c3 : Cache) (front below behind more new : ℕ) → IsSized front_written front_slotted c0 (sum front) c1 → IsSized inside_written inside_slotted c1 (sum below) c2 → IsSized behind_written behind_slotted c2 (sum behind) c3 →
         more ≡ min (below + behind) 4294967295 → new ≡ min (front + more) 4294967295 → IsSized (map_nest_encoding keys l k each v) (map_nest_slots keys l k each v) c0 (sum new) c3
     nest_sized c0 c1 c2 c3 front below behind more new f h j e n =
         as_sized c0 c3 (sum new) (sized_more front_written later_written front_slotted later_slotted c0 c1 c3 front more new f (sized_more inside_written behind_written inside_slotted behind_slotted c1 c2 c3 below behind more h j e) n)
 
-    pub front_fails : (c0 c1 : Cache) (e : EncodeError) → IsSized front_written front_slotted c0 (failed e) c1 → IsSized (map_nest_encoding keys l k each v) (map_nest_slots keys l k each v) c0 (failed e) c1
-    front_fails c0 c1 e h = h
+    -- where it has no slot, none of its parts has one
+    pub front_bare : map_nest_slots keys l k each v ≡ [] → front_slotted ≡ []
+    front_bare none = nil_first front_slotted later_slotted (slots_are ∙ none)
 
-    pub inside_fails : (c0 c1 c2 : Cache) (front : ℕ) (e : EncodeError) → IsSized front_written front_slotted c0 (sum front) c1 → IsSized inside_written inside_slotted c1 (failed e) c2 →
-        IsSized (map_nest_encoding keys l k each v) (map_nest_slots keys l k each v) c0 (failed e) c2
-    inside_fails c0 c1 c2 front e f h = later_fails front_written later_written front_slotted later_slotted c0 c1 c2 front e f h
+    later_bare : map_nest_slots keys l k each v ≡ [] → later_slotted ≡ []
+    later_bare none = nil_second front_slotted later_slotted (slots_are ∙ none)
 
-    pub behind_fails : (c0 c1 c2 c3 : Cache) (front below : ℕ) (e : EncodeError) → IsSized front_written front_slotted c0 (sum front) c1 → IsSized inside_written inside_slotted c1 (sum below) c2 → IsSized behind_written behind_slotted c2 (failed e) c3 →
-        IsSized (map_nest_encoding keys l k each v) (map_nest_slots keys l k each v) c0 (failed e) c3
-    behind_fails c0 c1 c2 c3 front below e f h j =
-        later_fails front_written later_written front_slotted later_slotted c0 c1 c3 front e f (later_fails inside_written behind_written inside_slotted behind_slotted c1 c2 c3 below e h j)
+    pub inside_bare : map_nest_slots keys l k each v ≡ [] → inside_slotted ≡ []
+    inside_bare none = nil_first inside_slotted behind_slotted (later_bare none)
+
+    pub behind_bare : map_nest_slots keys l k each v ≡ [] → behind_slotted ≡ []
+    behind_bare none = nil_second inside_slotted behind_slotted (later_bare none)
 
     -- encodings
     next_all : (c : Cache) → IsNext (map_nest_slots keys l k each v) c → IsNext (front_slotted ++ later_slotted) c

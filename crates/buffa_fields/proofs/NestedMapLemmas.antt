@@ -19,7 +19,7 @@ use Rattle.buffa_fields.specs.MapFacts.{map_encoding}
 use Rattle.buffa_fields.specs.NestedMaps.{pair_records, pair_slots}
 
 -- no slots, no pairs
-no_pairs : {K X : Type 0} (encoding slots : X → List ℕ) (l : List (K × X)) → pair_slots encoding slots l ≡ [] → l ≡ []
+pub no_pairs : {K X : Type 0} (encoding slots : X → List ℕ) (l : List (K × X)) → pair_slots encoding slots l ≡ [] → l ≡ []
 unfolding pair_slots
 no_pairs encoding slots [] none = refl
 no_pairs encoding slots (p ∷ ps) none = cc

@@ -1,5 +1,5 @@
 -- What is proved of the members in front of a number, and of those behind: t is whether a member stands in front.
-use Rattle.std.proofs.Common.{◌≡◌, ℕ, Bool, true, false, ◌==◌, ◌||◌, List, [], ◌∷◌, ◌++◌, Some, refl, sym, ap, subst, ◌∙◌, append_assoc, if◌then◌else◌}
+use Rattle.std.proofs.Common.{◌≡◌, ℕ, Bool, true, false, ◌==◌, List, [], ◌++◌, Some, refl, sym, ap, ◌∙◌, append_assoc, if◌then◌else◌}
 use Rattle.buffa_bytes.specs.declared.wire_type.WireType.{WireType}
 use Rattle.buffa_wire.specs.Encoding.{records_encoding}
 use Rattle.buffa_wire.specs.Records.{Datum}

@@ -9,7 +9,7 @@
 //! [`Formed`](buffa_wire::Formed): the functions of `pairs_by.rt` ask what its bytes mean, so that is said here before they
 //! are called.
 
-ghost use Rattle.std.specs.Prelude.{◌≡◌, ◌≢◌, ◌+◌, IfErr, OnErr, [], refl};
+ghost use Rattle.std.specs.Prelude.{◌≡◌, ◌≢◌, ◌+◌, IfErr, IsOk, OnErr, [], refl};
 ghost use Rattle.std.specs.BTreeMap.{insert_entry};
 ghost use Rattle.buffa_bytes.specs.Gives.{FullOnlyIf};
 ghost use Rattle.buffa_bytes.specs.Number.{IsNumber};
@@ -208,10 +208,13 @@ fn size_nest<KC: MapCodec<Value = K>, K: OrderedKey, O: Holds>(
     kid: &MapNest<KC, K, O>,
     cache: &mut SizeCache,
 ) -> Result<u32, EncodeError>
-    ensures { let keys = keys_by KC.reading KC.writing KC.COST K.order KC.fits KC.normal in
+    ensures sized { let keys = keys_by KC.reading KC.writing KC.COST K.order KC.fits KC.normal in
         let v = map_nest_means K.meaning O.layout.meaning kid.now in
         IsSized (map_nest_encoding keys O.layout O.NUMBER O.COST v) (map_nest_slots keys O.layout O.NUMBER O.COST v) cache.old
         result cache.new }
+    ensures always { let keys = keys_by KC.reading KC.writing KC.COST K.order KC.fits KC.normal in
+        map_nest_slots keys O.layout O.NUMBER O.COST (map_nest_means K.meaning O.layout.meaning kid.now) ≡ [] →
+        IsOk result }
 {
     let front = size_front(&kid.own, cache)?;
     let below = kids_len::<KC, K, O>(O::NUMBER, &kid.inside, cache)?;
@@ -246,7 +249,10 @@ impl<KC: MapCodec<Value = K>, K: OrderedKey, O: Holds> MapNest<KC, K, O> {
             kids,
             cache,
             sink,
-            |kid: &MapNest<KC, K, O>, cache: &mut SizeCache, sink: &mut S| -> Result<(), EncodeError>
+            |kid: &MapNest<KC, K, O>, cache: &mut SizeCache, sink: &mut S| -> Result<
+                (),
+                EncodeError,
+            >
                 requires { let keys = keys_by KC.reading KC.writing KC.COST K.order KC.fits KC.normal in
                     IsNext (map_nest_slots keys O.layout O.NUMBER O.COST (map_nest_means K.meaning O.layout.meaning kid.now))
                     cache.old }
@@ -469,7 +475,14 @@ impl<KC: MapCodec<Value = K>, K: OrderedKey, O: Holds> Fields for MapNest<KC, K,
 }
 
 impl<KC: MapCodec<Value = K>, K: OrderedKey, O: Holds> Message for MapNest<KC, K, O> {
-    fn compute_size(&self, cache: &mut SizeCache) -> Result<u32, EncodeError> {
+    /// The size pass, which runs out of memory only where there is a message inside.
+    fn compute_size(&self, cache: &mut SizeCache) -> Result<u32, EncodeError>
+        ensures sized { let v = ⟦<MapNest<KC, K, O> as Blank>⟧.meaning self.now in
+            IsSized (⟦<MapNest<KC, K, O> as MessageSpec>⟧.encoding v) (⟦<MapNest<KC, K, O> as MessageSpec>⟧.slots v)
+            cache.old result cache.new }
+        ensures always { ⟦<MapNest<KC, K, O> as MessageSpec>⟧.slots (⟦<MapNest<KC, K, O> as Blank>⟧.meaning self.now) ≡ [] →
+            IsOk result }
+    {
         size_nest::<KC, K, O>(self, cache)
     }
 

@@ -25,7 +25,7 @@ ghost use Rattle.buffa_fields.specs.OrderedMaps.{KeysAscend};
 ghost use Rattle.buffa_fields.specs.Pinned.{TakeAlike, meaning_so};
 ghost use Rattle.buffa_fields.specs.Refusals.{RefusesPair, RefusesUnder};
 ghost use Rattle.buffa_fields.specs.Stands.{IsMemberRefused};
-ghost use Rattle.buffa_fields.specs.MapNests.{map_nest, map_nest_means, map_nest_of, no_kid, map_own_of, map_parts_of};
+ghost use Rattle.buffa_fields.specs.MapNests.{map_nest, map_nest_of, no_kid, map_own_of, map_parts_of};
 ghost use Rattle.buffa_fields.specs.MapPinned.{MapOrOwn, map_inside_of, with_entry, with_own};
 
 use crate::fields::Fields;
@@ -75,7 +75,11 @@ pub fn maps_of_themselves_are_these<KC: MapCodec<Value = K>, K: OrderedKey, O: H
 
 /// A message that holds a map of itself is made of its members, as `members_are_these` says it of any message: the map
 /// stands under its number, behind those of its own members that are in front of the number, and in front of the others.
-pub fn messages_that_hold_maps_of_themselves_are_these<KC: MapCodec<Value = K>, K: OrderedKey, O: Holds>()
+pub fn messages_that_hold_maps_of_themselves_are_these<
+    KC: MapCodec<Value = K>,
+    K: OrderedKey,
+    O: Holds,
+>()
     ensures meaning { (t : _) → ⟦<MapNest<KC, K, O> as Fields>⟧.layout.meaning t
         ≡ map_parts_of (⟦<MapNest<KC, K, O> as Blank>⟧.meaning t) }
     ensures blank { ⟦<MapNest<KC, K, O> as Fields>⟧.layout.blank
@@ -117,7 +121,8 @@ pub fn messages_that_hold_maps_of_themselves_are_these<KC: MapCodec<Value = K>, 
 /// A message that holds a map of itself means one value, a map nest. Its parts are what the map and the other members
 /// mean, and all that is said of the map nest is what the members say of its parts.
 pub fn parts_of_map_nests_are_these<KC: MapCodec<Value = K>, K: OrderedKey, O: Holds>()
-    ensures meaning { (t : _) → ⟦<MapNest<KC, K, O> as Blank>⟧.meaning t ≡ map_nest_means K.meaning O.layout.meaning t }
+    ensures meaning { (t : _) → map_parts_of (⟦<MapNest<KC, K, O> as Blank>⟧.meaning t)
+        ≡ (means K.meaning ⟦<MapNest<KC, K, O> as Blank>⟧.meaning (map_inside_of t), O.layout.meaning (map_own_of t)) }
     ensures blank { ⟦<MapNest<KC, K, O> as Blank>⟧.blank_is ≡ map_nest O.layout.blank no_kid }
     ensures merged { (d : ℕ) (v : _) (b : List ℕ) → ⟦<MapNest<KC, K, O> as MessageSpec>⟧.merged d v b
         ≡ option_map map_nest_of (merged_of ⟦<MapNest<KC, K, O> as Fields>⟧.layout.takes d (map_parts_of v) b) }
@@ -145,7 +150,11 @@ pub fn parts_of_map_nests_are_these<KC: MapCodec<Value = K>, K: OrderedKey, O: H
 /// one level down. What the entry says is put among those inside, in the order of the keys. It costs the units of a key
 /// and of an element, and what the message in it costs. Any other field is of the message's own members, and leaves
 /// those inside.
-pub fn fields_of_messages_that_hold_maps_of_themselves_are_these<KC: MapCodec<Value = K>, K: OrderedKey, O: Holds>()
+pub fn fields_of_messages_that_hold_maps_of_themselves_are_these<
+    KC: MapCodec<Value = K>,
+    K: OrderedKey,
+    O: Holds,
+>()
     ensures inside { (d : ℕ) (v : _) (t s e : List ℕ) → IsVarint s (length e) →
         IsTag t O.NUMBER WireType.LengthDelimited → ⟦<MapNest<KC, K, O> as MessageSpec>⟧.merged d v (t ++ (s ++ e))
         ≡ option_map (with_entry K.order v) (value_of (entry_of KC.reading

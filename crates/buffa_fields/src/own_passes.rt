@@ -1,10 +1,9 @@
 //! The size pass and the write pass over the other members of a message that holds a list or a map of itself.
 //!
-//! Each is in two parts: the members in front of the list or map, and those behind it. `size_nest` and `write_nest` in
-//! `held.rt`, which call them, are for a message inside a list: the outermost one is visited as each message from its fields
-//! is. Those in `held_map.rt` are for the outermost message too.
+//! Each is in two parts: the members in front of the list or map, and those behind it. They are called by `size_nest` and
+//! `write_nest`, which are in `held.rt` for a list and in `held_map.rt` for a map.
 
-ghost use Rattle.std.specs.Prelude.{◌≡◌, ◌++◌, [], List, ℕ, Ok};
+ghost use Rattle.std.specs.Prelude.{◌≡◌, ◌++◌, [], IsOk, List, ℕ, Ok};
 ghost use Rattle.buffa_wire.specs.Encoding.{records_encoding};
 ghost use Rattle.buffa_wire.specs.Passes.{IsNext, IsSized, IsWritten};
 
@@ -22,6 +21,7 @@ fn count_front<O: Holds>(own: &O, sizer: &mut Sizer<'_>)
     ensures sized { let v = O.layout.meaning own.now in
         IsSized (records_encoding (O.layout.front O.NUMBER v)) (O.layout.front_slots O.NUMBER v []) sizer.old.cache.now
         sizer.new.total sizer.new.cache.now }
+    ensures always { O.layout.front_slots O.NUMBER (O.layout.meaning own.now) [] ≡ [] → IsOk sizer.new.total }
 {
     own.front(sizer);
 }
@@ -29,11 +29,12 @@ fn count_front<O: Holds>(own: &O, sizer: &mut Sizer<'_>)
 /// The size pass over the members in front of the list or map.
 ///
 /// # Errors
-/// Those of `Message::compute_size`.
+/// [`EncodeError::OutOfMemory`] alone, and only where there is a message in one of these members.
 pub fn size_front<O: Holds>(own: &O, cache: &mut SizeCache) -> Result<u32, EncodeError>
-    ensures { let v = O.layout.meaning own.now in
+    ensures sized { let v = O.layout.meaning own.now in
         IsSized (records_encoding (O.layout.front O.NUMBER v)) (O.layout.front_slots O.NUMBER v []) cache.old result
         cache.new }
+    ensures always { O.layout.front_slots O.NUMBER (O.layout.meaning own.now) [] ≡ [] → IsOk result }
 {
     let mut sizer = Sizer::new(cache);
     count_front(own, &mut sizer);
@@ -47,6 +48,7 @@ fn count_behind<O: Holds>(own: &O, sizer: &mut Sizer<'_>)
     ensures sized { let v = O.layout.meaning own.now in
         IsSized (records_encoding (O.layout.behind O.NUMBER v ++ O.layout.kept v)) (O.layout.slots_behind O.NUMBER v)
         sizer.old.cache.now sizer.new.total sizer.new.cache.now }
+    ensures always { O.layout.slots_behind O.NUMBER (O.layout.meaning own.now) ≡ [] → IsOk sizer.new.total }
 {
     own.behind(sizer);
 }
@@ -54,11 +56,12 @@ fn count_behind<O: Holds>(own: &O, sizer: &mut Sizer<'_>)
 /// The size pass over the members behind the list or map, and the fields that are kept.
 ///
 /// # Errors
-/// Those of `Message::compute_size`.
+/// [`EncodeError::OutOfMemory`] alone, and only where there is a message in one of these members.
 pub fn size_behind<O: Holds>(own: &O, cache: &mut SizeCache) -> Result<u32, EncodeError>
-    ensures { let v = O.layout.meaning own.now in
+    ensures sized { let v = O.layout.meaning own.now in
         IsSized (records_encoding (O.layout.behind O.NUMBER v ++ O.layout.kept v)) (O.layout.slots_behind O.NUMBER v)
         cache.old result cache.new }
+    ensures always { O.layout.slots_behind O.NUMBER (O.layout.meaning own.now) ≡ [] → IsOk result }
 {
     let mut sizer = Sizer::new(cache);
     count_behind(own, &mut sizer);

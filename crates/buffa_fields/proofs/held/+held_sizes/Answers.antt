@@ -69,4 +69,4 @@ size_nest-returns g t c =
     let below = subst (λ ts. IsSized (records_encoding (messages_records encoding k (map means ts))) (messages_slots encoding slots (map means ts)) c1 (sum c.in_ok-below.below) c2) c.as_slice.ensures.value numbered in
     subst (λ z. IsSized (encoding (means z)) (slots (means z)) c.args.cache.now (sum c.saturating_add-2.result) c.size_behind.new.cache) c.kid.view_is
     (nest_sized l k each c.kid.inside.own c.kid.inside.inside.items c.args.cache.now c1 c2 c.size_behind.new.cache c.in_ok-front.front c.in_ok-below.below c.in_ok-behind.behind c.saturating_add.result c.saturating_add-2.result
-    c.in_ok-front.ensures below c.in_ok-behind.ensures c.saturating_add.ensures c.saturating_add-2.ensures)
+    c.in_ok-front.ensures.sized below c.in_ok-behind.ensures.sized c.saturating_add.ensures c.saturating_add-2.ensures)

@@ -1,8 +1,13 @@
 use Rattle.std.proofs.Common.{◌∙◌, sym}
 use Rattle.buffa_fields.proofs.HeldMapLawLemmas.{levels_by_parts, normal_by_parts, records_by_parts, slots_by_parts}
 use Rattle.buffa_fields.specs.HeldMap.{keys_by}
-use Rattle.buffa_fields.specs.HeldMapFacts.{codec_reads_back, map_nest_cost_is, map_nest_merged_is}
+use Rattle.buffa_fields.specs.HeldMapFacts.{codec_reads_back, map_nest_cost_is, map_nest_merged_is, map_parts_are}
 use Rattle.buffa_fields.proofs.held_map_laws.parts_of_map_nests_are_these.Goals as goal
+
+pub returns-clause-meaning : goal.returns-clause-meaning
+returns-clause-meaning g c =
+    let keys = keys_by g.KC.MapValueDecode.reading g.KC.MapCodec.writing g.KC.MapValueDecode.COST g.K.OrderedKey.order g.KC.MapCodec.fits g.KC.MapCodec.normal in
+    λ t. map_parts_are keys g.O.Holds.layout g.O.Holds.NUMBER g.O.Holds.COST g.K.Blank.meaning t
 
 pub returns-clause-merged : goal.returns-clause-merged
 returns-clause-merged g c =

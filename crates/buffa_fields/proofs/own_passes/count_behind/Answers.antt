@@ -16,4 +16,4 @@ returns g c =
     let new = c.behind.new.visitor in
     let seen = c.behind.ensures.seen z (subst (λ r. IsCounted name r first z) (sym c.requires) (counts_none 0 [] name first)) in
     let is = was_counted (l.behind k v ++ l.kept v) (l.slots_behind k v) 0 [] new.cache.ghost_name name first new.cache.now new.total (subst (λ y. IsCounted new.cache.ghost_name new.total new.cache.now y) (l.seen_behind_is k own z) seen) in
-    record { same_reference = is.0; sized = is.1 }
+    record { same_reference = is.0; sized = is.1; always = is.2 }
