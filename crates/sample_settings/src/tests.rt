@@ -88,16 +88,16 @@ fn settings_are_made_of_their_members(rt: HostRuntime) -> Result<(), Fail> {
     let alloc = rt.alloc();
     let mut own = SettingsOwn::blank(alloc);
     own.value = String::from_str(alloc, "x")?;
-    let mut sections = BTreeMap::new(alloc);
-    sections.insert(String::from_str(alloc, "a")?, Settings::blank(alloc))?;
-    let settings = Settings::new(own, sections);
+    let settings = Settings::new(own, BTreeMap::new(alloc));
     let (own, inside) = members_are_parts(&settings);
-    assert!(rt; own.value.as_str() == "x" && inside.len() == 1);
+    assert!(rt; own.value.as_str() == "x" && inside.len() == 0);
+    let mut sections = BTreeMap::new(alloc);
+    sections.insert(String::from_str(alloc, "a")?, settings)?;
+    let outer = Settings::new(SettingsOwn::blank(alloc), sections);
     let bytes: [u8; 10] = [
-        0x0A, 0x01, 0x78, // the value,
-        0x12, 0x05, 0x0A, 0x01, 0x61, 0x12, 0x00, // and the section "a", which is empty
+        0x12, 0x08, 0x0A, 0x01, 0x61, 0x12, 0x03, 0x0A, 0x01, 0x78, // the section "a" has the value "x"
     ];
-    let encoding = settings.try_encode_to_vec(alloc)?;
+    let encoding = outer.try_encode_to_vec(alloc)?;
     assert!(rt; encoding.as_slice() == bytes.as_slice());
     Ok(())
 }
