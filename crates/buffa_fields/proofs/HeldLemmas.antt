@@ -8,7 +8,7 @@ use Rattle.buffa_bytes.specs.declared.error.DecodeError.TheVariants.{OutOfMemory
 use Rattle.buffa_bytes.specs.declared.error.EncodeError.{EncodeError}
 use Rattle.buffa_bytes.specs.declared.wire_type.WireType.{WireType}
 use Rattle.buffa_wire.proofs.EncodingLemmas.{records_encoding-append}
-use Rattle.buffa_wire.proofs.PassLemmas.{appended_twice, next_front, next_past, written_short, written_then}
+use Rattle.buffa_wire.proofs.PassLemmas.{next_front, next_past, written_short, written_then}
 use Rattle.buffa_wire.specs.BudgetLeft.{BudgetLeft, PaysAtMost}
 use Rattle.buffa_wire.specs.Cache.{Cache}
 use Rattle.buffa_wire.specs.Encoding.{records_encoding}
@@ -16,11 +16,11 @@ use Rattle.buffa_wire.specs.Message.{IsInside, MergesBytes, MessageFault, cost_o
 use Rattle.buffa_wire.specs.Passes.{IsNext, IsSized, IsSmall, IsWritten}
 use Rattle.buffa_wire.specs.Pinned.{done, refusal}
 use Rattle.buffa_fields.specs.Layout.{Choice, Layout, Seen, Took, is_number, more}
-use Rattle.buffa_fields.specs.LayoutFacts.{failed, sized_more, small_both, sum}
+use Rattle.buffa_fields.specs.LayoutFacts.{sized_more, small_both, sum}
 use Rattle.buffa_fields.specs.PairFacts.{number_of_test}
 use Rattle.buffa_fields.specs.Held.{held_shape, nest_encoding, nest_layout, nest_slots}
 use Rattle.buffa_fields.specs.HeldFacts.{inside_records_are, inside_slots_are, listed_mean}
-use Rattle.buffa_fields.specs.Nests.{Nest, Nests, nest, nest_heights, nest_list, nest_list-nests_in, nest_height, nest_means, nests_in, nests_mean}
+use Rattle.buffa_fields.specs.Nests.{Nest, nest, nest_heights, nest_list, nest_list-nests_in, nest_height, nest_means, nests_in, nests_mean}
 use Rattle.buffa_fields.specs.RepeatedNested.{messages_records, messages_slots}
 
 -- ---- how deep

@@ -22,3 +22,6 @@ pub mod HeldFieldLemmas
 pub mod HeldMapLemmas
 pub mod HeldMapLawLemmas
 pub mod HeldMapFieldLemmas
+pub mod HeldOneLemmas
+pub mod HeldOneLawLemmas
+pub mod HeldOneFieldLemmas

@@ -1,11 +1,10 @@
-//! Messages that hold a list of themselves.
+//! Messages that hold a list of themselves. `held_map.rt` has those that hold a map of themselves, and `held_one.rt` those
+//! that may hold one message of themselves.
 //!
 //! The author writes an impl of [`Holds`] for the other members, and the message is a [`Nest`] of these. A message
 //! inside is sized, written and merged by `size_nest`, `write_nest` and `merge_nest`. Each of them comes to itself
 //! again, a level down, through the functions beside it. The list is a member of the member type [`Inside`]. So a
 //! [`Nest`] has [`Fields`], as each message from its fields.
-//!
-//! Messages that hold a map of themselves are in `held_map.rt`. Their other members have [`Holds`] too.
 
 ghost use Rattle.std.specs.Prelude.{◌≡◌, ◌≢◌, ◌<◌, ◌∷◌, ◌&&◌, [], ℕ, List, IfErr, IsOk, OnErr, OnOk, length, map, not, refl, true};
 ghost use Rattle.std.specs.List.{AllByRecursion};
@@ -43,9 +42,10 @@ use buffa_wire::{
 use std::alloc::Global;
 use std::marker::{Model, PhantomData};
 
-/// What a message has beside a list or a map of itself: its other members, and the number of the field that is the list
-/// or map. The members before the first whose number isn't less than this one are written in front of the list or map,
-/// the others behind it.
+/// What a message has beside the messages of its own type inside it: its other members, and the number of the field that
+/// holds the messages inside. This field is a list ([`Nest`]), a map ([`MapNest`](crate::held_map::MapNest)) or one message
+/// ([`Chain`](crate::held_one::Chain)). The members before the first whose number isn't less than this field's are written
+/// in front of it, the others behind it.
 ///
 /// ```ignore
 /// impl Holds for BranchOwn { .. }
@@ -72,7 +72,7 @@ pub trait Holds: Drop {
     /// An element has a cost.
     ghost positive: { 0 < COST };
 
-    /// The number of the field that is the list or map.
+    /// The number of the field that holds the messages inside.
     ///
     /// ```ignore
     /// const NUMBER: u32 = 3;
@@ -87,7 +87,7 @@ pub trait Holds: Drop {
     /// Each number is valid for a field, no two members have the same one, and what closed enums don't declare is kept.
     ghost sound: { layout.sound ≡ true };
 
-    /// The number of the list or map may be a field's, and is no other member's.
+    /// This number may be a field's, and is no other member's.
     ghost other: { (is_number NUMBER && not (layout.declares NUMBER)) ≡ true };
 
     /// The default of its own members.
@@ -98,7 +98,8 @@ pub trait Holds: Drop {
     fn blank(alloc: Global) -> Self
         ensures { layout.meaning result ≡ layout.blank };
 
-    /// Visits its own members in front of the list or map: those before the first whose number isn't less than its number.
+    /// Visits its own members in front of the messages inside: those before the first whose number isn't less than
+    /// [`NUMBER`](Holds::NUMBER).
     ///
     /// ```ignore
     /// visitor.visit::<Plain<Str>>(1, &self.name);
@@ -110,7 +111,7 @@ pub trait Holds: Drop {
             V.Waits rest visitor.new }
         ensures back { layout.OwesFront NUMBER };
 
-    /// Visits the others, behind the list or map, and then the fields that are kept.
+    /// Visits the others, behind the messages inside, and then the fields that are kept.
     ///
     /// ```ignore
     /// visitor.visit_kept(&self.rest);
@@ -121,7 +122,8 @@ pub trait Holds: Drop {
         ensures back { layout.OwesBehind NUMBER };
 
     /// Merges the field whose tag was read into its own member of that number, as
-    /// [`Fields::take`](crate::fields::Fields::take) does. It is passed no field of the list's or map's number.
+    /// [`Fields::take`](crate::fields::Fields::take) does. It is passed no field of the number
+    /// [`NUMBER`](Holds::NUMBER).
     ///
     /// # Errors
     /// That of the member. For a field that isn't declared, that of keeping it or of passing over it.
@@ -285,7 +287,7 @@ fn write_nest<O: Holds, S: EncodeSink>(
 
 // Takes a length and so many bytes off the front, and returns these bytes.
 #[tactic(auto, unfolding(buffa_bytes::specs::Front::taken))]
-fn cut<'a>(buf: &mut &'a [u8]) -> Result<&'a [u8], DecodeError>
+pub(crate) fn cut<'a>(buf: &mut &'a [u8]) -> Result<&'a [u8], DecodeError>
     ensures { Gives (λ b. (b.now, buf.new.now)) result (delimited_at buf.old.now) }
 {
     let len = decode_varint(buf)?;

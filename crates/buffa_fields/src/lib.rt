@@ -8,6 +8,8 @@ pub mod held;
 pub mod held_laws;
 pub mod held_map;
 pub mod held_map_laws;
+pub mod held_one;
+pub mod held_one_laws;
 pub mod keeping;
 pub mod kept;
 pub mod kept_list;

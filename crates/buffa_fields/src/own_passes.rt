@@ -1,7 +1,7 @@
-//! The size pass and the write pass over the other members of a message that holds a list or a map of itself.
+//! The size pass and the write pass over the other members of a message that holds messages of its own type.
 //!
-//! Each is in two parts: the members in front of the list or map, and those behind it. They are called by `size_nest` and
-//! `write_nest`, which are in `held.rt` for a list and in `held_map.rt` for a map.
+//! Each is in two parts: the members in front of the messages inside, and those behind them. They are called by the passes
+//! of a list (`held.rt`), of a map (`held_map.rt`) and of one message (`held_one.rt`).
 
 ghost use Rattle.std.specs.Prelude.{◌≡◌, ◌++◌, [], IsOk, List, ℕ, Ok};
 ghost use Rattle.buffa_wire.specs.Encoding.{records_encoding};
@@ -14,7 +14,7 @@ use buffa_wire::{EncodeError, EncodeSink, SizeCache};
 
 // ---- sizes
 
-// Sizes the members in front of the list or map.
+// Sizes the members in front of the messages inside.
 fn count_front<O: Holds>(own: &O, sizer: &mut Sizer<'_>)
     requires { sizer.old.total ≡ Ok 0 }
     ensures same_reference { sizer.new.cache.ghost_name ≡ sizer.old.cache.ghost_name }
@@ -26,7 +26,7 @@ fn count_front<O: Holds>(own: &O, sizer: &mut Sizer<'_>)
     own.front(sizer);
 }
 
-/// The size pass over the members in front of the list or map.
+/// The size pass over the members in front of the messages inside.
 ///
 /// # Errors
 /// [`EncodeError::OutOfMemory`] alone, and only where there is a message in one of these members.
@@ -41,7 +41,7 @@ pub fn size_front<O: Holds>(own: &O, cache: &mut SizeCache) -> Result<u32, Encod
     sizer.finish()
 }
 
-// Sizes the members behind the list or map, and the fields that are kept.
+// Sizes the members behind the messages inside, and the fields that are kept.
 fn count_behind<O: Holds>(own: &O, sizer: &mut Sizer<'_>)
     requires { sizer.old.total ≡ Ok 0 }
     ensures same_reference { sizer.new.cache.ghost_name ≡ sizer.old.cache.ghost_name }
@@ -53,7 +53,7 @@ fn count_behind<O: Holds>(own: &O, sizer: &mut Sizer<'_>)
     own.behind(sizer);
 }
 
-/// The size pass over the members behind the list or map, and the fields that are kept.
+/// The size pass over the members behind the messages inside, and the fields that are kept.
 ///
 /// # Errors
 /// [`EncodeError::OutOfMemory`] alone, and only where there is a message in one of these members.
@@ -70,7 +70,7 @@ pub fn size_behind<O: Holds>(own: &O, cache: &mut SizeCache) -> Result<u32, Enco
 
 // ---- encodings
 
-// Writes the members in front of the list or map.
+// Writes the members in front of the messages inside.
 fn put_front<O: Holds, S: EncodeSink>(own: &O, writer: &mut Writer<'_, S>)
     requires fresh { writer.old.result ≡ Ok tt }
     requires next { (rest : List ℕ)
@@ -85,7 +85,7 @@ fn put_front<O: Holds, S: EncodeSink>(own: &O, writer: &mut Writer<'_, S>)
     own.front(writer);
 }
 
-/// The write pass over the members in front of the list or map.
+/// The write pass over the members in front of the messages inside.
 ///
 /// # Errors
 /// Those of `Message::write_to`.
@@ -104,7 +104,7 @@ pub fn write_front<O: Holds, S: EncodeSink>(
     writer.finish()
 }
 
-// Writes the members behind the list or map, and the fields that are kept.
+// Writes the members behind the messages inside, and the fields that are kept.
 fn put_behind<O: Holds, S: EncodeSink>(own: &O, writer: &mut Writer<'_, S>)
     requires fresh { writer.old.result ≡ Ok tt }
     requires next { IsNext (O.layout.slots_behind O.NUMBER (O.layout.meaning own.now)) writer.old.cache.now }
@@ -118,7 +118,7 @@ fn put_behind<O: Holds, S: EncodeSink>(own: &O, writer: &mut Writer<'_, S>)
     own.behind(writer);
 }
 
-/// The write pass over the members behind the list or map, and the fields that are kept.
+/// The write pass over the members behind the messages inside, and the fields that are kept.
 ///
 /// # Errors
 /// Those of `Message::write_to`.

@@ -1,4 +1,4 @@
-use Rattle.std.proofs.Common.{◌++◌, [], subst, sym}
+use Rattle.std.proofs.Common.{◌++◌, subst, sym}
 use Rattle.buffa_fields.specs.Layout.{Follow, IsPut}
 use Rattle.buffa_fields.specs.LayoutFacts.{follows, puts_none, start, was_put}
 use Rattle.buffa_fields.proofs.own_passes.put_behind.Goals as goal
