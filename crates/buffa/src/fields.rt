@@ -1,8 +1,9 @@
 //! Messages by their fields: a struct of one's own is a [`Message`](crate::Message), and its author writes no proof.
 //!
 //! A struct is one by [`Fields`], [`Blank`](crate::Blank), [`Listing`] and [`Formed`]; what these cite is handed on in
-//! `specs/` under the name `Members`. One that holds a list or a map of itself is a [`Nest`] or a [`MapNest`] of a struct
-//! that has [`Holds`]. [`crate::laws::fields`] and [`crate::laws::held_maps`] say what each member type is.
+//! `specs/` under the name `Members`. One that holds a list of itself, a map of itself or one message of itself is a [`Nest`],
+//! a [`MapNest`] or a [`Chain`] of a struct that has [`Holds`]. [`crate::laws::fields`], [`crate::laws::held_maps`] and
+//! [`crate::laws::held_ones`] say what each member type is.
 //!
 //! ```ignore
 //! impl Fields for Stock { .. }
@@ -12,6 +13,7 @@ pub use buffa_fields::fields::Fields;
 pub use buffa_fields::group::Group;
 pub use buffa_fields::held::{self, Holds, Inside, Nest};
 pub use buffa_fields::held_map::{self, MapInside, MapNest};
+pub use buffa_fields::held_one::{self, Chain, ChainInside};
 pub use buffa_fields::keeping::Keeping;
 pub use buffa_fields::kept::{self, KeptFields};
 pub use buffa_fields::map_member::MapOf;

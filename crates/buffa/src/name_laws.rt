@@ -14,6 +14,7 @@ ghost use Rattle.buffa_ext.specs.Messages.{group_of};
 ghost use Rattle.std.specs.BTreeMap.{insert_entry};
 ghost use Rattle.buffa_fields.specs.Groups.{group_datum, group_records};
 ghost use Rattle.buffa_fields.specs.Held.{nest_encoding};
+ghost use Rattle.buffa_fields.specs.HeldOne.{chain_encoding};
 ghost use Rattle.buffa_fields.specs.Layout.{both_take};
 ghost use Rattle.buffa_fields.specs.Lists.{element_records, packed_records};
 ghost use Rattle.buffa_fields.specs.MapFields.{pair_taken};
@@ -175,5 +176,10 @@ pub fn member_types_are_these<
         (insert_entry K.order) }
     ensures map_nest { ⟦<fields::MapNest<KC, K, O> as Fields>⟧.layout.takes
         ≡ both_take O.NUMBER ⟦<fields::MapInside<KC, K, O> as Member>⟧.shape.takes O.layout.takes }
+    ensures chain_inside { (n : ℕ) (v : _) → ⟦<fields::ChainInside<O> as Member>⟧.shape.records n v
+        ≡ message_records (chain_encoding O.layout O.NUMBER) n v }
+    ensures chain { (v : _) → ⟦<fields::Chain<O> as Fields>⟧.layout.records v ≡ O.layout.front O.NUMBER v.1
+        ++ (message_records (chain_encoding O.layout O.NUMBER) O.NUMBER v.0
+        ++ (O.layout.behind O.NUMBER v.1 ++ O.layout.kept v.1)) }
     ensures listed { ⟦<fields::Listed as MessageForm<M>>⟧.records ≡ M.layout.records }
 {}
