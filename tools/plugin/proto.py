@@ -350,7 +350,7 @@ class Message:
         return made
 
     def member_of_itself(self):
-        """The member that is a list, a map or one message of this type, where no other member has one, and what it makes of this."""
+        """The member in which the message holds itself, if it is one list, one map or one message, and what it makes of the message."""
         found = [k for k in self.listed if self.name.full in k.inside]
         holder = HOLDERS.get(found[0].member_type.split("<")[0]) if len(found) == 1 else None
         return (found[0], holder) if holder else (None, None)
