@@ -24,6 +24,8 @@ SCALARS = {
 # Parameters that are of a field.
 FIELD_KEYS = ("delimited", "encoded", "implicit", "optional", "ordered", "shared")
 MESSAGES = (Field.TYPE_MESSAGE, Field.TYPE_GROUP)
+# What a message that holds itself is, by the member type of the field in which it does.
+HOLDERS = {"RepeatedNested": "Nest", "MapOfNested": "MapNest", "OrderedMapOfNested": "MapNest", "Nested": "Chain"}
 REALS = {Field.TYPE_FLOAT: "float", Field.TYPE_DOUBLE: "double"}
 
 
@@ -314,7 +316,7 @@ class Member:
 
 
 class Message:
-    """A message: its members in the order of their numbers, and apart from them the one list or map of itself that it may hold."""
+    """A message: its members in the order of their numbers, and apart from them the one in which it may hold itself."""
 
     def __init__(self, world, name):
         self.world, self.name, self.rust, self.it = world, name, world.types[name.full], name.it
@@ -323,7 +325,7 @@ class Message:
         fields = [Name(name.file, name.path + (2, at), f"{name.full}.{f.name}", f) for at, f in enumerate(self.it.field)]
         self.left = sorted((f for f in fields if f.full in world.left), key=lambda f: f.it.number)
         self.listed = sorted(self.read([f for f in fields if f.full not in world.left]), key=lambda k: k.number)
-        self.held = self.member_of_itself()
+        self.held, self.holder = self.member_of_itself()
         self.members = [k for k in self.listed if k is not self.held]
         self.own = self.rust + "Own" if self.held else self.rust
         self.is_keeping = name.full not in world.dropping
@@ -348,10 +350,10 @@ class Message:
         return made
 
     def member_of_itself(self):
-        """The member that is a list or a map of messages of this type, where no other member has one."""
+        """The member in which the message holds itself, if it is one list, one map or one message, and what it makes of the message."""
         found = [k for k in self.listed if self.name.full in k.inside]
-        kinds = ("RepeatedNested<", "MapOfNested<", "OrderedMapOfNested<")
-        return found[0] if len(found) == 1 and found[0].member_type.startswith(kinds) else None
+        holder = HOLDERS.get(found[0].member_type.split("<")[0]) if len(found) == 1 else None
+        return (found[0], holder) if holder else (None, None)
 
     def see_own(self):
         """Refuses a name that another type has, and what would drop more than fields that aren't declared."""
@@ -370,7 +372,7 @@ class Message:
     def see_opaque(self):
         """Refuses a meaning with a name of its own where no such type can be written."""
         if not self.held:
-            self.name.refuse("it holds no list and no map of itself, and opaque= is for messages that do")
+            self.name.refuse("opaque= is for messages that hold one list, one map or one message of themselves")
         if self.world.over == "buffa":
             self.name.refuse("opaque= cites what the facade doesn't hand on: say over=buffa_fields")
         name = f"{self.rust}Meaning"
@@ -382,15 +384,16 @@ class Message:
         if self.name.full in self.world.costs:
             return self.world.costs[self.name.full]
         parts = [k.cost or messages[k.inside[-1]].cost(messages) + 8 for k in self.members]
-        return sum(parts) + 24 * self.is_keeping + 24 * bool(self.held) or 8
+        inside = 8 if self.holder == "Chain" else 24 * bool(self.held)
+        return sum(parts) + 24 * self.is_keeping + inside or 8
 
 
 def see_no_cycle(messages):
-    """A message that holds itself is no list of members, but for one list or one map of itself."""
+    """A message that holds itself is no list of members, but for one list, one map or one message of itself."""
     def walk(full, above):
         if full in above:
             path = " in ".join(reversed(above[above.index(full) :] + [full]))
-            why = f"it holds itself ({path}), other than as one list or one map, and is written by hand, as Tree is"
+            why = f"it holds itself ({path}), other than as one list, one map or one message, and is written by hand, as Tree is"
             messages[full].name.refuse(f"{why}, or a field is left out or encoded")
         for member in messages[full].members:
             for inner in member.inside:

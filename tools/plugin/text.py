@@ -100,10 +100,10 @@ def remarks(message):
 
 
 def held_docs(message):
-    """What is said of a message that holds a list or a map of itself, beside what is said of each message."""
+    """What is said of a message that holds itself, beside what is said of each message."""
     name = message.held.it.name
-    by = ", by their keys" if message.held.key else ""
-    made = ["", f"Its `{name}` are `inside`{by}. Its other members are in `own`."]
+    what = "is `inside`" if message.holder == "Chain" else "are `inside`, by their keys" if message.held.key else "are `inside`"
+    made = ["", f"Its `{name}` {what}. Its other members are in `own`."]
     made += ["Its extensions are those of `own`."] * bool(message.it.extension_range)
     return docs(made + ([""] + message.held.field.said if message.held.field.said else []))
 
@@ -139,7 +139,7 @@ def visits(name, members, is_keeping):
 
 
 def visits_of(message):
-    """Of a message that holds itself, the members in front of the list or map, and those behind it."""
+    """Of a message that holds itself, the members in front of the one in which it does, and those behind it."""
     if not message.held:
         return visits("visit", message.members, message.is_keeping)
     number = message.held.number
@@ -203,7 +203,7 @@ impl ExtensionSet for {message.own} {{
 def outer(message):
     """What the type of a message that holds itself is made of."""
     key = message.held.key
-    return {"Holds", "MapNest", key} | ({"String"} if key == "Str" else set()) if key else {"Holds", "Nest"}
+    return {"Holds", message.holder} | ({key} if key else set()) | ({"String"} if key == "Str" else set())
 
 
 def head_of_message(world, message):
@@ -238,9 +238,8 @@ def struct(message):
     """The struct of the members, and of a message that holds itself the type around it."""
     made = message_docs(message)
     if message.held:
-        key = message.held.key
-        of = f"MapNest<{key}, {message.held.key_type}, {message.own}>" if key else f"Nest<{message.own}>"
-        made += held_docs(message) + [f"pub type {message.rust} = {of};", ""]
+        key = f"{message.held.key}, {message.held.key_type}, " if message.held.key else ""
+        made += held_docs(message) + [f"pub type {message.rust} = {message.holder}<{key}{message.own}>;", ""]
         made += docs([f"What `{message.rust}` has beside `{message.held.it.name}`."])
     parts = []
     for member in message.members:

@@ -1,4 +1,4 @@
-//! buffa.sample.Failure, written by hand for failure.proto.
+//! buffa.sample.Failure, made of failure.proto by protoc-gen-buffa.
 
 ghost use Rattle.std.proofs.Common.{lit<, refl};
 ghost use Rattle.buffa_fields.specs.Members.{field, keep};
