@@ -216,3 +216,4 @@ declare("palette", 256, [
 ], True)
 declare("branch", 96, [(1, "plain", "string"), (2, "repeated", "int32"), (3, "repeated", "branch")], True)
 declare("settings", 96, [(1, "plain", "string"), (2, "ordered", ("string", "settings")), (3, "repeated", "int32")], True)
+declare("failure", 80, [(1, "plain", "string"), (2, "optional", "failure"), (3, "repeated", "int32")], True)

@@ -20,7 +20,7 @@
 using google::protobuf::FieldDescriptor;
 using google::protobuf::Message;
 
-static const std::set<std::string> KEEPING = {"Assorted", "Beam", "Branch", "Explicit", "Frame", "Inventory", "Joined",
+static const std::set<std::string> KEEPING = {"Assorted", "Beam", "Branch", "Explicit", "Failure", "Frame", "Inventory", "Joined",
                                               "Ledger", "Load", "Palette", "Patch", "Settings", "Swatch", "Wagon"};
 static const std::set<std::string> IN_ORDER = {"axles", "balances", "berths", "ordered", "pages", "seals", "sections"};
 

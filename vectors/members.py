@@ -53,7 +53,7 @@ KNOWN = Types(
 IN_ORDER = {"Ledger", "Wagon", "Palette", "Settings"}
 
 # Types that hold themselves. They are drawn last, in this order, so that what is drawn of the others stays.
-LAST = ["Branch", "Settings"]
+LAST = ["Branch", "Settings", "Failure"]
 
 
 def wire(kind):

@@ -1,10 +1,12 @@
 // Rows on messages from their fields, of which it is judged what stands after a refusal too.
 
 mod branches;
+mod failures;
 mod settings;
 mod words;
 
 use crate::members::branches::Branches;
+use crate::members::failures::Failures;
 use crate::members::settings::Sections;
 use conformance_calls::messages::parted;
 use conformance_rows::calls::StorageName;
@@ -12,6 +14,7 @@ use conformance_rows::case::Case;
 use conformance_rows::fault::Fault;
 use conformance_rows::mark::Mark;
 use conformance_rows::outcome::Outcome;
+use sample_failure::failure::Failure;
 use sample_held::branch::Branch;
 use sample_inventory::assorted::Assorted;
 use sample_inventory::depot::Depot;
@@ -44,6 +47,7 @@ pub fn on_members(
         "assorted" => parted::<Members, Assorted>(alloc, case, storage, mark, bytes),
         "branch" => parted::<Branches<()>, Branch>(alloc, case, storage, mark, bytes),
         "depot" => parted::<Members, Depot>(alloc, case, storage, mark, bytes),
+        "failure" => parted::<Failures<()>, Failure>(alloc, case, storage, mark, bytes),
         "inventory" => parted::<Members, Inventory>(alloc, case, storage, mark, bytes),
         "ledger" => parted::<Members, Ledger>(alloc, case, storage, mark, bytes),
         "load" => parted::<Members, Load>(alloc, case, storage, mark, bytes),
