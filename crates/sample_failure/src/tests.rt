@@ -3,6 +3,7 @@
 use crate::failure::Failure;
 use buffa_fields::held_one_laws::members_are_parts;
 use buffa_wire::{Blank, Budget, DecodeContext, DecodeError, Message, SizeCache};
+use std::string::String;
 use std::test::Fail;
 
 #[test]
@@ -88,5 +89,17 @@ fn a_cause_stands_where_a_second_is_refused(rt: HostRuntime) -> Result<(), Fail>
     let answer = failure.merge_from_slice(alloc, &bytes);
     assert!(rt; answer == Err(DecodeError::UnexpectedEof));
     assert!(rt; failure.inside.is_some());
+    Ok(())
+}
+
+#[test]
+fn a_cause_is_set(rt: HostRuntime) -> Result<(), Fail> {
+    let alloc = rt.alloc();
+    let mut failure: Failure = Blank::blank(alloc);
+    let mut cause: Failure = Blank::blank(alloc);
+    cause.own.reason = String::from_str(alloc, "x")?;
+    failure.inside = Some(Box::new(alloc, cause)?);
+    let encoding = failure.try_encode_to_vec(alloc)?;
+    assert!(rt; encoding.as_slice() == [0x12, 0x03, 0x0A, 0x01, 0x78].as_slice());
     Ok(())
 }

@@ -4,6 +4,7 @@ use crate::branch::Branch;
 use crate::post::Post;
 use buffa_fields::laws::members_are_parts;
 use buffa_wire::{Blank, Budget, DecodeContext, DecodeError, Message, RECURSION_LIMIT};
+use std::string::String;
 use std::test::Fail;
 
 #[test]
@@ -77,5 +78,17 @@ fn answers_stand_between_author_and_text(rt: HostRuntime) -> Result<(), Fail> {
     ];
     let encoding = post.try_encode_to_vec(alloc)?;
     assert!(rt; encoding.as_slice() == again.as_slice());
+    Ok(())
+}
+
+#[test]
+fn a_branch_is_added(rt: HostRuntime) -> Result<(), Fail> {
+    let alloc = rt.alloc();
+    let mut branch: Branch = Blank::blank(alloc);
+    let mut twig: Branch = Blank::blank(alloc);
+    twig.own.name = String::from_str(alloc, "x")?;
+    branch.inside.push(twig)?;
+    let encoding = branch.try_encode_to_vec(alloc)?;
+    assert!(rt; encoding.as_slice() == [0x1A, 0x03, 0x0A, 0x01, 0x78].as_slice());
     Ok(())
 }
