@@ -1,10 +1,10 @@
 // Settings as words; no settings are read of a word.
 
+use crate::members::lists::{numbers_word, with_word};
 use buffa_fields::held_map::MapNest;
 use buffa_map::map_codec::Str;
 use conformance_calls::messages::{Parted, Parts};
 use conformance_rows::fault::Fault;
-use conformance_rows::outcome::in_words;
 use conformance_rows::words::{Worded, copied, joined, records_word, text_word};
 use sample_settings::settings::{Settings, SettingsOwn};
 use std::alloc::Global;
@@ -21,26 +21,10 @@ trait Around {
     fn around(&self, alloc: Global, inside: &str) -> Result<String, Fault>;
 }
 
-// Words, and one more behind a comma.
-fn with_word(alloc: Global, words: &str, word: &str) -> Result<String, Fault> {
-    let comma = if words.is_empty() { "" } else { "," };
-    joined(alloc, words, comma, word)
-}
-
 // Words with a comma between them.
 fn with_commas(alloc: Global, all: &[String]) -> Result<String, Fault> {
     let mut words = String::new(alloc);
     for word in all {
-        words = with_word(alloc, words.as_str(), word.as_str())?;
-    }
-    Ok(words)
-}
-
-// Ports, with a comma between them.
-fn ports_word(alloc: Global, ports: &[i32]) -> Result<String, Fault> {
-    let mut words = String::new(alloc);
-    for port in ports {
-        let word = in_words(alloc, port)?;
         words = with_word(alloc, words.as_str(), word.as_str())?;
     }
     Ok(words)
@@ -76,7 +60,7 @@ fn nest_word<KC, K: Ord + Worded<()>, O: Around>(
 impl Around for SettingsOwn {
     fn around(&self, alloc: Global, inside: &str) -> Result<String, Fault> {
         let value = text_word(alloc, self.value.as_str())?;
-        let ports = ports_word(alloc, self.ports.as_slice())?;
+        let ports = numbers_word(alloc, self.ports.as_slice())?;
         let rest = records_word(alloc, &self.rest)?;
         Ok(format!(in alloc; "({value}|{{{inside}}}|[{ports}]|{rest})")?)
     }
