@@ -20,8 +20,9 @@
 using google::protobuf::FieldDescriptor;
 using google::protobuf::Message;
 
-static const std::set<std::string> KEEPING = {"Assorted", "Beam", "Branch", "Explicit", "Failure", "Frame", "Inventory", "Joined",
-                                              "Ledger", "Load", "Palette", "Patch", "Settings", "Swatch", "Wagon"};
+static const std::set<std::string> KEEPING = {"Assorted", "Beam", "Branch", "Explicit", "Failure", "Frame",
+                                              "Inventory", "Joined", "Ledger", "Load", "Palette", "Patch",
+                                              "Settings", "Swatch", "Wagon"};
 static const std::set<std::string> IN_ORDER = {"axles", "balances", "berths", "ordered", "pages", "seals", "sections"};
 
 static std::string bytes_of(const std::string& hex) {

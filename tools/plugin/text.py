@@ -277,8 +277,20 @@ def some_value(means):
     }.get(means, ("0", set()))
 
 
-def opaque_meaning(message):
+def codes_inside(message, messages):
+    """By their modules, the codes of what messages that hold themselves mean, of those in a message at any depth."""
+    found, seen, to_see = set(), set(), list(message.members)
+    while to_see:
+        for full in set(to_see.pop().inside) & set(messages) - seen:
+            seen.add(full)
+            found.add(messages[full].holder)
+            to_see += messages[full].members
+    return [(holder + "s", f"coded_{snake(holder)}") for holder in sorted(found - {None})]
+
+
+def opaque_meaning(message, messages):
     """What the members of a message that holds itself mean, as a struct that has none of their types in it."""
+    inside = codes_inside(message, messages)
     values = [some_value(k.means) for k in message.members] + [("[]", {"[]"}) if message.is_keeping else ("tt", set())]
     words = set().union(*[w for _, w in values]) | ({"List", "ℕ"} if message.is_keeping else set())
     name = f"{message.rust}Meaning"
@@ -287,11 +299,12 @@ def opaque_meaning(message):
     made += ["    ghost use Rattle.std.specs.Coded.{codes};"]
     made += [f"    ghost use Rattle.std.specs.Prelude.{{{', '.join(sorted(words))}}};"] * bool(words)
     made += ["    ghost use Rattle.buffa_wire.specs.Code.{coded_datum};"]
-    made += ["    ghost use Rattle.buffa_wire.specs.Records.{Datum};"] * message.is_keeping + [""]
+    made += ["    ghost use Rattle.buffa_wire.specs.Records.{Datum};"] * message.is_keeping
+    made += [f"    ghost use Rattle.buffa_fields.specs.{module}.{{{code}}};" for module, code in inside] + [""]
     made += ["    ghost Value = { let Means : (P X : Type 0) → (P → X) → Type 0 = λ P X f. X in"]
     made += [f"        Means _ _ ⟦<{k.member_type} as Member>⟧.shape.meaning × (" for k in message.members]
     made += [f"        {'List (ℕ × Datum)' if message.is_keeping else 'Unit {0}'}{')' * len(message.members)} }};", ""]
-    made += ["    ghost coded = { Prim.hlevel (codes, coded_datum) };", ""]
+    made += [f"    ghost coded = {{ Prim.hlevel ({', '.join(['codes', 'coded_datum'] + [code for _, code in inside])}) }};", ""]
     return made + pairs("    ghost view = { λ m. ", [v for v, _ in values]) + ["}", ""]
 
 
@@ -319,7 +332,7 @@ def head_of_impl(message, messages):
 def held_form(message, messages):
     """What a message that holds itself has of its own, in one impl."""
     name, number = message.own, message.held.number
-    made = opaque_meaning(message) if message.is_opaque else []
+    made = opaque_meaning(message, messages) if message.is_opaque else []
     made += [f"impl Holds for {name} {{"] + head_of_impl(message, messages)
     made += [f"    const NUMBER: u32 = {number};", "", f"    ghost NUMBER = {{ {number} }};", ""]
     made += layout(message.members, message.is_keeping) + [""]

@@ -2,6 +2,7 @@
 
 mod branches;
 mod failures;
+mod lists;
 mod settings;
 mod words;
 

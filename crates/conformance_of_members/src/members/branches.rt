@@ -1,9 +1,9 @@
 // Branches as words; no branch is read of a word.
 
+use crate::members::lists::{numbers_word, with_word};
 use conformance_calls::messages::{Parted, Parts};
 use conformance_rows::fault::Fault;
-use conformance_rows::outcome::in_words;
-use conformance_rows::words::{Worded, copied, joined, records_word, text_word};
+use conformance_rows::words::{Worded, copied, records_word, text_word};
 use sample_held::branch::Branch;
 use std::alloc::Global;
 use std::marker::PhantomData;
@@ -12,22 +12,6 @@ use std::marker::PhantomData;
 /// "the import `denote.Param` was announced, and nothing of it was used".
 pub struct Branches<T> {
     of: PhantomData<T>,
-}
-
-// Words, and one more behind a comma.
-fn with_word(alloc: Global, words: &str, word: &str) -> Result<String, Fault> {
-    let comma = if words.is_empty() { "" } else { "," };
-    joined(alloc, words, comma, word)
-}
-
-// Leaves, with a comma between them.
-fn leaves_word(alloc: Global, leaves: &[i32]) -> Result<String, Fault> {
-    let mut words = String::new(alloc);
-    for leaf in leaves {
-        let word = in_words(alloc, leaf)?;
-        words = with_word(alloc, words.as_str(), word.as_str())?;
-    }
-    Ok(words)
 }
 
 // The word of a branch on which branches stand at most so many levels high.
@@ -41,7 +25,7 @@ fn branch_word(alloc: Global, branch: &Branch, levels: u32) -> Result<String, Fa
         branches = with_word(alloc, branches.as_str(), word.as_str())?;
     }
     let name = text_word(alloc, branch.own.name.as_str())?;
-    let leaves = leaves_word(alloc, branch.own.leaves.as_slice())?;
+    let leaves = numbers_word(alloc, branch.own.leaves.as_slice())?;
     let rest = records_word(alloc, &branch.own.rest)?;
     Ok(format!(in alloc; "({name}|[{leaves}]|[{branches}]|{rest})")?)
 }

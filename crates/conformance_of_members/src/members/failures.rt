@@ -1,9 +1,9 @@
 // Failures as words; no failure is read of a word.
 
+use crate::members::lists::numbers_word;
 use conformance_calls::messages::{Parted, Parts};
 use conformance_rows::fault::Fault;
-use conformance_rows::outcome::in_words;
-use conformance_rows::words::{Worded, copied, joined, records_word, text_word};
+use conformance_rows::words::{Worded, copied, records_word, text_word};
 use sample_failure::failure::Failure;
 use std::alloc::Global;
 use std::marker::PhantomData;
@@ -11,22 +11,6 @@ use std::marker::PhantomData;
 /// The words of failures. It has a parameter for the reason that `Branches` has one.
 pub struct Failures<T> {
     of: PhantomData<T>,
-}
-
-// Words, and one more behind a comma.
-fn with_word(alloc: Global, words: &str, word: &str) -> Result<String, Fault> {
-    let comma = if words.is_empty() { "" } else { "," };
-    joined(alloc, words, comma, word)
-}
-
-// Lines, with a comma between them.
-fn lines_word(alloc: Global, lines: &[i32]) -> Result<String, Fault> {
-    let mut words = String::new(alloc);
-    for line in lines {
-        let word = in_words(alloc, line)?;
-        words = with_word(alloc, words.as_str(), word.as_str())?;
-    }
-    Ok(words)
 }
 
 // The word of a failure behind which at most so many causes stand, each the one of that before it.
@@ -39,7 +23,7 @@ fn failure_word(alloc: Global, failure: &Failure, levels: u32) -> Result<String,
         None => copied(alloc, "none")?,
     };
     let reason = text_word(alloc, failure.own.reason.as_str())?;
-    let lines = lines_word(alloc, failure.own.lines.as_slice())?;
+    let lines = numbers_word(alloc, failure.own.lines.as_slice())?;
     let rest = records_word(alloc, &failure.own.rest)?;
     Ok(format!(in alloc; "({reason}|{cause}|[{lines}]|{rest})")?)
 }

@@ -1,11 +1,12 @@
 // Settings as words; no settings are read of a word.
 
-use buffa_map::map_codec::MapWalk;
+use crate::members::lists::{numbers_word, with_word};
+use buffa_fields::held_map::MapNest;
+use buffa_map::map_codec::Str;
 use conformance_calls::messages::{Parted, Parts};
 use conformance_rows::fault::Fault;
-use conformance_rows::outcome::in_words;
 use conformance_rows::words::{Worded, copied, joined, records_word, text_word};
-use sample_settings::settings::Settings;
+use sample_settings::settings::{Settings, SettingsOwn};
 use std::alloc::Global;
 use std::marker::PhantomData;
 
@@ -14,58 +15,60 @@ pub struct Sections<T> {
     of: PhantomData<T>,
 }
 
-// Words, and one more behind a comma.
-fn with_word(alloc: Global, words: &str, word: &str) -> Result<String, Fault> {
-    let comma = if words.is_empty() { "" } else { "," };
-    joined(alloc, words, comma, word)
+// What a message has beside the map of itself.
+trait Around {
+    // The word of the message in which the messages of the map have these words.
+    fn around(&self, alloc: Global, inside: &str) -> Result<String, Fault>;
 }
 
-// Ports, with a comma between them.
-fn ports_word(alloc: Global, ports: &[i32]) -> Result<String, Fault> {
+// Words with a comma between them.
+fn with_commas(alloc: Global, all: &[String]) -> Result<String, Fault> {
     let mut words = String::new(alloc);
-    for port in ports {
-        let word = in_words(alloc, port)?;
+    for word in all {
         words = with_word(alloc, words.as_str(), word.as_str())?;
     }
     Ok(words)
 }
 
-// Sections, with a comma between them.
-fn sections_word(alloc: Global, sections: &[String]) -> Result<String, Fault> {
-    let mut words = String::new(alloc);
-    for word in sections {
-        words = with_word(alloc, words.as_str(), word.as_str())?;
-    }
-    Ok(words)
+// The word of a message behind that of its key.
+fn pair_word<K: Worded<()>>(alloc: Global, key: &K, word: &str) -> Result<String, Fault> {
+    let key = key.word(alloc)?;
+    joined(alloc, key.as_str(), "=", word)
 }
 
-// A section behind its key.
-fn section_word(alloc: Global, key: &str, section: &str) -> Result<String, Fault> {
-    let key = text_word(alloc, key)?;
-    joined(alloc, key.as_str(), "=", section)
-}
-
-// The word of settings in which sections stand at most so many levels deep; sections are in the order of their words.
-fn settings_word(alloc: Global, settings: &Settings, levels: u32) -> Result<String, Fault> {
+// The word of a message in which maps of itself stand at most so many levels deep; pairs are in the order of their words.
+// It is of any keys and messages, since the checker can't state for `Settings` that a recursion ends: "as printed, the two
+// types first differ where one has `Rattle.std.specs.declared.cmp.Ord.Ghosts`".
+fn nest_word<KC, K: Ord + Worded<()>, O: Around>(
+    alloc: Global,
+    nest: &MapNest<KC, K, O>,
+    levels: u32,
+) -> Result<String, Fault> {
     if levels == 0 {
         return copied(alloc, "..");
     }
-    let mut sections = Vec::new(alloc);
-    for (key, section) in settings.inside.storage_iter() {
-        let word = settings_word(alloc, section, levels - 1)?;
-        sections.push(section_word(alloc, key.as_str(), word.as_str())?)?;
+    let mut inside = Vec::new(alloc);
+    for (key, one) in nest.inside.iter() {
+        let word = nest_word::<KC, K, O>(alloc, one, levels - 1)?;
+        inside.push(pair_word::<K>(alloc, key, word.as_str())?)?;
     }
-    sections.sort()?;
-    let sections = sections_word(alloc, sections.as_slice())?;
-    let value = text_word(alloc, settings.own.value.as_str())?;
-    let ports = ports_word(alloc, settings.own.ports.as_slice())?;
-    let rest = records_word(alloc, &settings.own.rest)?;
-    Ok(format!(in alloc; "({value}|{{{sections}}}|[{ports}]|{rest})")?)
+    inside.sort()?;
+    let inside = with_commas(alloc, inside.as_slice())?;
+    nest.own.around(alloc, inside.as_str())
+}
+
+impl Around for SettingsOwn {
+    fn around(&self, alloc: Global, inside: &str) -> Result<String, Fault> {
+        let value = text_word(alloc, self.value.as_str())?;
+        let ports = numbers_word(alloc, self.ports.as_slice())?;
+        let rest = records_word(alloc, &self.rest)?;
+        Ok(format!(in alloc; "({value}|{{{inside}}}|[{ports}]|{rest})")?)
+    }
 }
 
 impl<T> Worded<Sections<T>> for Settings {
     fn word(&self, alloc: Global) -> Result<String, Fault> {
-        settings_word(alloc, self, 102)
+        nest_word::<Str, String, SettingsOwn>(alloc, self, 102)
     }
 
     fn of_word(_alloc: Global, _word: &str) -> Result<Settings, Fault> {
