@@ -77,7 +77,7 @@ use crate::repeated::Repeated;
 use crate::repeated_group::RepeatedGroup;
 use crate::repeated_nested::RepeatedNested;
 use buffa_map::map_codec::{ClosedEnum, MapCodec};
-use buffa_wire::{Enumeration, MapKey, Message, MessageForm, WireType};
+use buffa_wire::{Enumeration, MapKey, Message, MessageForm, MessageMeaning, WireType};
 use std::hash::Hash;
 
 /// A member with implicit presence: a payload of its wire type is its value; the default has no record.
@@ -541,16 +541,16 @@ pub fn keeping_members_are_these<M: Fields, N: Keeping, O: Member>()
 pub fn messages_are_these<M: Listing>()
     ensures meaning { (m : M) → M.meaning m ≡ M.layout.meaning m }
     ensures blank { M.blank_is ≡ M.layout.blank }
-    ensures merged { ⟦<Listed as MessageForm<M>>⟧.merged ≡ merged_of M.layout.takes }
-    ensures cost { ⟦<Listed as MessageForm<M>>⟧.cost ≡ cost_of M.layout.need }
-    ensures records { ⟦<Listed as MessageForm<M>>⟧.records ≡ M.layout.records }
-    ensures slots { ⟦<Listed as MessageForm<M>>⟧.slots ≡ M.layout.slots }
-    ensures levels { ⟦<Listed as MessageForm<M>>⟧.levels ≡ M.layout.levels }
-    ensures units { ⟦<Listed as MessageForm<M>>⟧.COST ≡ M.COST }
-    ensures takes { (⟦<Listed as MessageForm<M>>⟧.takes ≡ M.layout.takes) × (⟦<Listed as MessageForm<M>>⟧.need ≡ M.layout.need) }
-    ensures normal { (v : _) → ⟦<Listed as MessageForm<M>>⟧.normal v ↔ (M.layout.Owes × M.layout.normal v) }
+    ensures merged { ⟦<Listed as MessageMeaning<M>>⟧.merged ≡ merged_of M.layout.takes }
+    ensures cost { ⟦<Listed as MessageMeaning<M>>⟧.cost ≡ cost_of M.layout.need }
+    ensures records { ⟦<Listed as MessageMeaning<M>>⟧.records ≡ M.layout.records }
+    ensures slots { ⟦<Listed as MessageMeaning<M>>⟧.slots ≡ M.layout.slots }
+    ensures levels { ⟦<Listed as MessageMeaning<M>>⟧.levels ≡ M.layout.levels }
+    ensures units { ⟦<Listed as MessageMeaning<M>>⟧.COST ≡ M.COST }
+    ensures takes { (⟦<Listed as MessageMeaning<M>>⟧.takes ≡ M.layout.takes) × (⟦<Listed as MessageMeaning<M>>⟧.need ≡ M.layout.need) }
+    ensures normal { (v : _) → ⟦<Listed as MessageMeaning<M>>⟧.normal v ↔ (M.layout.Owes × M.layout.normal v) }
     ensures sure { (v : _) → ⟦<Listed as MessageForm<M>>⟧.sure v ↔ (M.layout.slots v ≡ []) }
     ensures taken { TakeAlike ⟦<Listed as MessageForm<M>>⟧.Taken M.layout.Taken }
     ensures refused { (d : ℕ) (v : _) (n : ℕ) (w : _) (bs : List ℕ) (l : _) (e : _) (u : _) →
-        ⟦<Listed as MessageForm<M>>⟧.Refused d v n w bs l e u ↔ IsMemberRefused M.layout d v n w bs l e u }
+        ⟦<Listed as MessageMeaning<M>>⟧.Refused d v n w bs l e u ↔ IsMemberRefused M.layout d v n w bs l e u }
 {}

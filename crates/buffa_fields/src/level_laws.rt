@@ -26,15 +26,15 @@ use crate::repeated::Repeated;
 use crate::repeated_group::RepeatedGroup;
 use crate::repeated_nested::RepeatedNested;
 use buffa_map::map_codec::MapCodec;
-use buffa_wire::{MapKey, Message, MessageForm};
+use buffa_wire::{MapKey, Message, MessageMeaning};
 use std::hash::Hash;
 
 /// The `levels` of a message from its fields are exact, where those of the messages in it are: at a lesser depth, the
 /// encoding of a normal value whose records fit is refused, whatever it is merged into.
 pub fn levels_of_fields_are_exact<M: Listing>()
-    ensures { M.layout.Exact → AreExactLevels ⟦<Listed as MessageForm<M>>⟧.merged
-        (λ v. records_encoding (⟦<Listed as MessageForm<M>>⟧.records v)) ⟦<Listed as MessageForm<M>>⟧.records
-        ⟦<Listed as MessageForm<M>>⟧.normal ⟦<Listed as MessageForm<M>>⟧.levels }
+    ensures { M.layout.Exact → AreExactLevels ⟦<Listed as MessageMeaning<M>>⟧.merged
+        (λ v. records_encoding (⟦<Listed as MessageMeaning<M>>⟧.records v)) ⟦<Listed as MessageMeaning<M>>⟧.records
+        ⟦<Listed as MessageMeaning<M>>⟧.normal ⟦<Listed as MessageMeaning<M>>⟧.levels }
 {}
 
 /// The levels of a list of members are exact where those of each member are; `keep` and `skip` have no messages.

@@ -16,8 +16,8 @@ use crate::sizer::Sizer;
 use crate::visitor::Visitor;
 use crate::writer::Writer;
 use buffa_wire::{
-    Blank, DecodeContext, DecodeError, EncodeError, EncodeSink, MessageForm, SizeCache, Tag,
-    UnknownFields, WireType,
+    Blank, DecodeContext, DecodeError, EncodeError, EncodeSink, MessageForm, MessageMeaning,
+    SizeCache, Tag, UnknownFields, WireType,
 };
 use std::alloc::Global;
 
@@ -120,7 +120,7 @@ pub trait Listing: Fields + Blank<Meaning = <Self as Fields>::Meaning> {
 /// ```
 pub struct Listed;
 
-impl<M: Listing> MessageForm<M> for Listed {
+impl<M: Listing> MessageMeaning<M> for Listed {
     const COST: usize = <M as Fields>::COST;
 
     ghost COST = { M.COST };
@@ -141,11 +141,7 @@ impl<M: Listing> MessageForm<M> for Listed {
 
     ghost normal = { λ v. M.layout.Owes × M.layout.normal v };
 
-    ghost sure = { λ v. M.layout.slots v ≡ [] };
-
     ghost Refused = { IsMemberRefused M.layout };
-
-    ghost Taken = { M.layout.Taken };
 
     ghost positive = { M.positive };
 
@@ -154,6 +150,16 @@ impl<M: Listing> MessageForm<M> for Listed {
     ghost merged_is = { λ d v b. refl };
 
     ghost cost_is = { λ d b. refl };
+
+    ghost merged_encoding = { λ d v fits normal low.
+        ap (λ b. merged_of M.layout.takes d b (records_encoding (M.layout.records v))) M.Listing.starts
+        ∙ reads_back M.layout normal.0 M.sound d v fits normal.1 low };
+}
+
+impl<M: Listing> MessageForm<M> for Listed {
+    ghost sure = { λ v. M.layout.slots v ≡ [] };
+
+    ghost Taken = { M.layout.Taken };
 
     /// The size pass, which runs out of memory only where there is a message inside.
     #[inline(always)]
@@ -192,10 +198,6 @@ impl<M: Listing> MessageForm<M> for Listed {
     {
         merge(message, alloc, tag, buf, ctx)
     }
-
-    ghost merged_encoding = { λ d v fits normal low.
-        ap (λ b. merged_of M.layout.takes d b (records_encoding (M.layout.records v))) M.Listing.starts
-        ∙ reads_back M.layout normal.0 M.sound d v fits normal.1 low };
 }
 
 // Visits members, and does nothing.

@@ -17,12 +17,13 @@ use crate::message::{Message, MessageSpec};
 use buffa_bytes::{Blank, DecodeError, EncodeError, EncodeSink, Tag, WireType};
 use std::alloc::Global;
 
-/// How the messages of a type are read and written: all that [`MessageSpec`] and [`Message`] ask.
+/// What the messages of a type are: all that [`MessageSpec`] asks. It has no function, so that those of a [`MessageForm`] may
+/// rest on it.
 ///
 /// ```ignore
-/// impl<M: Listing> MessageForm<M> for Listed { .. }
+/// impl<M: Listing> MessageMeaning<M> for Listed { .. }
 /// ```
-pub trait MessageForm<M: Blank> {
+pub trait MessageMeaning<M: Blank> {
     /// The units of element memory that a message costs where it is the value of a map or an element of a list.
     const COST: usize;
 
@@ -55,12 +56,6 @@ pub trait MessageForm<M: Blank> {
     /// The values that their encoding reads back to.
     ghost normal: { M.Meaning → Type 0 };
 
-    /// The values whose size pass never runs out of memory.
-    ghost sure: { M.Meaning → Type 0 };
-
-    /// What is said, besides, of the field that was merged, also where it is refused.
-    ghost Taken: { FieldTaken M };
-
     /// An element has a cost.
     ghost positive: { 0 < COST };
 
@@ -72,6 +67,23 @@ pub trait MessageForm<M: Blank> {
 
     /// They cost what their fields do.
     ghost cost_is: { (d : ℕ) (b : List ℕ) → cost d b ≡ cost_of need d b };
+
+    /// The encoding reads back, where no length is too large to be read.
+    ghost merged_encoding: { (d : ℕ) (v : M.Meaning) → Fits (records_of (records v)) → normal v → levels v ≤ d →
+        merged d M.blank_is (records_encoding (records v)) ≡ Some v };
+}
+
+/// How the messages of a type are read and written: all that [`Message`] asks.
+///
+/// ```ignore
+/// impl<M: Listing> MessageForm<M> for Listed { .. }
+/// ```
+pub trait MessageForm<M: Blank>: MessageMeaning<M> {
+    /// The values whose size pass never runs out of memory.
+    ghost sure: { M.Meaning → Type 0 };
+
+    /// What is said, besides, of the field that was merged, also where it is refused.
+    ghost Taken: { FieldTaken M };
 
     /// The size pass.
     ///
@@ -113,10 +125,6 @@ pub trait MessageForm<M: Blank> {
         ensures full { FullOnlyIf result (tag.wire_type ≢ WireType.EndGroup) }
         ensures taken { TakesMessageField Taken ctx.entry message.old tag.number tag.wire_type buf.old.now result message.new
             (budget_left ctx.exit) buf.new.now };
-
-    /// The encoding reads back, where no length is too large to be read.
-    ghost merged_encoding: { (d : ℕ) (v : M.Meaning) → Fits (records_of (records v)) → normal v → levels v ≤ d →
-        merged d M.blank_is (records_encoding (records v)) ≡ Some v };
 }
 
 /// A type whose messages are read and written as another type says. It is a [`Message`] by that alone.
@@ -137,9 +145,9 @@ pub trait Formed: Blank {
 
 impl<M: Formed> MessageSpec for M
 where
-    M::Form: MessageForm<M>,
+    M::Form: MessageMeaning<M>,
 {
-    const COST: usize = <M::Form as MessageForm<M>>::COST;
+    const COST: usize = <M::Form as MessageMeaning<M>>::COST;
 
     ghost COST = { M.Form.COST };
 
@@ -165,7 +173,7 @@ where
 
     ghost encoding_records = { λ v. refl };
 
-    ghost merged_encoding = { M.Form.MessageForm.merged_encoding };
+    ghost merged_encoding = { M.Form.MessageMeaning.merged_encoding };
 
     ghost positive = { M.Form.positive };
 

@@ -30,7 +30,7 @@ pub use cache::SizeCache;
 pub use context::{DecodeContext, RECURSION_LIMIT};
 pub use enumeration::{EnumValue, Enumeration};
 pub use form::Form;
-pub use formed::{Formed, MessageForm};
+pub use formed::{Formed, MessageForm, MessageMeaning};
 pub use message::{Message, MessageSpec, capped};
 pub use scalar::Scalar;
 pub use unknown_fields::read::decode_unknown_field;
