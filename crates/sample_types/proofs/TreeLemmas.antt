@@ -1,5 +1,5 @@
 -- A tree as a message that holds a map of itself: its keys, its one member beside the children, and what it is read and written as.
-use Rattle.std.proofs.Common.{◌≡◌, ℕ, zero, suc, max, ◌==◌, ℤ, FitsSigned, Bool, true, false, List, [], ◌∷◌, ◌++◌, length, Option, None, Some, refl, sym, ap, ◌∙◌, arith, append-nil, if◌then◌else◌}
+use Rattle.std.proofs.Common.{◌≡◌, ℕ, zero, suc, max, ◌==◌, ℤ, FitsSigned, Bool, true, false, List, [], ◌∷◌, ◌++◌, length, Option, None, Some, Ok, refl, sym, ap, ◌∙◌, arith, append-nil, if◌then◌else◌}
 use Rattle.std.proofs.lemmas.Bool.{eqb-true}
 use Rattle.std.specs.Cmp.{int_cmp_total}
 use Rattle.std.specs.Int.{cast_unsigned, w32, w64}
@@ -80,12 +80,12 @@ one_field : (i j : Bool) → (i ≡ true → j ≡ true → ⊥) → (a : Option
     (if i then option_map (λ new. grown new cs) a else if j then option_map (λ es. grown l (kids_in es)) b else Some (grown l cs))
     ≡ option_map map_nest_of (let o : Option Parts = if j then option_map (λ x. (x, (l, tt))) b
     else option_map (λ (y : Label). (kid_list cs, y)) (if i then option_map (λ x. (x, tt)) a else Some (l, tt)) in o)
-one_field true true no a b l cs = absurd (no refl refl)
-one_field true false no None b l cs = refl
-one_field true false no (Some x) b l cs = ap (λ z. Some (grown x z)) (sym (kids_in-kid_list cs))
-one_field false true no a None l cs = refl
-one_field false true no a (Some es) l cs = refl
-one_field false false no a b l cs = ap (λ z. Some (grown l z)) (sym (kids_in-kid_list cs))
+one_field true true apart a b l cs = absurd (apart refl refl)
+one_field true false apart None b l cs = refl
+one_field true false apart (Some x) b l cs = ap (λ z. Some (grown x z)) (sym (kids_in-kid_list cs))
+one_field false true apart a None l cs = refl
+one_field false true apart a (Some es) l cs = refl
+one_field false false apart a b l cs = ap (λ z. Some (grown l z)) (sym (kids_in-kid_list cs))
 
 takes_are : (m : ChildMeaning) (d : ℕ) (t : Grown) (n : ℕ) (w : WireType) (p : List ℕ) →
     tree_field_takes m d t n w p ≡ option_map map_nest_of (map_nest_takes tree_keys tree_own 2 32 m d (map_parts_of t) n w p)

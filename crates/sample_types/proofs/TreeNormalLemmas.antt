@@ -135,7 +135,7 @@ module _ (m : ChildMeaning) (stays : KeepsNormal m) (d : ℕ) where
   unfolding entry_taken
   child_said n w p es new h = by (same_wire LengthDelimited w) h
     where
-      abbrev whole : Option (List ℕ × MapEntry ℤ Grown)
+      whole : Option (List ℕ × MapEntry ℤ Grown)
       whole = whole_entry_in int32_reading (child_reading m (λ _. nothing)) d (delimited_at p)
 
       by : (b : Bool) → (if b then option_map (λ x. stepped (insert_entry int_cmp) es x.1) whole else None) ≡ Some new → (s : MapEntry ℤ Grown) × Said s × (stepped (insert_entry int_cmp) es s ≡ new)

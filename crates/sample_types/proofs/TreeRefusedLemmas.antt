@@ -60,7 +60,7 @@ module _ (d : ℕ) (n : ℕ) (w : WireType) (bs : List ℕ) (left : BudgetLeft) 
 
   pub tree_refused : (old new : Grown) → message_refused tree_keys tree_own 2 32 (λ (k : ℤ). k) d old n w bs left e new → IsTreeRefused d old n w bs left e new
   unfolding Took Passed
-  tree_refused old new (apart, a, b, after, rest, was, is, taken) = choose (n == 2) taken
+  tree_refused old new (apart, (a, b, after, rest, was, is, taken)) = choose (n == 2) taken
       (λ hit both.
       let two = eqb-true n 2 hit in
       let took = both.0 in
@@ -68,7 +68,7 @@ module _ (d : ℕ) (n : ℕ) (w : WireType) (bs : List ℕ) (left : BudgetLeft) 
         stays = same_tree a b old new was is (λ i. (sym (took.3 e refl).0 i, ap tree_own.meaning both.1 i));
         label = λ one. absurd (omega (arith, one, two));
         child = λ _. child_fault two (kid_list (kids_of a)) (kid_list (kids_of b)) after rest took;
-        other = λ _ no. absurd (no two);
+        other = λ _ none. absurd (none two);
       })
       (λ miss both.
       let no_two = eqb-false n 2 miss in
@@ -80,7 +80,7 @@ module _ (d : ℕ) (n : ℕ) (w : WireType) (bs : List ℕ) (left : BudgetLeft) 
         stays = same_tree a b old new was is (λ i. (kids_meant tree_keys tree_own 2 32 (λ (k : ℤ). k) (both.0 i), (read.1 i, tt)));
         label = λ _. subst (λ z. int32_field z (λ l. l) w bs ≡ Err e) one read.0;
         child = λ two. absurd (no_two two);
-        other = λ no. absurd (no one);
+        other = λ none. absurd (none one);
       })
       (λ others again.
       let no_one = eqb-false n 1 others in

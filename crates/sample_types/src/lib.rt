@@ -10,7 +10,6 @@ pub mod census;
 pub mod count;
 pub mod flat;
 pub mod hues;
-mod int32_field;
 pub mod keep;
 pub mod laws;
 pub mod passed_on;
