@@ -8,5 +8,6 @@ mod TreeLemmas
 mod TreeBackLemmas
 mod TreeNormalLemmas
 mod TreeRefusedLemmas
+mod TreeToldLemmas
 mod PinLemmas
 mod PassPinLemmas

@@ -26,13 +26,13 @@ use Rattle.sample_types.specs.TreeMeaning.{tree_cost, tree_merged}
 use Rattle.sample_types.specs.TreeRefused.{HasChildFault, IsTreeRefused, tree_reading}
 use Rattle.buffa_map.specs.Message.{message_reading}
 
-abbrev nest_reading : Reading Grown
+abbrev pub nest_reading : Reading Grown
 nest_reading = all_reading tree_keys tree_own 2 32
 
-reading_is : nest_reading ≡ tree_reading
+pub reading_is : nest_reading ≡ tree_reading
 reading_is = λ i. message_reading blank_tree (λ d t b. sym (tree_merged_is d t b) i) (λ d b. sym (tree_cost_is d b) i)
 
-abbrev tree_layout : Layout Grown (List (ℤ × Grown) × Label)
+abbrev pub tree_layout : Layout Grown (List (ℤ × Grown) × Label)
 tree_layout = map_nest_layout tree_keys tree_own 2 32 (λ (k : ℤ). k)
 
 -- trees that mean the same parts are one

@@ -81,7 +81,7 @@ pub fn messages_are_these()
     ensures count_refused { (d v n : ℕ) (w : _) (bs : List ℕ) (l : _) (e : _) (u : ℕ) →
         ⟦<CountMsg as MessageSpec>⟧.Refused d v n w bs l e u ↔ IsCountRefused d v n w bs l e u }
     ensures tree_refused { (d : ℕ) (v : _) (n : ℕ) (w : _) (bs : List ℕ) (l : _) (e : _) (u : _) →
-        ⟦<Tree as MessageSpec>⟧.Refused d v n w bs l e u → IsTreeRefused d v n w bs l e u }
+        ⟦<Tree as MessageSpec>⟧.Refused d v n w bs l e u ↔ IsTreeRefused d v n w bs l e u }
 {}
 
 /// What the values of the samples of numbers mean: their fields. Nothing is left out.
