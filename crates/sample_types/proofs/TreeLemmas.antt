@@ -5,6 +5,7 @@ use Rattle.std.specs.Cmp.{int_cmp_total}
 use Rattle.std.specs.Int.{cast_unsigned, w32, w64}
 use Rattle.std.specs.Option.{option_map}
 use Rattle.std.specs.Ordering.{int_cmp}
+use Rattle.std.specs.Prelude.{◌≢◌, IsOk, OnErr, Result, Err}
 use Rattle.buffa_bytes.proofs.IntLemmas.{int32_below, int32_means}
 use Rattle.buffa_bytes.proofs.VarintLemmas.{IsVarint-varint_encoding}
 use Rattle.buffa_bytes.specs.Content.{Content, HasContent, number}
@@ -149,3 +150,8 @@ mutual
   children_levels_are : (cs : Children) → children_levels cs ≡ kid_levels tree_keys tree_own 2 32 cs
   children_levels_are no_kid = refl
   children_levels_are (kid k t cs) = λ i. max (suc (tree_levels_are t i)) (children_levels_are cs i)
+
+-- ---- the size pass fails only where there are slots
+pub only_with_slots : {T E : Type 0} (r : Result T E) (ss : List ℕ) → (ss ≡ [] → IsOk r) → OnErr r (ss ≢ [])
+only_with_slots (Ok x) ss always = tt
+only_with_slots (Err e) ss always = λ none. let bad = always none in cc

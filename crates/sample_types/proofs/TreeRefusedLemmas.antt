@@ -1,6 +1,7 @@
 -- What is told of a refused field of a message that holds a map of itself, said of trees.
 use Rattle.std.proofs.Common.{◌≡◌, ◌≢◌, inl, inr, ℕ, ◌==◌, ℤ, List, Result, Ok, Err, refl, sym, ap, subst, ◌∙◌, arith}
 use Rattle.std.proofs.lemmas.Bool.{eqb-false, eqb-true}
+use Rattle.std.specs.Prelude.{IfErr, Option}
 use Rattle.buffa_bytes.proofs.SequenceLemmas.{err_same}
 use Rattle.buffa_bytes.proofs.WireLemmas.{checked_same}
 use Rattle.buffa_bytes.specs.Front.{check_wire, skip_at}
@@ -9,11 +10,12 @@ use Rattle.buffa_bytes.specs.declared.error.DecodeError.TheVariants.{OutOfMemory
 use Rattle.buffa_bytes.specs.declared.wire_type.WireType.{WireType}
 use Rattle.buffa_bytes.specs.declared.wire_type.WireType.TheVariants.{LengthDelimited}
 use Rattle.buffa_wire.specs.BudgetLeft.{BudgetLeft}
+use Rattle.buffa_wire.specs.Message.{Stands}
 use Rattle.buffa_wire.specs.Pinned.{refusal}
 use Rattle.buffa_map.specs.Codec.{Reading}
 use Rattle.buffa_map.specs.Entry.{EntryFault}
 use Rattle.buffa_map.specs.Scalars.{int32_reading}
-use Rattle.buffa_fields.specs.HeldMap.{all_reading, held_map_shape, kids_meant, map_nest_layout, message_refused}
+use Rattle.buffa_fields.specs.HeldMap.{all_reading, held_map_shape, kids_meant, map_nest_cost, map_nest_layout, map_nest_merged, message_refused}
 use Rattle.buffa_fields.specs.Layout.{Layout, Passed, Took}
 use Rattle.buffa_fields.specs.LayoutFacts.{choose}
 use Rattle.buffa_fields.specs.MapFields.{PairTakesMemory}
@@ -90,3 +92,34 @@ module _ (d : ℕ) (n : ℕ) (w : WireType) (bs : List ℕ) (left : BudgetLeft) 
         child = λ two. absurd (no_two two);
         other = λ _ _. again.1.0;
       }))
+
+-- ---- what stands where merging was refused
+if_err : {T : Type 0} {P Q : DecodeError → Type 0} (r : Result T DecodeError) → ((e : DecodeError) → P e → Q e) → IfErr r P → IfErr r Q
+if_err (Ok x) turn h = tt
+if_err (Err e) turn h = turn e h
+
+abbrev NestStands : ℕ → Grown → List ℕ → BudgetLeft → DecodeError → Grown → Type 0
+NestStands = Stands (map_nest_merged tree_keys tree_own 2 32) (map_nest_cost tree_keys tree_own 2 32) (message_refused tree_keys tree_own 2 32 (λ (k : ℤ). k))
+
+module _ (d : ℕ) (old : Grown) (bytes : List ℕ) (before : BudgetLeft) (new : Grown) where
+  stands_as : (e : DecodeError) → NestStands d old bytes before e new → Stands tree_merged tree_cost IsTreeRefused d old bytes before e new
+  stands_as e h =
+      let s = subst (λ (z : (ℕ → Grown → List ℕ → Option Grown) × (ℕ → List ℕ → BudgetLeft)). Stands z.0 z.1 (message_refused tree_keys tree_own 2 32 (λ (k : ℤ). k)) d old bytes before e new)
+      (λ i. ((λ d t b. sym (tree_merged_is d t b) i), λ d b. sym (tree_cost_is d b) i)) h in
+      record {
+        front = s.front;
+        rest = s.rest;
+        split = s.split;
+        some = s.some;
+        mid = s.mid;
+        means = s.means;
+        left = s.left;
+        pays = s.pays;
+        next = elim s.next [
+          | inl none ↦ inl none
+          | inr (n, w, more, tag, refused, full, why) ↦ inr (n, w, more, tag, tree_refused d n w more s.left e s.mid new refused, full, why)
+        ];
+      }
+
+  pub tree_stands : {T : Type 0} (r : Result T DecodeError) → IfErr r (λ e. NestStands d old bytes before e new) → IfErr r (λ e. Stands tree_merged tree_cost IsTreeRefused d old bytes before e new)
+  tree_stands r h = if_err r stands_as h

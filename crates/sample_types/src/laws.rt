@@ -119,17 +119,18 @@ pub fn fields_are_read_alone()
 {}
 
 /// How deep a value nests is exactly so deep: at no lesser depth are its encoding's bytes merged, so that it isn't read back
-/// there. Of the others no value nests. Nothing is left out.
+/// there. Those of a tree aren't merged into any other tree either. Of the others no value nests. Nothing is left out.
 pub fn levels_are_exact()
-    ensures tree { (d : ℕ) (t : Grown) → Fits (records_of (⟦<Tree as MessageSpec>⟧.records t)) →
+    ensures tree { (d : ℕ) (old t : Grown) → Fits (records_of (⟦<Tree as MessageSpec>⟧.records t)) →
         ⟦<Tree as MessageSpec>⟧.normal t → d < ⟦<Tree as MessageSpec>⟧.levels t →
-        ⟦<Tree as MessageSpec>⟧.merged d ⟦<Tree as Blank>⟧.blank_is (⟦<Tree as MessageSpec>⟧.encoding t) ≡ None }
+        ⟦<Tree as MessageSpec>⟧.merged d old (⟦<Tree as MessageSpec>⟧.encoding t) ≡ None }
     ensures keep { (d : ℕ) (rs : List (ℕ × Datum)) → Fits (records_of (⟦<BudgetMsg as MessageSpec>⟧.records rs)) →
         d < ⟦<BudgetMsg as MessageSpec>⟧.levels rs →
         ⟦<BudgetMsg as MessageSpec>⟧.merged d [] (⟦<BudgetMsg as MessageSpec>⟧.encoding rs) ≡ None }
 {}
 
-/// Which values of each sample are read back from their encoding, and how deep it nests. Nothing is left out.
+/// Which values of each sample are read back from their encoding, and how deep it nests. Of a tree this is said where no
+/// record of its own is too long to be read; nothing else is left out.
 pub fn messages_are_read_back(flat: &FlatMsg, two: &TestMsg)
     ensures flat { (v : _) → ⟦<FlatMsg as MessageSpec>⟧.normal v ↔ FitsSigned w32 v.0 }
     ensures two { (v : _) → ⟦<TestMsg as MessageSpec>⟧.normal v ↔ (FitsSigned w32 v.0 × FitsSigned w32 v.1.0) }
