@@ -98,7 +98,7 @@ if_err : {T : Type 0} {P Q : DecodeError → Type 0} (r : Result T DecodeError) 
 if_err (Ok x) turn h = tt
 if_err (Err e) turn h = turn e h
 
-abbrev NestStands : ℕ → Grown → List ℕ → BudgetLeft → DecodeError → Grown → Type 0
+abbrev pub NestStands : ℕ → Grown → List ℕ → BudgetLeft → DecodeError → Grown → Type 0
 NestStands = Stands (map_nest_merged tree_keys tree_own 2 32) (map_nest_cost tree_keys tree_own 2 32) (message_refused tree_keys tree_own 2 32 (λ (k : ℤ). k))
 
 module _ (d : ℕ) (old : Grown) (bytes : List ℕ) (before : BudgetLeft) (new : Grown) where
