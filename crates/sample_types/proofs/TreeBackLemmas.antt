@@ -1,5 +1,5 @@
 -- Which trees are normal messages that hold a map of themselves: those that are normal trees, where their records fit.
-use Rattle.std.proofs.Common.{◌≡◌, ℕ, suc, zero, ℤ, pos, negsuc, FitsSigned, ◌^◌, ◌<◌, List, ◌∷◌, ◌++◌, length, length-append, ap, refl, subst, arith}
+use Rattle.std.proofs.Common.{ℕ, suc, zero, ℤ, pos, negsuc, FitsSigned, ◌^◌, ◌<◌, List, ◌++◌, length, length-append, ap, refl, subst, arith}
 use Rattle.std.specs.Int.{cast_unsigned, w32, w64}
 use Rattle.buffa_bytes.proofs.IntLemmas.{int32_below}
 use Rattle.buffa_bytes.specs.Values.{delimited_encoding, tag_encoding}

@@ -8,7 +8,7 @@ use Rattle.std.specs.Ordering.{int_cmp}
 use Rattle.std.specs.Prelude.{◌≢◌, IsOk, OnErr, Result, Err}
 use Rattle.buffa_bytes.proofs.IntLemmas.{int32_below, int32_means}
 use Rattle.buffa_bytes.proofs.VarintLemmas.{IsVarint-varint_encoding}
-use Rattle.buffa_bytes.specs.Content.{Content, HasContent, number}
+use Rattle.buffa_bytes.specs.Content.{number}
 use Rattle.buffa_bytes.specs.Front.{check_wire, skip_at}
 use Rattle.buffa_bytes.specs.Gives.{◌>>=◌}
 use Rattle.buffa_bytes.specs.declared.wire_type.WireType.{WireType}
@@ -17,7 +17,7 @@ use Rattle.buffa_wire.specs.BudgetLeft.{BudgetLeft, nothing}
 use Rattle.buffa_wire.specs.ByField.{cost_by, merged_by}
 use Rattle.buffa_wire.specs.Encoding.{records_encoding}
 use Rattle.buffa_wire.specs.Passes.{cap}
-use Rattle.buffa_wire.specs.Records.{Datum, bytes, varint}
+use Rattle.buffa_wire.specs.Records.{bytes, varint}
 use Rattle.buffa_wire.specs.Takes.{Need, Taker, answer, cost_of, front_of, merged_of}
 use Rattle.buffa_map.specs.Scalars.{int32_reading, int32_writing}
 use Rattle.buffa_fields.specs.BlankFacts.{is_zero}

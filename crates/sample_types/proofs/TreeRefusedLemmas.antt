@@ -1,12 +1,10 @@
 -- What is told of a refused field of a message that holds a map of itself, said of trees.
-use Rattle.std.proofs.Common.{◌≡◌, ◌≢◌, inl, inr, ℕ, ◌==◌, ℤ, List, Result, Ok, Err, refl, sym, ap, subst, ◌∙◌, arith}
+use Rattle.std.proofs.Common.{◌≡◌, inl, inr, ℕ, ◌==◌, ℤ, List, Result, Ok, Err, refl, sym, ap, subst, ◌∙◌, arith}
 use Rattle.std.proofs.lemmas.Bool.{eqb-false, eqb-true}
 use Rattle.std.specs.Prelude.{IfErr, Option}
-use Rattle.buffa_bytes.proofs.SequenceLemmas.{err_same}
 use Rattle.buffa_bytes.proofs.WireLemmas.{checked_same}
-use Rattle.buffa_bytes.specs.Front.{check_wire, skip_at}
+use Rattle.buffa_bytes.specs.Front.{check_wire}
 use Rattle.buffa_bytes.specs.declared.error.DecodeError.{DecodeError}
-use Rattle.buffa_bytes.specs.declared.error.DecodeError.TheVariants.{OutOfMemory}
 use Rattle.buffa_bytes.specs.declared.wire_type.WireType.{WireType}
 use Rattle.buffa_bytes.specs.declared.wire_type.WireType.TheVariants.{LengthDelimited}
 use Rattle.buffa_wire.specs.BudgetLeft.{BudgetLeft}
@@ -21,7 +19,7 @@ use Rattle.buffa_fields.specs.LayoutFacts.{choose}
 use Rattle.buffa_fields.specs.MapFields.{PairTakesMemory}
 use Rattle.buffa_fields.specs.MapNests.{kid_list, kids_of, map_nest_of, map_own_of, map_parts_of, nest_of-parts_of}
 use Rattle.sample_types.proofs.NumberLemmas.{member_read}
-use Rattle.sample_types.proofs.TreeLemmas.{label_shape, tree_cost_is, tree_keys, tree_merged_is, tree_own}
+use Rattle.sample_types.proofs.TreeLemmas.{tree_cost_is, tree_keys, tree_merged_is, tree_own}
 use Rattle.sample_types.specs.Fields.{int32_field}
 use Rattle.sample_types.specs.Grown.{Grown, Label, blank_tree}
 use Rattle.sample_types.specs.TreeMeaning.{tree_cost, tree_merged}

@@ -3,7 +3,6 @@ use Rattle.std.proofs.Common.{◌≡◌, ◌≢◌, ◌⊎◌, inl, inr, ℕ, �
 use Rattle.std.proofs.lemmas.Bool.{eqb-false, eqb-true}
 use Rattle.std.specs.BTreeMap.{insert_entry}
 use Rattle.std.specs.Ordering.{int_cmp}
-use Rattle.std.specs.Prelude.{OnErr}
 use Rattle.buffa_bytes.proofs.DelimitedLemmas.{delimited_faulty, delimited_taken}
 use Rattle.buffa_bytes.proofs.FullLemmas.{varint_full}
 use Rattle.buffa_bytes.proofs.SequenceLemmas.{err_same}
@@ -30,7 +29,6 @@ use Rattle.buffa_map.specs.Laws.{LimitsAreTrue}
 use Rattle.buffa_map.specs.MessageFacts.{meant_no_limit}
 use Rattle.buffa_map.specs.ScalarFacts.{never_faulty}
 use Rattle.buffa_map.specs.Scalars.{int32_reading}
-use Rattle.buffa_map.specs.declared.map_entry.MapEntry.{MapEntry}
 use Rattle.buffa_fields.proofs.EntriesLemmas.{entry_wire_err}
 use Rattle.buffa_fields.proofs.InsideLemmas.{alone_is, no_payload}
 use Rattle.buffa_fields.proofs.ValueLemmas.{value_err, wire_err}
@@ -46,7 +44,7 @@ use Rattle.sample_types.proofs.TreeRefusedLemmas.{nest_reading, reading_is, tree
 use Rattle.sample_types.specs.Fields.{int32_field}
 use Rattle.sample_types.specs.Grown.{Grown}
 use Rattle.sample_types.specs.TreeFacts.{tree_means}
-use Rattle.sample_types.specs.TreeRefused.{HasChildFault, IsTreeRefused, tree_reading}
+use Rattle.sample_types.specs.TreeRefused.{HasChildFault, IsTreeRefused}
 
 pick : {A B : Type 0} (t : Bool) → (t ≡ true → A) → (t ≡ false → B) → Choice t A B
 pick true f g = f refl

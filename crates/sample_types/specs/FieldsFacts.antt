@@ -1,29 +1,29 @@
 -- What is proved of single fields of the samples.
-use Rattle.std.proofs.Common.{◌≡◌, ◌≢◌, inl, inr, ℤ, pos, negsuc, ℕ, ◌+◌, ◌*◌, ◌==◌, zero, suc, ◌<◌, Bool, true, false, List, [], ◌∷◌, ◌++◌, length, Some, Result, Ok, Err, refl, sym, ap, subst, ◌∙◌, arith, append_assoc, append-nil, length-append, if◌then◌else◌}
+use Rattle.std.proofs.Common.{◌≡◌, ◌≢◌, inl, inr, ℤ, pos, negsuc, ℕ, ◌+◌, ◌*◌, zero, suc, ◌<◌, Bool, true, false, List, ◌∷◌, ◌++◌, length, Some, Result, Ok, Err, refl, sym, ap, subst, ◌∙◌, arith, append-nil, if◌then◌else◌}
 use Rattle.buffa_bytes.specs.Gives.{◌>>=◌, FullOnlyIf, Gives}
 use Rattle.buffa_bytes.specs.Field.{IsTag, Payload}
 use Rattle.buffa_bytes.specs.Number.{IsNumber}
 use Rattle.buffa_bytes.specs.Front.{check_wire, tag_at, varint_at}
 use Rattle.buffa_wire.specs.Records.{Datum}
 use Rattle.buffa_wire.specs.Encoding.{records_encoding}
-use Rattle.buffa_bytes.specs.Values.{int32_at, int32_of, int32_encoding, tag_encoding}
+use Rattle.buffa_bytes.specs.Values.{int32_encoding, tag_encoding}
 use Rattle.buffa_bytes.specs.Varint.{IsVarint, TakesVarint, VarintFault}
 use Rattle.buffa_bytes.specs.WireType.{same_wire}
 use Rattle.buffa_bytes.specs.declared.wire_type.WireType.{WireType}
 use Rattle.buffa_bytes.specs.declared.wire_type.WireType.TheVariants.{Varint, EndGroup}
 use Rattle.buffa_bytes.specs.declared.error.DecodeError.{DecodeError}
 use Rattle.buffa_bytes.specs.declared.error.DecodeError.TheVariants.{OutOfMemory, WireTypeMismatch}
-use Rattle.buffa_bytes.proofs.StepLemmas.{Agrees, agree_bind, agree_if, agree_weaker}
+use Rattle.buffa_bytes.proofs.StepLemmas.{Agrees, agree_bind, agree_weaker}
 use Rattle.buffa_bytes.proofs.FieldLemmas.{payload_complete, payload_sound, same_true}
 use Rattle.buffa_bytes.proofs.ShortestLemmas.{varint_encoding-last}
-use Rattle.buffa_bytes.proofs.VarintLemmas.{IsVarint-varint_encoding, varint_complete, varint_sound}
+use Rattle.buffa_bytes.proofs.VarintLemmas.{IsVarint-varint_encoding, varint_sound}
 use Rattle.buffa_bytes.proofs.WireLemmas.{check_sound}
 use Rattle.buffa_wire.proofs.MessageLemmas.{NoLimit, payload_no_limit, var_no_limit}
 use Rattle.buffa_bytes.specs.Sequence.{parse_all}
 use Rattle.buffa_bytes.proofs.SequenceLemmas.{ok_same, parse_keeps}
 use Rattle.buffa_wire.specs.ByField.{FieldReader, merged_by, next_at}
-use Rattle.buffa_wire.proofs.ByFieldLemmas.{IsSame, IsSound, Same, read, some_of}
-use Rattle.sample_types.specs.Fields.{int32_field, number_records, number_encoding, skipped_field, value_field}
+use Rattle.buffa_wire.proofs.ByFieldLemmas.{Same, some_of}
+use Rattle.sample_types.specs.Fields.{number_records, number_encoding, skipped_field}
 use Rattle.buffa_wire.proofs.EncodingLemmas.{records_encoding-append}
 
 -- ---- fields that are passed over

@@ -1,12 +1,9 @@
 -- What bytes mean to a tree: field 1 is its label, each field 2 puts a child at a key, others are passed over. A child
 -- is read one level deeper, so the depth bounds the steps. Source: the protobuf encoding guide, "Maps".
-use Rattle.std.specs.Prelude.{◌≡◌, ◌≢◌, ℕ, zero, suc, ℤ, ◌==◌, List, Option, Some, None, Err, if◌then◌else◌}
+use Rattle.std.specs.Prelude.{ℕ, zero, suc, ℤ, ◌==◌, List, Option, Some, None, if◌then◌else◌}
 use Rattle.std.specs.BTreeMap.{insert_entry}
 use Rattle.std.specs.Option.{option_map}
 use Rattle.std.specs.Ordering.{int_cmp}
-use Rattle.buffa_bytes.specs.Front.{skip_at}
-use Rattle.buffa_bytes.specs.declared.error.DecodeError.{DecodeError}
-use Rattle.buffa_bytes.specs.declared.wire_type.WireType.{WireType}
 use Rattle.buffa_wire.specs.BudgetLeft.{BudgetLeft, nothing}
 use Rattle.buffa_wire.specs.Takes.{Need, Taker, cost_of, merged_of}
 use Rattle.buffa_map.specs.Codec.{Reading}
