@@ -1,4 +1,5 @@
-//! A message that holds itself.
+//! A message that holds itself: a plain struct with a map of its own type, in the form [`Held`]. The functions are those of
+//! [`Message`] in words of trees.
 
 ghost use Rattle.std.specs.Prelude.{IfErr, OnErr, [], ◌≢◌};
 ghost use Rattle.std.proofs.Common.{lit<, refl};
