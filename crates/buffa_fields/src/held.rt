@@ -1,10 +1,11 @@
 //! Messages that hold a list of themselves. `held_map.rt` has those that hold a map of themselves, and `held_one.rt` those
 //! that may hold one message of themselves.
 //!
-//! The author writes an impl of [`Holds`] for the other members, and the message is a [`Nest`] of these. A message
-//! inside is sized, written and merged by `size_nest`, `write_nest` and `merge_nest`. Each of them comes to itself
-//! again, a level down, through the functions beside it. The list is a member of the member type [`Inside`]. So a
-//! [`Nest`] has [`Fields`], as each message from its fields.
+//! The author writes an impl of [`Holds`] for the other members, and the message is a [`Nest`] of these. The list is a
+//! member of the member type [`Inside`]. So a [`Nest`] has [`Fields`], and the outermost message is sized, written and
+//! merged as each message from its fields is. A message inside it, and each one further down, is sized, written and
+//! merged by `size_nest`, `write_nest` and `merge_nest`. Each of these three functions comes to itself again, a level
+//! down, through the functions beside it.
 
 ghost use Rattle.std.specs.Prelude.{◌≡◌, ◌≢◌, ◌<◌, ◌∷◌, ◌&&◌, [], ℕ, List, IfErr, IsOk, OnErr, OnOk, length, map, not, refl, true};
 ghost use Rattle.std.specs.List.{AllByRecursion};
@@ -141,7 +142,8 @@ pub trait Holds: Drop {
         ensures { MemberTakes tag ctx.entry ctx.exit self.old self.new buf.old buf.new result layout };
 }
 
-/// A message that holds a list of itself: what it has of its own, and the messages inside it.
+/// A message that holds a list of itself: what it has of its own, and the messages inside it. The list has the number
+/// [`Holds::NUMBER`].
 ///
 /// ```ignore
 /// pub type Branch = Nest<BranchOwn>;

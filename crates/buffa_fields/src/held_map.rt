@@ -1,9 +1,9 @@
 //! Messages that hold a map of themselves.
 //!
-//! The author writes an impl of [`Holds`] for the other members, and the message is a [`MapNest`] of these. It is sized,
-//! written and merged by `size_nest`, `write_nest` and `merge_nest`. Each of them comes to itself again, a level down,
-//! through the functions of `pairs_by.rt`, which are passed what to do with a message. The map is a member of the member
-//! type [`MapInside`].
+//! The author writes an impl of [`Holds`] for the other members, and the message is a [`MapNest`] of these. The map is a
+//! member of the member type [`MapInside`]. Each such message, the outermost one too, is sized by `size_nest`, written by
+//! `write_nest`, and takes a field by `take_field`. A message inside is merged by `merge_nest`. Each of these functions
+//! comes to itself again, a level down, through the functions of `pairs_by.rt`, which are passed what to do with a message.
 //!
 //! A [`MapNest`] has [`Fields`], as each message from its fields. But it has a [`Message`] of its own, where the others are
 //! [`Formed`](buffa_wire::Formed): the functions of `pairs_by.rt` ask what its bytes mean, so that is said here before they
