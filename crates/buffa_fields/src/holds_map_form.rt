@@ -85,7 +85,7 @@ impl<M: HoldingMap> MessageMeaning<M> for Held {
 // The length of the entries of the messages in the map, or 2^32 - 1 where it is more. The slots of each are appended to the
 // cache.
 #[cycle(named_sizes)]
-fn kids_len<M: HoldingMap>(
+pub(crate) fn kids_len<M: HoldingMap>(
     number: u32,
     kids: &BTreeMap<M::Key, M>,
     cache: &mut SizeCache,
@@ -127,7 +127,7 @@ fn size_self<M: HoldingMap>(message: &M, cache: &mut SizeCache) -> Result<u32, E
 
 // Writes an entry for each message in the map, whose slots are next.
 #[cycle(named_writes)]
-fn write_kids<M: HoldingMap, S: EncodeSink>(
+pub(crate) fn write_kids<M: HoldingMap, S: EncodeSink>(
     number: u32,
     kids: &BTreeMap<M::Key, M>,
     cache: &mut SizeCache,
@@ -181,7 +181,7 @@ fn write_self<M: HoldingMap, S: EncodeSink>(
 
 // Merges the entry of the field whose tag was read: its message into a default one, which takes the place of the key's.
 #[cycle(named_merges)]
-fn take_entry<M: HoldingMap>(
+pub(crate) fn take_entry<M: HoldingMap>(
     alloc: Global,
     kids: &mut BTreeMap<M::Key, M>,
     tag: Tag,
@@ -226,7 +226,7 @@ fn take_entry<M: HoldingMap>(
 
 // Merges the field whose tag was read: an entry of the map, or one of the other members.
 #[cycle(named_merges)]
-fn take_field<M: HoldingMap>(
+pub(crate) fn take_field<M: HoldingMap>(
     alloc: Global,
     message: &mut M,
     tag: Tag,

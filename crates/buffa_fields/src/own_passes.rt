@@ -1,7 +1,7 @@
 //! The size pass and the write pass over the other members of a message that holds messages of its own type.
 //!
 //! Each is in two parts: the members in front of the messages inside, and those behind them. They are called by the passes
-//! of a list (`held.rt`), of a map (`held_map.rt`) and of one message (`held_one.rt`).
+//! of a list (`held.rt`) and of one message (`held_one.rt`). `holds_map_sides.rt` has the same for a map.
 
 ghost use Rattle.std.specs.Prelude.{◌≡◌, ◌++◌, [], IsOk, List, ℕ, Ok};
 ghost use Rattle.buffa_wire.specs.Encoding.{records_encoding};
