@@ -5,7 +5,7 @@
 //! passes of `holds_map_form.rt`. The map is a member of the member type [`MapInside`], and a [`MapNest`] has [`Fields`], as
 //! each message from its fields.
 
-ghost use Rattle.std.specs.Prelude.{refl};
+ghost use Rattle.std.specs.Prelude.{◌≡◌, refl};
 ghost use Rattle.buffa_map.specs.Pairs.{means};
 ghost use Rattle.buffa_fields.specs.HeldMap.{held_map_shape, keys_by, map_nest_layout};
 ghost use Rattle.buffa_fields.specs.HeldMapFacts.{codec_reads_back, held_map_back};
