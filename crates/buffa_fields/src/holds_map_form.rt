@@ -28,7 +28,7 @@ ghost use Rattle.buffa_fields.specs.HeldMessageFacts.{message_merged_is, message
 ghost use Rattle.buffa_fields.specs.NamedMaps.{nest_taken};
 
 use crate::holds_map::{Held, HoldingMap, HoldsMap};
-use crate::holds_map_sides::{size_behind, size_front, write_behind, write_front};
+use crate::own_passes::{OfMessage, size_behind, size_front, write_behind, write_front};
 use crate::pairs_by::{pairs_len_by, take_pair_by, write_pairs_by};
 use buffa_map::map_codec::MapValueDecode;
 use buffa_wire::{
@@ -117,9 +117,9 @@ fn size_self<M: HoldingMap>(message: &M, cache: &mut SizeCache) -> Result<u32, E
     ensures always { let keys = keys_by M.KeyCodec.reading M.KeyCodec.writing M.KeyCodec.COST M.Key.order M.KeyCodec.fits M.KeyCodec.normal in
         map_nest_slots keys M.own M.NUMBER M.HoldsMap.COST (M.meaning message.now) ≡ [] → IsOk result }
 {
-    let front = size_front(message, cache)?;
+    let front = size_front::<OfMessage, M>(message, cache)?;
     let below = kids_len::<M>(M::NUMBER, message.inside(), cache)?;
-    let behind = size_behind(message, cache)?;
+    let behind = size_behind::<OfMessage, M>(message, cache)?;
     Ok(front.saturating_add(below.saturating_add(behind)))
 }
 
@@ -172,9 +172,9 @@ fn write_self<M: HoldingMap, S: EncodeSink>(
         (map_nest_slots keys M.own M.NUMBER M.HoldsMap.COST (M.meaning message.now)) cache.old (S.written sink.old) result
         cache.new (S.written sink.new) }
 {
-    write_front(message, cache, sink)?;
+    write_front::<OfMessage, M, S>(message, cache, sink)?;
     write_kids::<M, S>(M::NUMBER, message.inside(), cache, sink)?;
-    write_behind(message, cache, sink)
+    write_behind::<OfMessage, M, S>(message, cache, sink)
 }
 
 // ---- merging

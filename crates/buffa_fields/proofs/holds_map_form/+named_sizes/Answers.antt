@@ -123,4 +123,3 @@ size_self-kids_len-requires g t c κs within =
     let low : 3 * kids_height (kids_in (means key whole es)) + 2 < t = omega (arith, deeper nest whole key l.meaning means_so m es is, c.decreases) in
     let number = subst (λ n. IsNumber n) (sym c.NUMBER.ensures) (held_number keys l k each key g.M-HoldsMap.other) in
     (low, (within.0, (within.1.0, (within.1.1.0, (within.1.1.1.0, (within.1.1.1.1.0, (within.1.1.1.1.1, number)))))))
-

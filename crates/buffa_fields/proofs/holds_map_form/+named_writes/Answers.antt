@@ -183,4 +183,3 @@ write_self-returns-in_err-write_front g t c =
     let p = err_from_is_err_and c.from_residual.result c.from_residual.ensures.1 in
     rw (p.1, p.2) (subst (λ z. IsWritten (encoding z) (slots z) c0 b0 (refusal e) c1 b1) self
     (front_cut keys l k each key own ps c0 c1 b0 b1 e c.in_err-write_front.ensures))
-
