@@ -34,7 +34,7 @@ use crate::meaning::And;
 use crate::member::Member;
 use crate::message::{Listed, Listing};
 use crate::nested::{record_len, write_head};
-use crate::own_passes::{size_behind, size_front, write_behind, write_front};
+use crate::own_passes::{OfOwn, size_behind, size_front, write_behind, write_front};
 use crate::visitor::Visitor;
 use buffa_wire::{
     Blank, Budget, Buf, DecodeContext, DecodeError, EncodeError, EncodeSink, Formed, SizeCache,
@@ -218,9 +218,9 @@ fn size_nest<O: Holds>(kid: &Nest<O>, cache: &mut SizeCache) -> Result<u32, Enco
         IsSized (nest_encoding O.layout O.NUMBER O.COST v) (nest_slots O.layout O.NUMBER O.COST v) cache.old result
         cache.new }
 {
-    let front = size_front(&kid.own, cache)?;
+    let front = size_front::<OfOwn, O>(&kid.own, cache)?;
     let below = kids_len(O::NUMBER, kid.inside.as_slice(), cache)?;
-    let behind = size_behind(&kid.own, cache)?;
+    let behind = size_behind::<OfOwn, O>(&kid.own, cache)?;
     Ok(front.saturating_add(below.saturating_add(behind)))
 }
 
@@ -280,9 +280,9 @@ fn write_nest<O: Holds, S: EncodeSink>(
         IsWritten (nest_encoding O.layout O.NUMBER O.COST v) (nest_slots O.layout O.NUMBER O.COST v) cache.old
         (S.written sink.old) result cache.new (S.written sink.new) }
 {
-    write_front(&kid.own, cache, sink)?;
+    write_front::<OfOwn, O, S>(&kid.own, cache, sink)?;
     write_kids(O::NUMBER, kid.inside.as_slice(), cache, sink)?;
-    write_behind(&kid.own, cache, sink)
+    write_behind::<OfOwn, O, S>(&kid.own, cache, sink)
 }
 
 // ---- merging

@@ -35,7 +35,7 @@ use crate::meaning::And;
 use crate::member::Member;
 use crate::message::{Listed, Listing};
 use crate::nested::Delimited;
-use crate::own_passes::{size_behind, size_front, write_behind, write_front};
+use crate::own_passes::{OfOwn, size_behind, size_front, write_behind, write_front};
 use crate::visitor::Visitor;
 use buffa_wire::{
     Blank, Budget, Buf, DecodeContext, DecodeError, EncodeError, EncodeSink, Formed, SizeCache,
@@ -118,9 +118,9 @@ fn size_chain<O: Holds>(kid: &Chain<O>, cache: &mut SizeCache) -> Result<u32, En
     ensures { let v = chain_means O.layout.meaning kid.now in
         IsSized (chain_encoding O.layout O.NUMBER v) (chain_slots O.layout O.NUMBER v) cache.old result cache.new }
 {
-    let front = size_front(&kid.own, cache)?;
+    let front = size_front::<OfOwn, O>(&kid.own, cache)?;
     let below = inside_len(O::NUMBER, &kid.inside, cache)?;
-    let behind = size_behind(&kid.own, cache)?;
+    let behind = size_behind::<OfOwn, O>(&kid.own, cache)?;
     Ok(front.saturating_add(below.saturating_add(behind)))
 }
 
@@ -180,9 +180,9 @@ fn write_chain<O: Holds, S: EncodeSink>(
         IsWritten (chain_encoding O.layout O.NUMBER v) (chain_slots O.layout O.NUMBER v) cache.old
         (S.written sink.old) result cache.new (S.written sink.new) }
 {
-    write_front(&kid.own, cache, sink)?;
+    write_front::<OfOwn, O, S>(&kid.own, cache, sink)?;
     write_inside(O::NUMBER, &kid.inside, cache, sink)?;
-    write_behind(&kid.own, cache, sink)
+    write_behind::<OfOwn, O, S>(&kid.own, cache, sink)
 }
 
 // ---- merging
