@@ -1,6 +1,6 @@
 //! What the names of this crate stand for: no two limits, codecs, member types or samples can be exchanged while these laws hold.
 
-ghost use Rattle.std.specs.Prelude.{◌≡◌, ◌↔◌, ◌∷◌, ◌++◌, ◌-◌, ◌^◌, [], ℕ, List, false, map, option_map, pos, true};
+ghost use Rattle.std.specs.Prelude.{◌≡◌, ◌∷◌, ◌++◌, ◌-◌, ◌^◌, [], ℕ, List, false, map, option_map, pos, true};
 ghost use Rattle.buffa_bytes.specs.Scalars.{bool_of, fixed32_of, fixed64_of, int64_of, sfixed32_of, sfixed64_of};
 ghost use Rattle.buffa_bytes.specs.Scalars.{sint32_of, sint64_of, uint32_of, uint64_of};
 ghost use Rattle.buffa_bytes.specs.Values.{int32_of};
@@ -20,16 +20,14 @@ ghost use Rattle.buffa_fields.specs.Lists.{element_records, packed_records};
 ghost use Rattle.buffa_fields.specs.MapFields.{pair_taken};
 ghost use Rattle.buffa_fields.specs.MemberRecords.{optional_records, plain_records};
 ghost use Rattle.buffa_fields.specs.Nested.{message_records};
-ghost use Rattle.buffa_fields.specs.Pinned.{TakeAlike};
 ghost use Rattle.buffa_fields.specs.RepeatedNested.{messages_records};
-ghost use Rattle.buffa_fields.specs.Stands.{IsMemberRefused};
 ghost use Rattle.buffa_map.specs.Enums.{closed_reading, open_reading};
 ghost use Rattle.buffa_map.specs.Message.{message_reading};
 ghost use Rattle.buffa_map.specs.Pairs.{put};
 ghost use Rattle.buffa_map.specs.Scalars.{bytes_reading, number_reading, string_reading};
 
 use crate::extension::{ExtensionCodec, PackableCodec, SingularCodec, codecs};
-use crate::fields::{Fields, Formed, Holds, Listing, Member, OrderedKey, Packable, ProtoType};
+use crate::fields::{Fields, Holds, Listing, Member, OrderedKey, Packable, ProtoType};
 use crate::map_codec::{MapCodec, MapStorage, MapValueDecode};
 use crate::{
     Blank, DEFAULT_ELEMENT_MEMORY_LIMIT, DEFAULT_UNKNOWN_FIELD_LIMIT, Enumeration,
@@ -37,7 +35,7 @@ use crate::{
     fields, map_codec, samples,
 };
 use buffa_codec::laws::{numbers_are_read, the_last_record_is_read};
-use buffa_wire::MessageForm;
+use buffa_wire::MessageMeaning;
 use std::hash::Hash;
 
 /// The limits: how deep and with which budget is read where nothing else is said, and what is too large.
@@ -183,36 +181,5 @@ pub fn member_types_are_these<
     ensures chain { (v : _) → ⟦<fields::Chain<O> as Fields>⟧.layout.records v ≡ O.layout.front O.NUMBER v.1
         ++ (message_records (chain_encoding O.layout O.NUMBER) O.NUMBER v.0
         ++ (O.layout.behind O.NUMBER v.1 ++ O.layout.kept v.1)) }
-    ensures listed { ⟦<fields::Listed as MessageForm<M>>⟧.records ≡ M.layout.records }
-{}
-
-/// A message that holds a list of itself, and one that may hold one message of itself, are formed of their members, as
-/// `messages_are_these` says it of any message from its fields: what it costs in a list, what a field makes of it and
-/// costs, which values read back, where its size pass runs out of no memory, what becomes of a field that it takes, and
-/// what a refused one leaves.
-pub fn messages_that_hold_themselves_are_listed<O: Holds>()
-    ensures nest_units { ⟦<fields::Nest<O> as MessageSpec>⟧.COST ≡ O.COST }
-    ensures nest_takes { (⟦<fields::Nest<O> as MessageSpec>⟧.takes ≡ ⟦<fields::Nest<O> as Fields>⟧.layout.takes)
-        × (⟦<fields::Nest<O> as MessageSpec>⟧.need ≡ ⟦<fields::Nest<O> as Fields>⟧.layout.need) }
-    ensures nest_normal { (v : _) → ⟦<fields::Nest<O> as MessageSpec>⟧.normal v
-        ↔ (⟦<fields::Nest<O> as Fields>⟧.layout.Owes × ⟦<fields::Nest<O> as Fields>⟧.layout.normal v) }
-    ensures nest_sure { (v : _) → ⟦<<fields::Nest<O> as Formed>::Form as MessageForm<fields::Nest<O>>>⟧.sure v
-        ↔ (⟦<fields::Nest<O> as Fields>⟧.layout.slots v ≡ []) }
-    ensures nest_taken { TakeAlike ⟦<<fields::Nest<O> as Formed>::Form as MessageForm<fields::Nest<O>>>⟧.Taken
-        ⟦<fields::Nest<O> as Fields>⟧.layout.Taken }
-    ensures nest_refused { (d : ℕ) (v : _) (n : ℕ) (w : _) (bs : List ℕ) (l : _) (e : _) (u : _) →
-        ⟦<fields::Nest<O> as MessageSpec>⟧.Refused d v n w bs l e u
-        ↔ IsMemberRefused ⟦<fields::Nest<O> as Fields>⟧.layout d v n w bs l e u }
-    ensures chain_units { ⟦<fields::Chain<O> as MessageSpec>⟧.COST ≡ O.COST }
-    ensures chain_takes { (⟦<fields::Chain<O> as MessageSpec>⟧.takes ≡ ⟦<fields::Chain<O> as Fields>⟧.layout.takes)
-        × (⟦<fields::Chain<O> as MessageSpec>⟧.need ≡ ⟦<fields::Chain<O> as Fields>⟧.layout.need) }
-    ensures chain_normal { (v : _) → ⟦<fields::Chain<O> as MessageSpec>⟧.normal v
-        ↔ (⟦<fields::Chain<O> as Fields>⟧.layout.Owes × ⟦<fields::Chain<O> as Fields>⟧.layout.normal v) }
-    ensures chain_sure { (v : _) → ⟦<<fields::Chain<O> as Formed>::Form as MessageForm<fields::Chain<O>>>⟧.sure v
-        ↔ (⟦<fields::Chain<O> as Fields>⟧.layout.slots v ≡ []) }
-    ensures chain_taken { TakeAlike ⟦<<fields::Chain<O> as Formed>::Form as MessageForm<fields::Chain<O>>>⟧.Taken
-        ⟦<fields::Chain<O> as Fields>⟧.layout.Taken }
-    ensures chain_refused { (d : ℕ) (v : _) (n : ℕ) (w : _) (bs : List ℕ) (l : _) (e : _) (u : _) →
-        ⟦<fields::Chain<O> as MessageSpec>⟧.Refused d v n w bs l e u
-        ↔ IsMemberRefused ⟦<fields::Chain<O> as Fields>⟧.layout d v n w bs l e u }
+    ensures listed { ⟦<fields::Listed as MessageMeaning<M>>⟧.records ≡ M.layout.records }
 {}

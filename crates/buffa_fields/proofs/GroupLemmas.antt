@@ -1,5 +1,5 @@
 -- What is proved of messages as groups: of what is taken.
-use Rattle.std.proofs.Common.{◌≡◌, ◌≢◌, inl, inr, ℕ, suc, ◌-◌, List, ◌++◌, Option, None, Result, Ok, Err, refl, sym, ap, subst, ◌∙◌, arith, append_assoc}
+use Rattle.std.proofs.Common.{◌≡◌, ◌≢◌, ◌⊎◌, inl, inr, ℕ, suc, ◌-◌, List, ◌++◌, Option, None, Result, Ok, Err, refl, sym, ap, subst, ◌∙◌, arith, append_assoc}
 use Rattle.std.proofs.lemmas.Bool.{ne_eqb}
 use Rattle.std.proofs.lemmas.List.{append_cancel_right}
 use Rattle.buffa_bytes.proofs.FieldLemmas.{group_is, not_end, one_payload, payload_complete, payload_sound, tag_complete, tag_sound}
@@ -15,8 +15,9 @@ use Rattle.buffa_bytes.specs.Front.{group_at, skip_at, tag_at}
 use Rattle.buffa_wire.proofs.MessageLemmas.{NoLimit, as_no_limit, tag_no_limit}
 use Rattle.buffa_wire.proofs.ByPayloadLemmas.{ByPayload, judged_all}
 use Rattle.buffa_wire.specs.BudgetLeft.{BudgetLeft, Lacks, Pays, PaysAtMost}
-use Rattle.buffa_wire.specs.Message.{IsFieldMerged, IsJudged, MergeFault}
+use Rattle.buffa_wire.specs.Message.{BeginsField, IsFieldMerged, IsJudged, MergeFault}
 use Rattle.buffa_fields.specs.Groups.{group_body, group_cost, group_merged}
+use Rattle.buffa_fields.specs.Refusals.{GroupFirstFault}
 use Rattle.buffa_wire.specs.Takes.{IsTaken, Need, Untaken, Taker}
 use Rattle.buffa_fields.specs.GroupFacts.{body_field, body_is, body_past, body_stays, body_whole, turn}
 use Rattle.buffa_wire.proofs.MergeLoopLemmas.{CameTo, costs, stopped}
@@ -100,6 +101,35 @@ module _ {X : Type 0} {T : Taker X} {N : Need} {merged : ℕ → X → List ℕ 
         λ ne. inr (unread e (ap (group_at (suc d) n) came.split ∙ group_past d n came.front rest came.fields ∙ h), unlimited),
         λ full end. cc,
       )
+
+  -- where no field begins the group, all its bytes are left
+  begun : (f whole : List ℕ) → Join (SomeField d) f → whole ≡ f ++ rest → (whole ≡ rest) ⊎ BeginsField whole
+  begun _ whole none is = inl is
+  begun _ whole (more f r (m, w, (t, p, tag, payload, is)) j) all = inr (
+    m,
+    w,
+    p ++ (r ++ rest),
+    ap tag_at (all ∙ append_assoc f r rest ∙ ap (λ (z : List ℕ). z ++ (r ++ rest)) is ∙ append_assoc t p (r ++ rest)) ∙ tag_complete t m w (p ++ (r ++ rest)) tag,
+    λ end. subst (λ v. Payload d m v p) end payload,
+  )
+
+  -- so that tells why it isn't merged
+  tells : (e : DecodeError) → (bs ≡ rest → GroupFirstFault (suc d) n bs e) → GroupFirstFault k n bs e
+  tells e h =
+      let up : suc d ≡ k = omega (arith, some) in
+      subst (λ z. GroupFirstFault z n bs e) up (elim (begun came.front bs came.fields came.split) [
+        | inl same ↦ h same
+        | inr begins_it ↦ inl begins_it
+      ])
+
+  pub tells_no_tag : (e : DecodeError) → tag_at rest ≡ Err e → GroupFirstFault k n bs e
+  tells_no_tag e h = tells e (λ same. inr (inl (ap tag_at same ∙ h)))
+
+  pub tells_other_end : (e : DecodeError) (m : ℕ) (w : WireType) (x : List ℕ) → tag_at rest ≡ Ok (m, w, x) → w ≡ EndGroup → m ≢ n → e ≡ InvalidEndGroup m → GroupFirstFault k n bs e
+  tells_other_end e m w x tag end other is = tells e (λ same. inr (inr (m, x, ap tag_at same ∙ tag ∙ (λ i. Ok (m, end i, x)), other, is)))
+
+  pub tells_field : (e : DecodeError) → BeginsField bs → GroupFirstFault k n bs e
+  tells_field e there = tells e (λ _. inl there)
 
   -- no tag comes next
   pub no_group_tag : (e : DecodeError) → tag_at rest ≡ Err e → (new : X) (x : List ℕ) → TakenAs (Err e) new left x

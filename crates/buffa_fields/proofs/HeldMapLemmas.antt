@@ -1,15 +1,13 @@
 -- What is proved of the passes over messages that hold a map of their own type.
-use Rattle.std.proofs.Common.{◌≡◌, ℕ, zero, suc, ◌==◌, ◌&&◌, not, ◌+◌, ◌≤◌, Bool, true, false, List, [], ◌∷◌, ◌++◌, min, Result, refl, sym, ap, subst, ◌∙◌, arith}
+use Rattle.std.proofs.Common.{◌≡◌, ℕ, ◌==◌, ◌&&◌, not, ◌+◌, Bool, true, false, List, [], ◌++◌, min, Result, refl, sym, ap, subst, ◌∙◌}
 use Rattle.std.proofs.lemmas.Bool.{and_parts, eq-eqb}
-use Rattle.std.specs.List.{Contains}
-use Rattle.std.specs.Map.{values_of}
 use Rattle.buffa_bytes.proofs.ListLemmas.{nil_first, nil_second}
 use Rattle.buffa_bytes.specs.Number.{IsNumber}
 use Rattle.buffa_bytes.specs.declared.error.DecodeError.{DecodeError}
 use Rattle.buffa_bytes.specs.declared.error.EncodeError.{EncodeError}
 use Rattle.buffa_bytes.specs.declared.wire_type.WireType.{WireType}
 use Rattle.buffa_wire.proofs.EncodingLemmas.{records_encoding-append}
-use Rattle.buffa_wire.proofs.PassLemmas.{appended_twice, next_front, next_past, written_short, written_then}
+use Rattle.buffa_wire.proofs.PassLemmas.{next_front, next_past, written_short, written_then}
 use Rattle.buffa_wire.specs.BudgetLeft.{BudgetLeft}
 use Rattle.buffa_wire.specs.Cache.{Cache}
 use Rattle.buffa_wire.specs.Encoding.{records_encoding}
@@ -17,32 +15,12 @@ use Rattle.buffa_wire.specs.Passes.{IsNext, IsSized, IsSmall, IsWritten}
 use Rattle.buffa_wire.specs.Pinned.{done, refusal}
 use Rattle.buffa_map.specs.Pairs.{means}
 use Rattle.buffa_fields.specs.Layout.{Choice, Layout, Seen, Took, is_number, more}
-use Rattle.buffa_fields.specs.LayoutFacts.{failed, sized_more, small_both, sum}
+use Rattle.buffa_fields.specs.LayoutFacts.{sized_more, small_both, sum}
 use Rattle.buffa_fields.specs.NestedMaps.{pair_records, pair_slots}
 use Rattle.buffa_fields.specs.PairFacts.{number_of_test}
 use Rattle.buffa_fields.specs.HeldMap.{Keys, held_map_shape, map_nest_encoding, map_nest_layout, map_nest_slots}
 use Rattle.buffa_fields.specs.HeldMapFacts.{kid_records_are, kid_slots_are, kids_mean_listed}
-use Rattle.buffa_fields.specs.MapNests.{Kids, MapNest, kid_list, kid_list-kids_in, kids_height, kids_in, kids_mean, map_nest, map_nest_height, map_nest_means, no_kid, kid}
-
--- ---- how deep
--- what a nest means is as deep as it is
-module _ {N K M X : Type 0} (key : N → K) (meaning : M → X) where
-  mutual
-    pub meant_height : (t : MapNest N M) → map_nest_height (map_nest_means key meaning t) ≡ map_nest_height t
-    meant_height (map_nest o ks) = ap (λ z. z + 1) (meant_heights ks)
-
-    meant_heights : (ks : Kids N M) → kids_height (kids_mean key meaning ks) ≡ kids_height ks
-    meant_heights no_kid = refl
-    meant_heights (kid j t ks) = omega (arith, meant_height t, meant_heights ks)
-
-  low_in : (ps : List (N × MapNest N M)) (x : MapNest K X) → Contains (values_of (means key (map_nest_means key meaning) ps)) x → map_nest_height x ≤ kids_height (kids_in ps)
-  low_in [] x (i, b, q) = absurd (omega (arith, b))
-  low_in (p ∷ ps) x (zero, b, q) = omega (arith, ap map_nest_height q, meant_height p.1)
-  low_in (p ∷ ps) x (suc i, b, q) = omega (arith, low_in ps x (i, omega (arith, b), q))
-
-  -- a message in a map is less deep than what holds the map
-  pub low_kid : (ps : List (N × MapNest N M)) (t : MapNest N M) → Contains (values_of (means key (map_nest_means key meaning) ps)) (map_nest_means key meaning t) → map_nest_height t ≤ kids_height (kids_in ps)
-  low_kid ps t h = omega (arith, low_in ps (map_nest_means key meaning t) h, meant_height t)
+use Rattle.buffa_fields.specs.MapNests.{MapNest, kid_list, kid_list-kids_in, kids_in, kids_mean, map_nest, map_nest_means}
 
 -- ---- one field
 first_of : (A B : Type 0) (t : Bool) → t ≡ true → A → Choice t A B

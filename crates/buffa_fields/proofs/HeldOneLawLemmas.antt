@@ -1,24 +1,25 @@
 -- The message inside, in which a message holds itself, is a message of its type that may be absent.
-use Rattle.std.proofs.Common.{◌≡◌, ◌↔◌, ℕ, zero, suc, max, Bool, true, false, List, [], ◌∷◌, ◌++◌, length, Option, Some, None, Result, Ok, Err, refl, sym, ap, subst, ◌∙◌, arith, if◌then◌else◌}
+use Rattle.std.proofs.Common.{◌≡◌, ◌↔◌, inl, inr, ℕ, zero, suc, Bool, true, false, List, [], ◌∷◌, ◌++◌, length, Option, Some, None, Result, Ok, Err, refl, sym, ap, subst, ◌∙◌, arith, if◌then◌else◌}
 use Rattle.std.specs.Option.{option_map}
 use Rattle.buffa_bytes.specs.Front.{delimited_at}
 use Rattle.buffa_bytes.specs.WireType.{same_wire}
 use Rattle.buffa_bytes.specs.declared.error.DecodeError.{DecodeError}
 use Rattle.buffa_bytes.specs.declared.wire_type.WireType.{WireType}
 use Rattle.buffa_bytes.specs.declared.wire_type.WireType.TheVariants.{LengthDelimited}
-use Rattle.buffa_wire.specs.BudgetLeft.{nothing}
+use Rattle.buffa_wire.specs.BudgetLeft.{BudgetLeft, Lacks, nothing}
 use Rattle.buffa_wire.specs.Encoding.{records_encoding}
-use Rattle.buffa_wire.specs.Message.{cost_of_payload}
+use Rattle.buffa_wire.specs.Message.{MergeFault, MessageFault, cost_of_payload}
 use Rattle.buffa_wire.specs.Parse.{Fits}
 use Rattle.buffa_wire.specs.Passes.{cap}
 use Rattle.buffa_wire.specs.Records.{Datum, bytes, records_of}
 use Rattle.buffa_wire.specs.Takes.{cost_of, merged_of}
-use Rattle.buffa_fields.specs.Chains.{Chain, chain_end, chain_link, chain_inside_with, chain_means, chain_of, chain_own_with, chain_parts}
+use Rattle.buffa_fields.specs.Chains.{Chain, chain_end, chain_link, chain_inside_with, chain_means, chain_of, chain_own_with, chain_parts, chain_with_parts}
 use Rattle.buffa_fields.specs.HeldOne.{IsNormalChain, blank_chain, chain_cost, chain_encoding, chain_layout, chain_levels, chain_merged, chain_records, chain_slots}
 use Rattle.buffa_fields.specs.HeldOneFacts.{chain_cost_is, chain_merged_is, chain_parts_are, held_one_back}
 use Rattle.buffa_fields.specs.Layout.{Layout}
 use Rattle.buffa_fields.specs.MemberRecords.{optional_records}
 use Rattle.buffa_fields.specs.Nested.{FitsInside, inside, message_cost, message_levels, message_merged, message_records, message_slots, or_blank, taken_there}
+use Rattle.buffa_fields.specs.Refusals.{RefusesBoxed}
 use Rattle.buffa_fields.specs.Values.{IfThere, some_records}
 
 pub chain_parts_whole : {O : Type 0} (p : Option (Chain O) × O) → chain_parts (chain_of p) ≡ p
@@ -32,6 +33,18 @@ in_parts (Some p) = ap (λ z. Some z) (chain_parts_whole p)
 some_in_parts : {A B : Type 0} (f : A → B) (o : Option A) → option_map (option_map f) (option_map (λ x. Some x) o) ≡ option_map (λ y. Some y) (option_map f o)
 some_in_parts f None = refl
 some_in_parts f (Some x) = refl
+
+-- what a chain is, by its parts
+none_whole : {O : Type 0} (o : Option (Chain O)) → option_map chain_parts o ≡ None → o ≡ None
+none_whole None h = refl
+none_whole (Some t) h = cc
+
+whole_again : {O : Type 0} (o : Option (Chain O)) → option_map chain_of (option_map chain_parts o) ≡ o
+whole_again None = refl
+whole_again (Some t) = ap (λ z. Some z) (chain_with_parts t)
+
+same_whole : {O : Type 0} (o p : Option (Chain O)) → option_map chain_parts o ≡ option_map chain_parts p → o ≡ p
+same_whole o p h = sym (whole_again o) ∙ ap (option_map chain_of) h ∙ whole_again p
 
 module _ {M X : Type 0} (l : Layout M X) (k : ℕ) where
   abbrev whole_merged : ℕ → Option (Chain X) × X → List ℕ → Option (Option (Chain X) × X)
@@ -75,6 +88,73 @@ module _ {M X : Type 0} (l : Layout M X) (k : ℕ) where
   pub one_cost_in_parts : (d n : ℕ) (w : WireType) (bs : List ℕ) → message_cost (chain_cost l k) d n w bs ≡ message_cost (cost_of (chain_layout l k).need) d n w bs
   unfolding message_cost
   one_cost_in_parts d n w bs = λ i. if same_wire LengthDelimited w then paid_parts d (delimited_at bs) i else nothing
+
+  -- ---- refused
+  why_parts : (d : ℕ) (t : Chain X) (b : List ℕ) (left : BudgetLeft) (e : DecodeError) →
+      MergeFault (chain_merged l k d t b) (chain_cost l k d b) left e ↔ MergeFault (whole_merged d (chain_parts t) b) (cost_of (chain_layout l k).need d b) left e
+  why_parts d t b left e =
+      let same = chain_cost_is l k d b in
+      let means = merged_parts d t b in (
+        λ h. elim h [
+          | inl lack ↦ inl (subst (λ z. Lacks left z) same lack)
+          | inr bad ↦ inr (sym means ∙ ap (option_map chain_parts) bad.0, bad.1)
+        ],
+        λ h. elim h [
+          | inl lack ↦ inl (subst (λ z. Lacks left z) (sym same) lack)
+          | inr bad ↦ inr (none_whole (chain_merged l k d t b) (means ∙ bad.0), bad.1)
+        ],
+      )
+
+  fault_parts : (d : ℕ) (t : Chain X) (bs : List ℕ) (left : BudgetLeft) (e : DecodeError) →
+      MessageFault (chain_merged l k) (chain_cost l k) d t bs left e ↔ MessageFault whole_merged (cost_of (chain_layout l k).need) d (chain_parts t) bs left e
+  fault_parts zero t bs left e = ((λ h. h), (λ h. h))
+  fault_parts (suc d) t bs left e = (
+    λ h. elim h [
+      | inl cut ↦ inl cut
+      | inr (b, rest, is, why) ↦ inr (b, rest, is, (why_parts d t b left e).0 why)
+    ],
+    λ h. elim h [
+      | inl cut ↦ inl cut
+      | inr (b, rest, is, why) ↦ inr (b, rest, is, (why_parts d t b left e).1 why)
+    ],
+  )
+
+  -- of a message that stood, or of a default one
+  stood_fault : (d : ℕ) (v : Option (Chain X)) (bs : List ℕ) (left : BudgetLeft) (e : DecodeError) →
+      MessageFault (chain_merged l k) (chain_cost l k) d (or_blank (blank_chain l k) v) bs left e ↔ MessageFault whole_merged (cost_of (chain_layout l k).need) d (or_blank (chain_layout l k).blank (option_map chain_parts v)) bs left e
+  stood_fault d v bs left e =
+      let Fault : Option (Chain X) × X → Type 0 = λ z. MessageFault whole_merged (cost_of (chain_layout l k).need) d z bs left e in
+      let is = fault_parts d (or_blank (blank_chain l k) v) bs left e in
+      ((λ h. subst Fault (stood_in_parts v) (is.0 h)), (λ h. is.1 (subst Fault (sym (stood_in_parts v)) h)))
+
+  pub one_refused_in_parts : (d : ℕ) (old : Option (Chain X)) (n : ℕ) (w : WireType) (bs : List ℕ) (left : BudgetLeft) (e : DecodeError) (new : Option (Chain X)) →
+      RefusesBoxed (blank_chain l k) (chain_merged l k) (chain_cost l k) d old n w bs left e new
+      ↔ RefusesBoxed (chain_layout l k).blank whole_merged (cost_of (chain_layout l k).need) d (option_map chain_parts old) n w bs left e (option_map chain_parts new)
+  one_refused_in_parts d old n w bs left e new =
+      let is = stood_fault d old bs left e in (
+        λ h. (
+          (
+            ((λ none. ap (option_map chain_parts) (h.0.0.0 (none_whole old none))), (λ none. ap (option_map chain_parts) (h.0.0.1 (none_whole new none)))),
+            ((λ other. ap (option_map chain_parts) (h.0.1.0 other)), (λ low. ap (option_map chain_parts) (h.0.1.1 low)), (λ no. ap (option_map chain_parts) (h.0.1.2 no))),
+            λ ne. elim (h.0.2 ne) [
+              | inl told ↦ inl told
+              | inr why ↦ inr (why.0, is.0 why.1)
+            ],
+          ),
+          λ full there. h.1 full (λ none. there (ap (option_map chain_parts) none)),
+        ),
+        λ h. (
+          (
+            ((λ none. none_whole new (h.0.0.0 (ap (option_map chain_parts) none))), (λ none. none_whole old (h.0.0.1 (ap (option_map chain_parts) none)))),
+            ((λ other. same_whole old new (h.0.1.0 other)), (λ low. same_whole old new (h.0.1.1 low)), (λ no. same_whole old new (h.0.1.2 no))),
+            λ ne. elim (h.0.2 ne) [
+              | inl told ↦ inl told
+              | inr why ↦ inr (why.0, is.1 why.1)
+            ],
+          ),
+          λ full there. h.1 full (λ none. there (none_whole old none)),
+        ),
+      )
 
   -- ---- written
   records_parts : (t : Chain X) → chain_records l k t ≡ (chain_layout l k).records (chain_parts t)

@@ -29,7 +29,7 @@ use Rattle.buffa_fields.specs.PairFacts.{part_taken}
 use Rattle.buffa_fields.specs.Framing.{cost_as, each_cost_as}
 use Rattle.buffa_fields.specs.InsideFacts.{delimited_alone}
 use Rattle.buffa_fields.specs.Nested.{or_blank, taken_behind, taken_there}
-use Rattle.buffa_fields.specs.Refusals.{LeavesUnless, RefusesThere}
+use Rattle.buffa_fields.specs.Refusals.{LeavesUnless, RefusesThere, TellsFaultOf}
 
 -- ---- a length and so many bytes
 -- they are a payload, where they are at the front
@@ -105,12 +105,43 @@ pub there : {X : Type 0} (blank : X) (takes : Taker X) (need : Need) (d n : ℕ)
 there blank takes need d n w old a new bs rest before after r is taken =
     part_taken takes need (taken_there blank takes) need d n w a old (λ x. Some x) (λ p. ap (λ z. option_map (λ x. Some x) (takes d z n w p)) (sym is)) (λ bs. refl) bs rest before after r new taken
 
+-- a field that goes into a message is refused
+module _ {X : Type 0} (blank : X) (wire : WireType) (There : List ℕ → Type 0) (Fault : ℕ → X → ℕ → List ℕ → BudgetLeft → DecodeError → Type 0) (d n : ℕ) (w : WireType) (bs : List ℕ) (before : BudgetLeft) (old : Option X) (stood new : X) where
+  -- what is said then, and what is told of the message that stood
+  abbrev Refuses : DecodeError → Option X → Type 0
+  Refuses e put = RefusesThere wire There (λ d old n bs left e. Fault d (or_blank blank old) n bs left e) d old n w bs before e put
+
+  abbrev Tells : DecodeError → Type 0
+  Tells e = TellsFaultOf wire (Fault d stood n bs before) n w e
+
+  tells_of : stood ≡ or_blank blank old → (e : DecodeError) → Tells e → TellsFaultOf wire (Fault d (or_blank blank old) n bs before) n w e
+  tells_of is e h = subst (λ x. TellsFaultOf wire (Fault d x n bs before) n w e) is h
+
+  -- it stood there, or none did
+  pub stood_refused : old ≡ Some stood → (e : DecodeError) → LeavesUnless wire There d stood n w bs e new → Tells e → Refuses e (Some new)
+  stood_refused was e k tells =
+      let put = λ (same : stood ≡ new). was ∙ ap (λ z. Some z) same in (
+        ((λ none. let two = sym was ∙ none in cc), (λ none. cc)),
+        ((λ other. put (k.0 other)), (λ low. put (k.1 low)), (λ no. put (k.2 no))),
+        tells_of (sym (ap (or_blank blank) was)) e tells,
+      )
+
+  pub none_refused : old ≡ None → stood ≡ blank → (e : DecodeError) → Tells e → Refuses e old
+  none_refused was fresh e tells = (
+    ((λ none. none), (λ none. none)),
+    ((λ _. refl), (λ _. refl), (λ _. refl)),
+    tells_of (fresh ∙ sym (ap (or_blank blank) was)) e tells,
+  )
+
 -- the answer where a field goes into a message
-module _ {X : Type 0} (blank : X) (takes : Taker X) (need : Need) (wire : WireType) (There : List ℕ → Type 0) (d n : ℕ) (w : WireType) (bs rest : List ℕ) (before after : BudgetLeft) (old : Option X) (stood new : X) (told : Result (Unit {0}) DecodeError) (Asks : Type 0) where
+module _ {X : Type 0} (blank : X) (takes : Taker X) (need : Need) (wire : WireType) (There : List ℕ → Type 0) (Fault : ℕ → X → ℕ → List ℕ → BudgetLeft → DecodeError → Type 0) (d n : ℕ) (w : WireType) (bs rest : List ℕ) (before after : BudgetLeft) (old : Option X) (stood new : X) (told : Result (Unit {0}) DecodeError) (Asks : Type 0) where
+  abbrev Told : DecodeError → Type 0
+  Told = Tells blank wire There Fault d n w bs before old stood new
+
   abbrev Answers : Result (Unit {0}) DecodeError → Option X → Type 0
   Answers r put =
       IsTaken (taken_there blank takes) need d old n w bs before r put after rest × FullOnlyIf r Asks
-      × ((e : DecodeError) → told ≡ Err e → (r ≡ Err e) × (old ≡ put) × (bs ≡ rest)) × ((e : DecodeError) → r ≡ Err e → RefusesThere wire There d old n w bs e put)
+      × ((e : DecodeError) → told ≡ Err e → (r ≡ Err e) × (old ≡ put) × (bs ≡ rest)) × ((e : DecodeError) → r ≡ Err e → Refuses blank wire There Fault d n w bs before old stood new e put)
 
   -- another wire type is told, the message as it was and the field unread
   abbrev Checks : Result (Unit {0}) DecodeError → Type 0
@@ -118,13 +149,13 @@ module _ {X : Type 0} (blank : X) (takes : Taker X) (need : Need) (wire : WireTy
 
   -- the message stood there
   pub took_there : (r : Result (Unit {0}) DecodeError) → old ≡ Some stood → IsTaken takes need d stood n w bs before r new after rest → FullOnlyIf r Asks → Checks r →
-      ((e : DecodeError) → r ≡ Err e → LeavesUnless wire There d stood n w bs e new) → Answers r (Some new)
-  took_there r was taken full wrong refused =
+      ((e : DecodeError) → r ≡ Err e → LeavesUnless wire There d stood n w bs e new) → ((e : DecodeError) → r ≡ Err e → Told e) → Answers r (Some new)
+  took_there r was taken full wrong refused tells =
       let put = λ (same : stood ≡ new). was ∙ ap (λ z. Some z) same in (
         there blank takes need d n w old stood new bs rest before after r (sym (ap (or_blank blank) was)) taken,
         full,
         λ e is. let k = wrong e is in (k.0, put k.1, k.2),
-        λ e bad. let k = refused e bad in ((λ none. let two = sym was ∙ none in cc), ((λ other. put (k.0 other)), (λ low. put (k.1 low)), (λ no. put (k.2 no)))),
+        λ e bad. stood_refused blank wire There Fault d n w bs before old stood new was e (refused e bad) (tells e bad),
       )
 
   -- none did
@@ -137,8 +168,9 @@ module _ {X : Type 0} (blank : X) (takes : Taker X) (need : Need) (wire : WireTy
     came_there taken wrong = (came (Ok tt) taken, tt, (λ e is. let k = (wrong e is).0 in cc), (λ e bad. cc))
 
     -- or refused it, and none does
-    pub none_came : (e : DecodeError) → IsTaken takes need d stood n w bs before (let r : Result (Unit {0}) DecodeError = Err e in r) new after rest → FullOnlyIf (let r : Result (Unit {0}) DecodeError = Err e in r) Asks → Checks (Err e) → Answers (Err e) old
-    none_came e taken full wrong = (came (Err e) taken, full, (λ f is. let k = wrong f is in (k.0, refl, k.2)), (λ f bad. ((λ none. none), ((λ _. refl), (λ _. refl), (λ _. refl)))))
+    pub none_came : (e : DecodeError) → IsTaken takes need d stood n w bs before (let r : Result (Unit {0}) DecodeError = Err e in r) new after rest → FullOnlyIf (let r : Result (Unit {0}) DecodeError = Err e in r) Asks → Checks (Err e) →
+        ((x : DecodeError) → (let r : Result (Unit {0}) DecodeError = Err e in r) ≡ Err x → Told x) → Answers (Err e) old
+    none_came e taken full wrong tells = (came (Err e) taken, full, (λ f is. let k = wrong f is in (k.0, refl, k.2)), (λ f bad. none_refused blank wire There Fault d n w bs before old stood new was fresh f (tells f bad)))
 
 -- ---- it goes behind the others
 pub put_behind : {X : Type 0} (blank : X) (takes : Taker X) (need : Need) (d n : ℕ) (w : WireType) (olds news : List X) (a new : X) (bs rest : List ℕ) (before after : BudgetLeft) (r : Result (Unit {0}) DecodeError) → a ≡ blank →

@@ -1,6 +1,7 @@
 -- How a field holds a message: as a length and so many bytes, or as a group.
 -- Source: the protobuf encoding guide, "Submessages" and "Groups".
 use Rattle.std.specs.Prelude.{◌≡◌, ◌≤◌, ℕ, suc, List, [], ◌∷◌, ◌++◌, length, Option, Some, None, if◌then◌else◌}
+use Rattle.buffa_bytes.specs.declared.error.DecodeError.{DecodeError}
 use Rattle.buffa_bytes.specs.declared.wire_type.WireType.{WireType}
 use Rattle.buffa_bytes.specs.Field.{Payload, SomeField}
 use Rattle.buffa_bytes.specs.Join.{Join}
@@ -51,6 +52,8 @@ pub record Frame : Type 1 where
   pub asks_new : Asks
   -- what has to be there for a message to be changed
   pub There : List ℕ → Type 0
+  -- at a depth and a budget, which faults a message may have that stands, in a field of a number, if these bytes follow the tag
+  pub Fault : {X : Type 0} → (ℕ → X → List ℕ → Option X) → (ℕ → List ℕ → BudgetLeft) → ℕ → X → ℕ → List ℕ → BudgetLeft → DecodeError → Type 0
   -- the record of a message by its encoding and its records; what stands before so many bytes of a message, and behind it
   pub datum : List ℕ → List (ℕ × Datum) → Datum
   pub head : ℕ → ℕ → List ℕ

@@ -4,13 +4,13 @@ use Rattle.buffa_bytes.specs.declared.wire_type.WireType.TheVariants.{EndGroup, 
 use Rattle.buffa_bytes.specs.Front.{delimited_at}
 use Rattle.buffa_bytes.specs.Values.{tag_encoding}
 use Rattle.buffa_bytes.specs.Varint.{varint_encoding}
-use Rattle.buffa_wire.specs.Message.{BeginsField, cost_in, cost_of_payload, merged_in}
+use Rattle.buffa_wire.specs.Message.{BeginsField, MessageFault, cost_in, cost_of_payload, merged_in}
 use Rattle.buffa_wire.specs.Parse.{Fits}
 use Rattle.buffa_wire.specs.Records.{bytes, group, records_of}
 use Rattle.buffa_fields.specs.Framing.{Frame}
 use Rattle.buffa_fields.specs.Groups.{GroupTakesMemory, group_body}
 use Rattle.buffa_fields.specs.Nested.{MessageTakesMemory, inside}
-use Rattle.buffa_fields.specs.Refusals.{IsDelimited}
+use Rattle.buffa_fields.specs.Refusals.{GroupFirstFault, IsDelimited}
 use Rattle.buffa_fields.specs.RepeatedGroups.{GroupsTakeMemory}
 use Rattle.buffa_fields.specs.RepeatedNested.{MessagesTakeMemory}
 
@@ -23,6 +23,7 @@ delimited = record {
   asks = MessageTakesMemory;
   asks_new = MessagesTakeMemory;
   There = IsDelimited;
+  Fault = λ merged cost d old n bs left e. MessageFault merged cost d old bs left e;
   datum = λ encoding rs. bytes encoding;
   head = λ n len. tag_encoding n LengthDelimited ++ varint_encoding len;
   tail = λ n. [];
@@ -38,6 +39,7 @@ grouped = record {
   asks = GroupTakesMemory;
   asks_new = GroupsTakeMemory;
   There = BeginsField;
+  Fault = λ merged cost d old n bs left e. GroupFirstFault d n bs e;
   datum = λ encoding rs. group (records_of rs);
   head = λ n len. tag_encoding n StartGroup;
   tail = λ n. tag_encoding n EndGroup;

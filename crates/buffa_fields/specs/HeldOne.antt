@@ -17,7 +17,7 @@ use Rattle.buffa_fields.specs.Held.{among, owing, through}
 use Rattle.buffa_fields.specs.Keep.{AllNumbers}
 use Rattle.buffa_fields.specs.Layout.{Layout, Shape, both_need, both_take, is_number}
 use Rattle.buffa_fields.specs.Nested.{FitsInside, message_cost, message_levels, message_merged, message_records, message_slots, taken_there}
-use Rattle.buffa_fields.specs.Refusals.{RefusesMessage, UnderAny}
+use Rattle.buffa_fields.specs.Refusals.{RefusesBoxed}
 use Rattle.buffa_fields.specs.RepeatedNested.{MessagesTakeMemory}
 use Rattle.buffa_fields.specs.Values.{IfThere}
 
@@ -85,7 +85,7 @@ module _ {M X : Type 0} (l : Layout M X) (k : ℕ) where
       blank = None;
       takes = taken_there blank_chain (message_merged merged);
       checks = λ n w. check_wire n LengthDelimited w;
-      refuses = UnderAny RefusesMessage;
+      refuses = RefusesBoxed blank_chain merged cost;
       asks = MessagesTakeMemory;
       need = message_cost cost;
       records = message_records chain_encoding;

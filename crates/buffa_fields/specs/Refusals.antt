@@ -1,19 +1,20 @@
 -- What stands of a member whose field was refused, and which fault was told. Source: the protobuf encoding guide, "Message Structure".
-use Rattle.std.specs.Prelude.{◌≡◌, ◌≢◌, ◌⊎◌, ◌↔◌, ℕ, List, ◌++◌, Option, None, Result, Ok, Err, IsOk}
+use Rattle.std.specs.Prelude.{◌≡◌, ◌≢◌, ◌⊎◌, ◌↔◌, ℕ, zero, suc, List, ◌++◌, Option, None, Result, Ok, Err, IsOk}
 use Rattle.buffa_bytes.specs.declared.error.DecodeError.{DecodeError}
-use Rattle.buffa_bytes.specs.declared.error.DecodeError.TheVariants.{OutOfMemory}
+use Rattle.buffa_bytes.specs.declared.error.DecodeError.TheVariants.{InvalidEndGroup, OutOfMemory, RecursionLimitExceeded}
 use Rattle.buffa_bytes.specs.declared.tag.Tag.{Tag}
 use Rattle.buffa_bytes.specs.declared.wire_type.WireType.{WireType}
-use Rattle.buffa_bytes.specs.declared.wire_type.WireType.TheVariants.{LengthDelimited, StartGroup}
-use Rattle.buffa_bytes.specs.Front.{check_wire, delimited_at}
+use Rattle.buffa_bytes.specs.declared.wire_type.WireType.TheVariants.{EndGroup, LengthDelimited, StartGroup}
+use Rattle.buffa_bytes.specs.Front.{check_wire, delimited_at, tag_at}
 use Rattle.buffa_wire.specs.BudgetLeft.{BudgetLeft}
-use Rattle.buffa_wire.specs.Message.{BeginsField, FieldRefused}
+use Rattle.buffa_wire.specs.Message.{BeginsField, FieldRefused, MessageFault}
 use Rattle.buffa_map.specs.Codec.{Reading}
 use Rattle.buffa_map.specs.Entry.{EntryFault}
 use Rattle.buffa_map.specs.Pairs.{means}
 use Rattle.buffa_fields.specs.Layout.{Shape}
 use Rattle.buffa_fields.specs.Values.{RefusesAlone}
 use Rattle.buffa_fields.specs.Lists.{element_at, elements_in}
+use Rattle.buffa_fields.specs.Nested.{MessageTakesMemory, or_blank}
 use denote.Ref.{Bor}
 
 -- What is said of a refused field: at a depth, of the value that stood, the number, the wire type, the bytes behind the tag, the
@@ -37,6 +38,11 @@ RefusesAs s refuses = RefusesUnder s (UnderAny refuses)
 -- a call that took the field whose tag was read, where it was refused
 abbrev pub RefusesTaggedField : {X T : Type 0} → Refusal X → Tag → ℕ → X → X → Bor (List ℕ) → Result T DecodeError → Type 0
 RefusesTaggedField refuses tag d old new before r = (e : DecodeError) → r ≡ Err e → refuses d old tag.number tag.wire_type before.now e new
+
+-- the same under the budget that was there
+abbrev pub RefusesTaggedUnder : {X T : Type 0} → FieldRefused X → Tag → ℕ → BudgetLeft → X → X → Bor (List ℕ) → Result T DecodeError → Type 0
+RefusesTaggedUnder refuses tag d left old new before r =
+    (e : DecodeError) → r ≡ Err e → refuses d old tag.number tag.wire_type before.now left e new
 
 -- A refused entry isn't put: the pairs are as they were. Unless memory ran out, the wire type is told, or the fault that the
 -- entry has under this budget: of its length, of the units left, or the first of its fields; any, where a message in it lacks some.
@@ -85,18 +91,40 @@ RefusesNew d old n w bs e new = old ≡ new
 abbrev pub LeavesUnless : {X : Type 0} → WireType → (List ℕ → Type 0) → Refusal X
 LeavesUnless wire There d old n w bs e new = (w ≢ wire → old ≡ new) × (d ≡ 0 → old ≡ new) × ((There bs → ⊥) → old ≡ new)
 
--- A refused message that wasn't there isn't there afterwards. One that was is as it was in these cases; in all others what stands in
--- it is its own affair.
-abbrev pub RefusesThere : {X : Type 0} → WireType → (List ℕ → Type 0) → Refusal (Option X)
-RefusesThere wire There d old n w bs e new = (old ≡ None → new ≡ None) × LeavesUnless wire There d old n w bs e new
+-- unless memory ran out, the fault that is told of a field is that of its wire type, or one that the message in it has
+abbrev pub TellsFaultOf : WireType → (DecodeError → Type 0) → ℕ → WireType → DecodeError → Type 0
+TellsFaultOf wire IsFault n w e = e ≢ OutOfMemory → (check_wire n wire w ≡ Err e) ⊎ ((w ≡ wire) × IsFault e)
 
--- a message: where no length and so many bytes are there
+-- the same of a call
+abbrev pub TellsTaggedFault : {T : Type 0} → WireType → (DecodeError → Type 0) → Tag → Result T DecodeError → Type 0
+TellsTaggedFault wire IsFault tag r = (e : DecodeError) → r ≡ Err e → TellsFaultOf wire IsFault tag.number tag.wire_type e
+
+-- A field that is refused neither puts a message there nor takes one away. One that was there is as it was in these cases, and in all
+-- others what stands in it is its own affair; and the fault is told.
+abbrev pub RefusesThere : {X : Type 0} → WireType → (List ℕ → Type 0) → (ℕ → Option X → ℕ → List ℕ → BudgetLeft → DecodeError → Type 0) → FieldRefused (Option X)
+RefusesThere wire There Fault d old n w bs left e new =
+    ((old ≡ None) ↔ (new ≡ None)) × LeavesUnless wire There d old n w bs e new × TellsFaultOf wire (Fault d old n bs left) n w e
+
+-- a message: where no length and so many bytes are there; its faults are those of the message that stands, or of a default one
 abbrev pub IsDelimited : List ℕ → Type 0
 IsDelimited bs = IsOk (delimited_at bs)
 
-abbrev pub RefusesMessage : {X : Type 0} → Refusal (Option X)
-RefusesMessage = RefusesThere LengthDelimited IsDelimited
+abbrev pub RefusesMessage : {X : Type 0} → X → (ℕ → X → List ℕ → Option X) → (ℕ → List ℕ → BudgetLeft) → FieldRefused (Option X)
+RefusesMessage blank merged cost =
+    RefusesThere LengthDelimited IsDelimited (λ d old n bs left e. MessageFault merged cost d (or_blank blank old) bs left e)
+
+-- The same of a message in a box. To put one there takes memory; where one stands, memory runs out only for the bytes of a message.
+abbrev pub RefusesBoxed : {X : Type 0} → X → (ℕ → X → List ℕ → Option X) → (ℕ → List ℕ → BudgetLeft) → FieldRefused (Option X)
+RefusesBoxed blank merged cost d old n w bs left e new =
+    RefusesMessage blank merged cost d old n w bs left e new × (e ≡ OutOfMemory → old ≢ None → MessageTakesMemory d n w bs)
+
+-- Why a group isn't merged, as far as it is told whatever its messages are: no level is left; no tag is there; or an end tag of another
+-- group is. Where a field begins it, that may be any.
+abbrev pub GroupFirstFault : ℕ → ℕ → List ℕ → DecodeError → Type 0
+GroupFirstFault zero n bs e = e ≡ RecursionLimitExceeded
+GroupFirstFault (suc d) n bs e =
+    BeginsField bs ⊎ (tag_at bs ≡ Err e) ⊎ ((m : ℕ) × (rest : List ℕ) × (tag_at bs ≡ Ok (m, EndGroup, rest)) × (m ≢ n) × (e ≡ InvalidEndGroup m))
 
 -- a group: where no field begins it
-abbrev pub RefusesGroup : {X : Type 0} → Refusal (Option X)
-RefusesGroup = RefusesThere StartGroup BeginsField
+abbrev pub RefusesGroup : {X : Type 0} → FieldRefused (Option X)
+RefusesGroup = RefusesThere StartGroup BeginsField (λ d old n bs left e. GroupFirstFault d n bs e)

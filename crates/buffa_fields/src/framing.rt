@@ -1,9 +1,10 @@
 //! How fields hold messages: as a length and so many bytes, or as a group.
 
-ghost use Rattle.std.specs.Prelude.{◌≡◌, ◌∷◌, [], ℕ, List, length};
+ghost use Rattle.std.specs.Prelude.{◌≡◌, ◌≢◌, ◌∷◌, [], ℕ, List, IfErr, length};
 ghost use Rattle.buffa_bytes.specs.Gives.{FullOnlyIf};
 ghost use Rattle.buffa_bytes.specs.Number.{IsNumber};
 ghost use Rattle.buffa_bytes.specs.Written.{Writes};
+ghost use Rattle.buffa_bytes.specs.declared.error.DecodeError.TheVariants.{OutOfMemory};
 ghost use Rattle.buffa_wire.specs.Encoding.{records_encoding};
 ghost use Rattle.buffa_wire.specs.Passes.{cap};
 ghost use Rattle.buffa_wire.specs.Records.{Datum};
@@ -74,7 +75,7 @@ pub trait Framing {
     /// Merges the message of a field, whose tag of that number and of the framing's wire type was read.
     ///
     /// # Errors
-    /// Those of the bytes and of [`Message::merge_field`]. The message is as it was where no level is left, and where
+    /// Those of the bytes and of [`Message::merge_field`], as `Fault` of `frame` says. The message is as it was where no level is left, and where
     /// what has to be there isn't (`There` of `frame`): a length and so many bytes, or the tag of a group's first
     /// field.
     ///
@@ -90,6 +91,8 @@ pub trait Framing {
     ) -> Result<(), DecodeError>
         ensures taken { MergesFramed frame number ctx.entry ctx.exit message.old message.new buf.old buf.new result N.merged
             N.cost N.meaning }
+        ensures fault { IfErr result (λ e. e ≢ OutOfMemory → frame.Fault N.merged N.cost ctx.entry.depth
+            (N.meaning message.old) number buf.old.now ctx.entry.budget.now e) }
         ensures full { FullOnlyIf result (frame.asks ctx.entry.depth number frame.wire buf.old.now) }
         ensures level { ctx.entry.depth ≡ 0 → N.meaning message.old ≡ N.meaning message.new }
         ensures stays { (frame.There buf.old.now → ⊥) → N.meaning message.old ≡ N.meaning message.new };

@@ -77,8 +77,8 @@ impl Framing for Grouped {
     }
 }
 
-/// A message that may be absent, as a group. What is read is merged into the message that is there. Where none is
-/// there and a field is refused, none is there afterwards.
+/// A message that may be absent, as a group. What is read is merged into the message that is there, or into a default
+/// one. A refused field neither puts a message there nor takes one away.
 ///
 /// ```ignore
 /// visitor.visit::<Group<Inventory>>(2, &self.stock); // optional group Stock = 2 { .. }

@@ -1,10 +1,11 @@
 //! Messages that hold a list of themselves. `held_map.rt` has those that hold a map of themselves, and `held_one.rt` those
 //! that may hold one message of themselves.
 //!
-//! The author writes an impl of [`Holds`] for the other members, and the message is a [`Nest`] of these. A message
-//! inside is sized, written and merged by `size_nest`, `write_nest` and `merge_nest`. Each of them comes to itself
-//! again, a level down, through the functions beside it. The list is a member of the member type [`Inside`]. So a
-//! [`Nest`] has [`Fields`], as each message from its fields.
+//! The author writes an impl of [`Holds`] for the other members, and the message is a [`Nest`] of these. The list is a
+//! member of the member type [`Inside`]. So a [`Nest`] has [`Fields`], and the outermost message is sized, written and
+//! merged as each message from its fields is. A message inside it, and each one further down, is sized, written and
+//! merged by `size_nest`, `write_nest` and `merge_nest`. Each of these three functions comes to itself again, a level
+//! down, through the functions beside it.
 
 ghost use Rattle.std.specs.Prelude.{◌≡◌, ◌≢◌, ◌<◌, ◌∷◌, ◌&&◌, [], ℕ, List, IfErr, IsOk, OnErr, OnOk, length, map, not, refl, true};
 ghost use Rattle.std.specs.List.{AllByRecursion};
@@ -33,7 +34,7 @@ use crate::meaning::And;
 use crate::member::Member;
 use crate::message::{Listed, Listing};
 use crate::nested::{record_len, write_head};
-use crate::own_passes::{size_behind, size_front, write_behind, write_front};
+use crate::own_passes::{OfOwn, size_behind, size_front, write_behind, write_front};
 use crate::visitor::Visitor;
 use buffa_wire::{
     Blank, Budget, Buf, DecodeContext, DecodeError, EncodeError, EncodeSink, Formed, SizeCache,
@@ -141,7 +142,8 @@ pub trait Holds: Drop {
         ensures { MemberTakes tag ctx.entry ctx.exit self.old self.new buf.old buf.new result layout };
 }
 
-/// A message that holds a list of itself: what it has of its own, and the messages inside it.
+/// A message that holds a list of itself: what it has of its own, and the messages inside it. The list has the number
+/// [`Holds::NUMBER`].
 ///
 /// ```ignore
 /// pub type Branch = Nest<BranchOwn>;
@@ -216,9 +218,9 @@ fn size_nest<O: Holds>(kid: &Nest<O>, cache: &mut SizeCache) -> Result<u32, Enco
         IsSized (nest_encoding O.layout O.NUMBER O.COST v) (nest_slots O.layout O.NUMBER O.COST v) cache.old result
         cache.new }
 {
-    let front = size_front(&kid.own, cache)?;
+    let front = size_front::<OfOwn, O>(&kid.own, cache)?;
     let below = kids_len(O::NUMBER, kid.inside.as_slice(), cache)?;
-    let behind = size_behind(&kid.own, cache)?;
+    let behind = size_behind::<OfOwn, O>(&kid.own, cache)?;
     Ok(front.saturating_add(below.saturating_add(behind)))
 }
 
@@ -278,9 +280,9 @@ fn write_nest<O: Holds, S: EncodeSink>(
         IsWritten (nest_encoding O.layout O.NUMBER O.COST v) (nest_slots O.layout O.NUMBER O.COST v) cache.old
         (S.written sink.old) result cache.new (S.written sink.new) }
 {
-    write_front(&kid.own, cache, sink)?;
+    write_front::<OfOwn, O, S>(&kid.own, cache, sink)?;
     write_kids(O::NUMBER, kid.inside.as_slice(), cache, sink)?;
-    write_behind(&kid.own, cache, sink)
+    write_behind::<OfOwn, O, S>(&kid.own, cache, sink)
 }
 
 // ---- merging

@@ -17,15 +17,17 @@ ghost use Rattle.buffa_fields.specs.Nests.{inside_of, nest_list, nest_means, nes
 ghost use Rattle.buffa_fields.specs.Pinned.{ListOrOwn, TakeAlike, meaning_so};
 ghost use Rattle.buffa_fields.specs.Refusals.{RefusesAs, RefusesNew};
 ghost use Rattle.buffa_fields.specs.RepeatedNested.{MessagesTakeMemory, messages_cost, messages_levels, messages_records, messages_slots, messages_taken};
+ghost use Rattle.buffa_fields.specs.Stands.{IsMemberRefused};
 
 use crate::fields::Fields;
 use crate::held::{Holds, Inside, Nest};
 use crate::keeping::Keeping;
 use crate::member::Member;
-use buffa_wire::{Blank, MessageSpec, WireType};
+use buffa_wire::{Blank, Formed, MessageForm, MessageSpec, WireType};
 
-/// The list in which a message holds itself is a list of messages, as `lists_of_messages_are_these` says it of any: of the
-/// messages that `Nest<O>` is. A value of the list has a nest for each, whose parts are what the message means.
+/// A list of themselves (`Inside<O>`) is a list of messages of the type `Nest<O>`. What `lists_of_messages_are_these` says of
+/// each list of messages holds of it. A value of the list has a nest for each message, and the parts of a nest are what the
+/// message means.
 pub fn lists_of_themselves_are_these<O: Holds>()
     ensures meaning { (p : _) → map parts_of (⟦<Inside<O> as Member>⟧.shape.meaning p)
         ≡ map ⟦<Nest<O> as Blank>⟧.meaning p.items }
@@ -90,6 +92,24 @@ pub fn messages_that_hold_themselves_are_these<O: Holds>()
     ensures owes { ⟦<Nest<O> as Fields>⟧.layout.Owes
         ↔ (((is_number O.NUMBER && not (O.layout.declares O.NUMBER)) ≡ true) × O.layout.Owes) }
     ensures units { ⟦<Nest<O> as Fields>⟧.COST ≡ O.COST }
+{}
+
+/// A message that holds a list of itself has the form `Listed`: it is read and written by its members. So it is what `messages_are_these`
+/// says of each message from its fields: what it costs in a list, what a field makes of it and costs, which values read
+/// back, where its size pass runs out of no memory, what becomes of a field that it takes, and what a refused one leaves.
+pub fn messages_that_hold_themselves_are_listed<O: Holds>()
+    ensures units { ⟦<Nest<O> as MessageSpec>⟧.COST ≡ O.COST }
+    ensures takes { (⟦<Nest<O> as MessageSpec>⟧.takes ≡ ⟦<Nest<O> as Fields>⟧.layout.takes)
+        × (⟦<Nest<O> as MessageSpec>⟧.need ≡ ⟦<Nest<O> as Fields>⟧.layout.need) }
+    ensures normal { (v : _) → ⟦<Nest<O> as MessageSpec>⟧.normal v
+        ↔ (⟦<Nest<O> as Fields>⟧.layout.Owes × ⟦<Nest<O> as Fields>⟧.layout.normal v) }
+    ensures sure { (v : _) → ⟦<<Nest<O> as Formed>::Form as MessageForm<Nest<O>>>⟧.sure v
+        ↔ (⟦<Nest<O> as Fields>⟧.layout.slots v ≡ []) }
+    ensures taken { TakeAlike ⟦<<Nest<O> as Formed>::Form as MessageForm<Nest<O>>>⟧.Taken
+        ⟦<Nest<O> as Fields>⟧.layout.Taken }
+    ensures refused { (d : ℕ) (v : _) (n : ℕ) (w : _) (bs : List ℕ) (l : _) (e : _) (u : _) →
+        ⟦<Nest<O> as MessageSpec>⟧.Refused d v n w bs l e u
+        ↔ IsMemberRefused ⟦<Nest<O> as Fields>⟧.layout d v n w bs l e u }
 {}
 
 /// The same in the words of the message alone, field by field, where `merging_is_by_fields` and `costs_add` say the rest. A field of the

@@ -37,8 +37,8 @@ use buffa_map::map_codec::MapCodec;
 use buffa_wire::{Blank, MessageSpec, WireType};
 use std::collections::BTreeMap;
 
-/// The map in which a message holds itself is a map of messages in the order of its keys, as
-/// `ordered_maps_of_messages_are_these` says it of any: of the messages that `MapNest<KC, K, O>` is.
+/// A map of themselves (`MapInside<KC, K, O>`) is a map of messages of the type `MapNest<KC, K, O>`, in the order of its
+/// keys. What `ordered_maps_of_messages_are_these` says of each such map holds of it.
 pub fn maps_of_themselves_are_these<KC: MapCodec<Value = K>, K: OrderedKey, O: Holds>()
     ensures meaning { (p : _) → ⟦<MapInside<KC, K, O> as Member>⟧.shape.meaning p
         ≡ means K.meaning ⟦<MapNest<KC, K, O> as Blank>⟧.meaning p.entries }

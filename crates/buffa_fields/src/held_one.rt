@@ -1,12 +1,13 @@
 //! Messages that may hold one message of themselves. `held.rt` has those that hold a list of themselves, and `held_map.rt`
 //! those that hold a map.
 //!
-//! The author writes an impl of [`Holds`] for the other members, and the message is a [`Chain`] of these. It is sized,
-//! written and merged by `size_chain`, `write_chain` and `merge_chain`. Each of them comes to itself again, a level down,
-//! through the functions beside it. The message inside is a member of the member type [`ChainInside`]. So a [`Chain`]
-//! has [`Fields`], as each message from its fields.
+//! The author writes an impl of [`Holds`] for the other members, and the message is a [`Chain`] of these. The message
+//! inside is a member of the member type [`ChainInside`]. So a [`Chain`] has [`Fields`], and the outermost message is
+//! sized, written and merged as each message from its fields is. The message inside it, and each one further down, is
+//! sized, written and merged by `size_chain`, `write_chain` and `merge_chain`. Each of these three functions comes to
+//! itself again, a level down, through the functions beside it.
 
-ghost use Rattle.std.specs.Prelude.{◌≡◌, ◌≢◌, ◌<◌, ◌∷◌, [], ℕ, List, IfErr, IsOk, OnErr, OnOk, length, refl};
+ghost use Rattle.std.specs.Prelude.{◌≡◌, ◌≢◌, ◌<◌, ◌∷◌, [], ℕ, List, IfErr, IsOk, Ok, OnErr, OnOk, length, refl};
 ghost use Rattle.std.specs.Option.{option_map};
 ghost use Rattle.buffa_bytes.specs.Front.{delimited_at};
 ghost use Rattle.buffa_bytes.specs.Gives.{FullOnlyIf, Gives};
@@ -23,8 +24,8 @@ ghost use Rattle.buffa_fields.specs.Chains.{chain_means};
 ghost use Rattle.buffa_fields.specs.HeldOne.{blank_chain, chain_cost, chain_encoding, chain_layout, chain_merged, chain_slots, one_shape};
 ghost use Rattle.buffa_fields.specs.HeldOneFacts.{held_one_back};
 ghost use Rattle.buffa_fields.specs.MemberCalls.{WritesMessage};
-ghost use Rattle.buffa_fields.specs.Nested.{message_cost, message_merged, message_records, message_slots, taken_there};
-ghost use Rattle.buffa_fields.specs.Refusals.{IsDelimited, LeavesUnless, RefusesMessage, RefusesTaggedField};
+ghost use Rattle.buffa_fields.specs.Nested.{MessageTakesMemory, message_cost, message_merged, message_records, message_slots, taken_there};
+ghost use Rattle.buffa_fields.specs.Refusals.{IsDelimited, LeavesUnless, RefusesBoxed, RefusesTaggedField, RefusesTaggedUnder, TellsTaggedFault};
 ghost use Rattle.buffa_fields.specs.RepeatedNested.{MessagesTakeMemory};
 
 use crate::fields::Fields;
@@ -34,7 +35,7 @@ use crate::meaning::And;
 use crate::member::Member;
 use crate::message::{Listed, Listing};
 use crate::nested::Delimited;
-use crate::own_passes::{size_behind, size_front, write_behind, write_front};
+use crate::own_passes::{OfOwn, size_behind, size_front, write_behind, write_front};
 use crate::visitor::Visitor;
 use buffa_wire::{
     Blank, Budget, Buf, DecodeContext, DecodeError, EncodeError, EncodeSink, Formed, SizeCache,
@@ -117,9 +118,9 @@ fn size_chain<O: Holds>(kid: &Chain<O>, cache: &mut SizeCache) -> Result<u32, En
     ensures { let v = chain_means O.layout.meaning kid.now in
         IsSized (chain_encoding O.layout O.NUMBER v) (chain_slots O.layout O.NUMBER v) cache.old result cache.new }
 {
-    let front = size_front(&kid.own, cache)?;
+    let front = size_front::<OfOwn, O>(&kid.own, cache)?;
     let below = inside_len(O::NUMBER, &kid.inside, cache)?;
-    let behind = size_behind(&kid.own, cache)?;
+    let behind = size_behind::<OfOwn, O>(&kid.own, cache)?;
     Ok(front.saturating_add(below.saturating_add(behind)))
 }
 
@@ -179,9 +180,9 @@ fn write_chain<O: Holds, S: EncodeSink>(
         IsWritten (chain_encoding O.layout O.NUMBER v) (chain_slots O.layout O.NUMBER v) cache.old
         (S.written sink.old) result cache.new (S.written sink.new) }
 {
-    write_front(&kid.own, cache, sink)?;
+    write_front::<OfOwn, O, S>(&kid.own, cache, sink)?;
     write_inside(O::NUMBER, &kid.inside, cache, sink)?;
-    write_behind(&kid.own, cache, sink)
+    write_behind::<OfOwn, O, S>(&kid.own, cache, sink)
 }
 
 // ---- merging
@@ -214,6 +215,7 @@ fn merge_one<O: Holds>(
     ensures spent { OnErr result (PaysAtMost budget.old
         (cost_of_payload (chain_cost O.layout O.NUMBER) depth (delimited_at buf.old.now)) budget.new) }
     ensures full { FullOnlyIf result ((0 < depth) × IsOk (delimited_at buf.old.now)) }
+    ensures free { (rest : List ℕ) → 0 < depth → delimited_at buf.old.now ≡ Ok ([], rest) → IsOk result }
     ensures level { depth ≡ 0 → chain_means O.layout.meaning kid.old ≡ chain_means O.layout.meaning kid.new }
     ensures outside { (IsDelimited buf.old.now → ⊥) →
         chain_means O.layout.meaning kid.old ≡ chain_means O.layout.meaning kid.new }
@@ -238,11 +240,13 @@ fn take_standing<O: Holds>(
     ensures taken { IsTaken (message_merged (chain_merged O.layout O.NUMBER))
         (message_cost (chain_cost O.layout O.NUMBER)) depth (chain_means O.layout.meaning kid.old) tag.number
         tag.wire_type buf.old.now budget.old result (chain_means O.layout.meaning kid.new) budget.new buf.new.now }
-    ensures full { FullOnlyIf result (MessagesTakeMemory depth tag.number tag.wire_type buf.old.now) }
+    ensures full { FullOnlyIf result (MessageTakesMemory depth tag.number tag.wire_type buf.old.now) }
     ensures wire { ChecksWire tag WireType.LengthDelimited result (chain_means O.layout.meaning kid.old)
         (chain_means O.layout.meaning kid.new) buf.old buf.new }
     ensures refused { RefusesTaggedField (LeavesUnless WireType.LengthDelimited IsDelimited) tag depth
         (chain_means O.layout.meaning kid.old) (chain_means O.layout.meaning kid.new) buf.old result }
+    ensures fault { TellsTaggedFault WireType.LengthDelimited (MessageFault (chain_merged O.layout O.NUMBER)
+        (chain_cost O.layout O.NUMBER) depth (chain_means O.layout.meaning kid.old) buf.old.now budget.old) tag result }
 {
     check_wire_type(tag, WireType::LengthDelimited)?;
     merge_one(alloc, kid, buf, depth, budget)
@@ -269,7 +273,8 @@ fn take_inside<O: Holds>(
     ensures wire { ChecksWire tag WireType.LengthDelimited result
         (option_map (chain_means O.layout.meaning) (option_map (λ b. b.value) inside.old))
         (option_map (chain_means O.layout.meaning) (option_map (λ b. b.value) inside.new)) buf.old buf.new }
-    ensures refused { RefusesTaggedField RefusesMessage tag depth
+    ensures refused { RefusesTaggedUnder (RefusesBoxed (blank_chain O.layout O.NUMBER)
+        (chain_merged O.layout O.NUMBER) (chain_cost O.layout O.NUMBER)) tag depth budget.old
         (option_map (chain_means O.layout.meaning) (option_map (λ b. b.value) inside.old))
         (option_map (chain_means O.layout.meaning) (option_map (λ b. b.value) inside.new)) buf.old result }
 {
@@ -317,9 +322,10 @@ fn merge_chain<O: Holds>(
     depth: u32,
     budget: &mut Budget,
 ) -> Result<(), DecodeError>
-    ensures { MergesBytes (chain_merged O.layout O.NUMBER) (chain_cost O.layout O.NUMBER) depth
+    ensures merged { MergesBytes (chain_merged O.layout O.NUMBER) (chain_cost O.layout O.NUMBER) depth
         (chain_means O.layout.meaning message.old) bytes.now budget.old result
         (chain_means O.layout.meaning message.new) budget.new }
+    ensures free { bytes.now ≡ [] → IsOk result }
 {
     let mut rest = bytes;
     'fields: while rest.remaining() > 0 {

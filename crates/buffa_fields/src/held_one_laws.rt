@@ -1,6 +1,6 @@
 //! What a message that may hold one message of itself is.
 
-ghost use Rattle.std.specs.Prelude.{◌≡◌, ◌≢◌, ◌↔◌, ◌==◌, ◌&&◌, ◌||◌, ℕ, List, ◌++◌, None, Some, length, max, not, true};
+ghost use Rattle.std.specs.Prelude.{◌≡◌, ◌≢◌, ◌↔◌, ◌==◌, ◌&&◌, ◌||◌, ℕ, List, [], ◌++◌, None, Some, length, max, not, true};
 ghost use Rattle.std.specs.Option.{option_map};
 ghost use Rattle.buffa_bytes.specs.Field.{IsTag, Payload};
 ghost use Rattle.buffa_bytes.specs.Front.{check_wire};
@@ -15,18 +15,20 @@ ghost use Rattle.buffa_fields.specs.Levels.{AreExactLevels};
 ghost use Rattle.buffa_fields.specs.Nested.{FitsInside, message_cost, message_levels, message_merged, message_records, message_slots, or_blank, taken_there};
 ghost use Rattle.buffa_fields.specs.OnePinned.{OneOrOwn};
 ghost use Rattle.buffa_fields.specs.Pinned.{TakeAlike, meaning_so};
-ghost use Rattle.buffa_fields.specs.Refusals.{RefusesAs, RefusesMessage};
+ghost use Rattle.buffa_fields.specs.Refusals.{RefusesBoxed};
 ghost use Rattle.buffa_fields.specs.RepeatedNested.{MessagesTakeMemory};
+ghost use Rattle.buffa_fields.specs.Stands.{IsMemberRefused};
 ghost use Rattle.buffa_fields.specs.Values.{IfThere, some_records};
 
 use crate::fields::Fields;
 use crate::held::Holds;
 use crate::held_one::{Chain, ChainInside};
 use crate::member::Member;
-use buffa_wire::{Blank, MessageSpec, WireType};
+use buffa_wire::{Blank, Formed, MessageForm, MessageSpec, WireType};
 
-/// The message inside, in which a message holds itself, is a message that may be absent, as `nested_members_are_these`
-/// says it of any: of the messages that `Chain<O>` is. It takes memory to put one there, even an empty one.
+/// A message inside of its own type (`ChainInside<O>`) is a message of the type `Chain<O>` that may be absent. What
+/// `nested_members_are_these` says of each message that may be absent holds of it, except for where memory runs out: it
+/// takes memory to put a message there, even an empty one.
 pub fn messages_inside_themselves_are_these<O: Holds>()
     ensures meaning { (p : _) → option_map chain_parts (⟦<ChainInside<O> as Member>⟧.shape.meaning p)
         ≡ option_map ⟦<Chain<O> as Blank>⟧.meaning (option_map (λ b. b.value) p) }
@@ -39,7 +41,10 @@ pub fn messages_inside_themselves_are_these<O: Holds>()
         ≡ check_wire n WireType.LengthDelimited w }
     ensures asks { (d n : ℕ) (w : _) (bs : List ℕ) → ⟦<ChainInside<O> as Member>⟧.shape.asks d n w bs
         ↔ (MessagesTakeMemory d n w bs) }
-    ensures refuses { RefusesAs ⟦<ChainInside<O> as Member>⟧.shape RefusesMessage }
+    ensures refuses { (d : ℕ) (v : _) (n : ℕ) (w : _) (bs : List ℕ) (l : _) (e : _) (u : _) →
+        ⟦<ChainInside<O> as Member>⟧.shape.refuses d v n w bs l e u
+        ↔ RefusesBoxed ⟦<Chain<O> as Blank>⟧.blank_is ⟦<Chain<O> as MessageSpec>⟧.merged ⟦<Chain<O> as MessageSpec>⟧.cost d
+        (option_map chain_parts v) n w bs l e (option_map chain_parts u) }
     ensures need { (d n : ℕ) (w : _) (bs : List ℕ) → ⟦<ChainInside<O> as Member>⟧.shape.need d n w bs
         ≡ message_cost ⟦<Chain<O> as MessageSpec>⟧.cost d n w bs }
     ensures records { (n : ℕ) (v : _) → ⟦<ChainInside<O> as Member>⟧.shape.records n v
@@ -92,6 +97,24 @@ pub fn messages_that_hold_one_of_themselves_are_these<O: Holds>()
     ensures owes { ⟦<Chain<O> as Fields>⟧.layout.Owes
         ↔ (((is_number O.NUMBER && not (O.layout.declares O.NUMBER)) ≡ true) × O.layout.Owes) }
     ensures units { ⟦<Chain<O> as Fields>⟧.COST ≡ O.COST }
+{}
+
+/// A message that may hold one message of itself has the form `Listed`: it is read and written by its members. So it is what `messages_are_these`
+/// says of each message from its fields: what it costs in a list, what a field makes of it and costs, which values read
+/// back, where its size pass runs out of no memory, what becomes of a field that it takes, and what a refused one leaves.
+pub fn messages_that_hold_one_of_themselves_are_listed<O: Holds>()
+    ensures units { ⟦<Chain<O> as MessageSpec>⟧.COST ≡ O.COST }
+    ensures takes { (⟦<Chain<O> as MessageSpec>⟧.takes ≡ ⟦<Chain<O> as Fields>⟧.layout.takes)
+        × (⟦<Chain<O> as MessageSpec>⟧.need ≡ ⟦<Chain<O> as Fields>⟧.layout.need) }
+    ensures normal { (v : _) → ⟦<Chain<O> as MessageSpec>⟧.normal v
+        ↔ (⟦<Chain<O> as Fields>⟧.layout.Owes × ⟦<Chain<O> as Fields>⟧.layout.normal v) }
+    ensures sure { (v : _) → ⟦<<Chain<O> as Formed>::Form as MessageForm<Chain<O>>>⟧.sure v
+        ↔ (⟦<Chain<O> as Fields>⟧.layout.slots v ≡ []) }
+    ensures taken { TakeAlike ⟦<<Chain<O> as Formed>::Form as MessageForm<Chain<O>>>⟧.Taken
+        ⟦<Chain<O> as Fields>⟧.layout.Taken }
+    ensures refused { (d : ℕ) (v : _) (n : ℕ) (w : _) (bs : List ℕ) (l : _) (e : _) (u : _) →
+        ⟦<Chain<O> as MessageSpec>⟧.Refused d v n w bs l e u
+        ↔ IsMemberRefused ⟦<Chain<O> as Fields>⟧.layout d v n w bs l e u }
 {}
 
 /// What each field makes of a message that may hold one message of itself, and what it costs, in the words of the

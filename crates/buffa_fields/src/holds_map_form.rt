@@ -5,13 +5,12 @@
 //! message. What a message is read and written as is what its nest is: the words of [`MapNest`](crate::held_map::MapNest), at
 //! the other members of the struct.
 
-ghost use Rattle.std.specs.Prelude.{◌≡◌, ◌≢◌, ◌+◌, IfErr, IsOk, OnErr, [], refl};
+ghost use Rattle.std.specs.Prelude.{◌≡◌, ◌≢◌, ◌+◌, IfErr, IsOk, OnErr, []};
 ghost use Rattle.std.specs.BTreeMap.{insert_entry};
 ghost use Rattle.std.proofs.Common.{ap, sym, ◌∙◌};
 ghost use Rattle.buffa_bytes.specs.Gives.{FullOnlyIf};
 ghost use Rattle.buffa_bytes.specs.Number.{IsNumber};
 ghost use Rattle.buffa_wire.specs.BudgetLeft.{budget_left};
-ghost use Rattle.buffa_wire.specs.Encoding.{records_encoding};
 ghost use Rattle.buffa_wire.specs.Message.{MergesBytes, MergesField, TakesMessageField};
 ghost use Rattle.buffa_wire.specs.Passes.{IsNext, IsSized, IsWritten};
 ghost use Rattle.buffa_wire.specs.Takes.{IsTaken};
@@ -22,18 +21,17 @@ ghost use Rattle.buffa_fields.specs.MapFields.{PairTakesMemory, pair_cost, pair_
 ghost use Rattle.buffa_fields.specs.MemberCalls.{SizesPairs, WritesPairs};
 ghost use Rattle.buffa_fields.specs.NestedMaps.{pair_slots};
 ghost use Rattle.buffa_fields.specs.Refusals.{RefusesPairIn};
-ghost use Rattle.buffa_fields.specs.HeldMap.{IsNormalMapNest, kids_needed_at, blank_map_nest, keys_by, message_refused, message_takes, map_nest_cost, map_nest_encoding, map_nest_layout, map_nest_levels, map_nest_merged, map_nest_records, map_nest_slots};
+ghost use Rattle.buffa_fields.specs.HeldMap.{IsNormalMapNest, kids_needed_at, keys_by, message_refused, message_takes, map_nest_cost, map_nest_encoding, map_nest_layout, map_nest_levels, map_nest_merged, map_nest_records, map_nest_slots};
 ghost use Rattle.buffa_fields.specs.HeldMapFacts.{codec_reads_back, map_nest_back, map_nest_cost_is};
 ghost use Rattle.buffa_fields.specs.HeldMessageFacts.{message_merged_is, message_need_stays};
 ghost use Rattle.buffa_fields.specs.NamedMaps.{nest_taken};
 
 use crate::holds_map::{Held, HoldingMap, HoldsMap};
-use crate::holds_map_sides::{size_behind, size_front, write_behind, write_front};
+use crate::own_passes::{OfMessage, size_behind, size_front, write_behind, write_front};
 use crate::pairs_by::{pairs_len_by, take_pair_by, write_pairs_by};
-use buffa_map::map_codec::MapValueDecode;
 use buffa_wire::{
-    Blank, Budget, Buf, DecodeContext, DecodeError, EncodeError, EncodeSink, MessageForm,
-    MessageMeaning, SizeCache, Tag, WireType,
+    Budget, Buf, DecodeContext, DecodeError, EncodeError, EncodeSink, MessageForm, MessageMeaning,
+    SizeCache, Tag, WireType,
 };
 use std::alloc::Global;
 use std::collections::BTreeMap;
@@ -85,7 +83,7 @@ impl<M: HoldingMap> MessageMeaning<M> for Held {
 // The length of the entries of the messages in the map, or 2^32 - 1 where it is more. The slots of each are appended to the
 // cache.
 #[cycle(named_sizes)]
-fn kids_len<M: HoldingMap>(
+pub(crate) fn kids_len<M: HoldingMap>(
     number: u32,
     kids: &BTreeMap<M::Key, M>,
     cache: &mut SizeCache,
@@ -117,9 +115,9 @@ fn size_self<M: HoldingMap>(message: &M, cache: &mut SizeCache) -> Result<u32, E
     ensures always { let keys = keys_by M.KeyCodec.reading M.KeyCodec.writing M.KeyCodec.COST M.Key.order M.KeyCodec.fits M.KeyCodec.normal in
         map_nest_slots keys M.own M.NUMBER M.HoldsMap.COST (M.meaning message.now) ≡ [] → IsOk result }
 {
-    let front = size_front(message, cache)?;
+    let front = size_front::<OfMessage, M>(message, cache)?;
     let below = kids_len::<M>(M::NUMBER, message.inside(), cache)?;
-    let behind = size_behind(message, cache)?;
+    let behind = size_behind::<OfMessage, M>(message, cache)?;
     Ok(front.saturating_add(below.saturating_add(behind)))
 }
 
@@ -127,7 +125,7 @@ fn size_self<M: HoldingMap>(message: &M, cache: &mut SizeCache) -> Result<u32, E
 
 // Writes an entry for each message in the map, whose slots are next.
 #[cycle(named_writes)]
-fn write_kids<M: HoldingMap, S: EncodeSink>(
+pub(crate) fn write_kids<M: HoldingMap, S: EncodeSink>(
     number: u32,
     kids: &BTreeMap<M::Key, M>,
     cache: &mut SizeCache,
@@ -172,16 +170,16 @@ fn write_self<M: HoldingMap, S: EncodeSink>(
         (map_nest_slots keys M.own M.NUMBER M.HoldsMap.COST (M.meaning message.now)) cache.old (S.written sink.old) result
         cache.new (S.written sink.new) }
 {
-    write_front(message, cache, sink)?;
+    write_front::<OfMessage, M, S>(message, cache, sink)?;
     write_kids::<M, S>(M::NUMBER, message.inside(), cache, sink)?;
-    write_behind(message, cache, sink)
+    write_behind::<OfMessage, M, S>(message, cache, sink)
 }
 
 // ---- merging
 
 // Merges the entry of the field whose tag was read: its message into a default one, which takes the place of the key's.
 #[cycle(named_merges)]
-fn take_entry<M: HoldingMap>(
+pub(crate) fn take_entry<M: HoldingMap>(
     alloc: Global,
     kids: &mut BTreeMap<M::Key, M>,
     tag: Tag,
@@ -226,7 +224,7 @@ fn take_entry<M: HoldingMap>(
 
 // Merges the field whose tag was read: an entry of the map, or one of the other members.
 #[cycle(named_merges)]
-fn take_field<M: HoldingMap>(
+pub(crate) fn take_field<M: HoldingMap>(
     alloc: Global,
     message: &mut M,
     tag: Tag,

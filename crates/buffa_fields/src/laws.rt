@@ -155,7 +155,7 @@ pub fn nested_members_are_these<N: Message>()
         ≡ check_wire n WireType.LengthDelimited w }
     ensures asks { (d n : ℕ) (w : _) (bs : List ℕ) → ⟦<Nested<N> as Member>⟧.shape.asks d n w bs
         ↔ (MessageTakesMemory d n w bs) }
-    ensures refuses { RefusesAs ⟦<Nested<N> as Member>⟧.shape RefusesMessage }
+    ensures refuses { RefusesUnder ⟦<Nested<N> as Member>⟧.shape (RefusesMessage N.blank_is N.merged N.cost) }
     ensures need { ⟦<Nested<N> as Member>⟧.shape.need ≡ message_cost N.cost }
     ensures records { (n : ℕ) (v : _) → ⟦<Nested<N> as Member>⟧.shape.records n v ≡ message_records N.encoding n v }
     ensures slots { (v : _) → ⟦<Nested<N> as Member>⟧.shape.slots v ≡ message_slots N.encoding N.slots v }
@@ -193,7 +193,7 @@ pub fn groups_are_these<N: Message>()
     ensures checks { (n : ℕ) (w : _) → ⟦<Group<N> as Member>⟧.shape.checks n w ≡ check_wire n WireType.StartGroup w }
     ensures asks { (d n : ℕ) (w : _) (bs : List ℕ) → ⟦<Group<N> as Member>⟧.shape.asks d n w bs
         ↔ (GroupTakesMemory d n w bs) }
-    ensures refuses { RefusesAs ⟦<Group<N> as Member>⟧.shape RefusesGroup }
+    ensures refuses { RefusesUnder ⟦<Group<N> as Member>⟧.shape RefusesGroup }
     ensures need { ⟦<Group<N> as Member>⟧.shape.need ≡ group_cost N.cost }
     ensures records { (n : ℕ) (v : _) → ⟦<Group<N> as Member>⟧.shape.records n v ≡ group_records N.records n v }
     ensures slots { (v : _) → ⟦<Group<N> as Member>⟧.shape.slots v ≡ message_slots N.encoding N.slots v }

@@ -15,8 +15,8 @@ ghost use Rattle.buffa_fields.specs.FramingFacts.{one_stays, there_back, there_l
 ghost use Rattle.buffa_fields.specs.LevelKindFacts.{optional_numbers};
 ghost use Rattle.buffa_fields.specs.Levels.{AreExactLevels};
 ghost use Rattle.buffa_fields.specs.MemberRecords.{optional_records};
-ghost use Rattle.buffa_fields.specs.Nested.{message_levels, message_slots, taken_there};
-ghost use Rattle.buffa_fields.specs.Refusals.{LeavesUnless, RefusesTaggedField, RefusesThere, UnderAny};
+ghost use Rattle.buffa_fields.specs.Nested.{message_levels, message_slots, or_blank, taken_there};
+ghost use Rattle.buffa_fields.specs.Refusals.{LeavesUnless, RefusesTaggedField, RefusesThere, TellsTaggedFault};
 ghost use Rattle.buffa_fields.specs.Values.{IfThere};
 
 use crate::framing::Framing;
@@ -78,13 +78,15 @@ fn take_message<F: Framing, N: Message>(
     ensures wire { ChecksWire tag F.frame.wire result (N.meaning message.old) (N.meaning message.new) buf.old buf.new }
     ensures refused { RefusesTaggedField (LeavesUnless F.frame.wire F.frame.There) tag ctx.entry.depth
         (N.meaning message.old) (N.meaning message.new) buf.old result }
+    ensures fault { TellsTaggedFault F.frame.wire (F.frame.Fault N.merged N.cost ctx.entry.depth (N.meaning message.old)
+        tag.number buf.old.now ctx.entry.budget.now) tag result }
 {
     check_wire_type(tag, F::wire_type())?;
     F::merge(alloc, message, tag.field_number(), buf, ctx)
 }
 
-/// A message that may be absent, in a framing. What is read is merged into the message that is there. Where none is
-/// there and a field is refused, none is there afterwards.
+/// A message that may be absent, in a framing. What is read is merged into the message that is there, or into a default
+/// one. A refused field neither puts a message there nor takes one away.
 ///
 /// ```ignore
 /// pub type Nested<N> = MessageIn<Delimited, N>;
@@ -105,7 +107,8 @@ impl<F: Framing, N: Message> Member for MessageIn<F, N> {
       blank = None;
       takes = taken_there N.blank_is (taken_as F.frame.wire (F.frame.makes N.merged));
       checks = λ n w. check_wire n F.frame.wire w;
-      refuses = UnderAny (RefusesThere F.frame.wire F.frame.There);
+      refuses = RefusesThere F.frame.wire F.frame.There
+          (λ d old n bs left e. F.frame.Fault N.merged N.cost d (or_blank N.blank_is old) n bs left e);
       asks = F.frame.asks;
       need = cost_as F.frame.wire (F.frame.cost N.cost);
       records = optional_records (datum_of_value F.frame N.encoding N.records);

@@ -89,8 +89,8 @@ impl Framing for Delimited {
     }
 }
 
-/// A message that may be absent. What is read is merged into the message that is there. Where none is there and a
-/// field is refused, none is there afterwards.
+/// A message that may be absent. What is read is merged into the message that is there, or into a default one. A refused
+/// field neither puts a message there nor takes one away.
 ///
 /// ```ignore
 /// visitor.visit::<Nested<Inventory>>(2, &self.stock);

@@ -1,5 +1,5 @@
 use Rattle.std.specs.Option.{option_map}
-use Rattle.buffa_fields.proofs.HeldOneLawLemmas.{one_cost_in_parts, one_levels_in_parts, one_meaning_in_parts, one_normal_in_parts, one_records_in_parts, one_slots_in_parts, there_in_parts}
+use Rattle.buffa_fields.proofs.HeldOneLawLemmas.{one_cost_in_parts, one_levels_in_parts, one_meaning_in_parts, one_normal_in_parts, one_records_in_parts, one_refused_in_parts, one_slots_in_parts, there_in_parts}
 use Rattle.buffa_fields.proofs.held_one_laws.messages_inside_themselves_are_these.Goals as goal
 
 pub returns-clause-meaning : goal.returns-clause-meaning
@@ -7,6 +7,9 @@ returns-clause-meaning g c = λ p. one_meaning_in_parts g.O.Holds.layout g.O.Hol
 
 pub returns-clause-takes : goal.returns-clause-takes
 returns-clause-takes g c = λ d n w p v. there_in_parts g.O.Holds.layout g.O.Holds.NUMBER d v n w p
+
+pub returns-clause-refuses : goal.returns-clause-refuses
+returns-clause-refuses g c = λ d v n w bs left e u. one_refused_in_parts g.O.Holds.layout g.O.Holds.NUMBER d v n w bs left e u
 
 pub returns-clause-need : goal.returns-clause-need
 returns-clause-need g c = λ d n w bs. one_cost_in_parts g.O.Holds.layout g.O.Holds.NUMBER d n w bs

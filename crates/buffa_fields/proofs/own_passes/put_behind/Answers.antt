@@ -6,24 +6,24 @@ use Rattle.buffa_fields.proofs.own_passes.put_behind.Goals as goal
 pub behind-requires : goal.behind-requires
 behind-requires g c =
     let w = c.args.writer.now in
-    let l = g.O.Holds.layout in
-    let ss = l.slots_behind g.O.Holds.NUMBER (l.meaning c.args.own.now) in
+    let l = g.S.Sides.layout in
+    let ss = l.slots_behind g.S.Sides.NUMBER (l.meaning (g.S.Sides.own c.args.of.now)) in
     subst (λ r. Follow ss r w.cache.now) (sym c.requires.fresh) (follows ss w.cache.now c.requires.next)
 
 pub returns : goal.returns
 returns g c =
-    let l = g.O.Holds.layout in
-    let k = g.O.Holds.NUMBER in
-    let own = c.args.own.now in
+    let l = g.S.Sides.layout in
+    let k = g.S.Sides.NUMBER in
+    let own = (g.S.Sides.own c.args.of.now) in
     let v = l.meaning own in
     let w = c.args.writer.now in
     let sink = w.sink.ghost_name in
-    let before = g.S.EncodeSink.written w.sink.now in
+    let before = g.W.EncodeSink.written w.sink.now in
     let cache = w.cache.ghost_name in
     let first = w.cache.now in
     let z = start sink before cache first in
     let new = c.behind.new.visitor in
-    let written = g.S.EncodeSink.written new.sink.now in
-    let seen = c.behind.ensures.seen z (subst (λ r. IsPut sink cache before first r z) (sym c.requires.fresh) (puts_none sink before cache first)) in
+    let written = g.W.EncodeSink.written new.sink.now in
+    let seen = c.behind.ensures z (subst (λ r. IsPut sink cache before first r z) (sym c.requires.fresh) (puts_none sink before cache first)) in
     let is = was_put (l.behind k v ++ l.kept v) (l.slots_behind k v) new.sink.ghost_name sink before new.cache.ghost_name cache first new.cache.now written new.result (subst (λ y. IsPut new.sink.ghost_name new.cache.ghost_name written new.cache.now new.result y) (l.seen_behind_is k own z) seen) in
     record { same_sink = is.0; same_cache = is.1; written = is.2 }

@@ -5,7 +5,7 @@ use Rattle.buffa_bytes.specs.declared.error.DecodeError.TheVariants.{InvalidEndG
 use Rattle.buffa_wire.proofs.ByPayloadLemmas.{by_payload}
 use Rattle.buffa_wire.proofs.MergeLoopLemmas.{begins, goes_on, reached, shorter, untouched}
 use Rattle.buffa_fields.specs.Groups.{group_cost, group_merged}
-use Rattle.buffa_fields.proofs.GroupLemmas.{ended, field_refused, no_group_tag, no_level, other_end}
+use Rattle.buffa_fields.proofs.GroupLemmas.{ended, field_refused, no_group_tag, no_level, other_end, tells_field, tells_no_tag, tells_other_end}
 use Rattle.buffa_fields.proofs.group.GroupedFraming.merge.Goals as goal
 
 pub returns-then-depth-eq0-clause-taken : goal.returns-then-depth-eq0-clause-taken
@@ -31,6 +31,11 @@ returns-in_err-tag-clause-taken g c =
     let p = err_from_is_err_and c.from_residual.result c.from_residual.ensures.1 in
     rw (p.1, p.2) (no_group_tag (by_payload g.N.MessageSpec.stays g.N.MessageSpec.merged_is g.N.MessageSpec.cost_is) c.args.number c.if-depth-eq0.false c.loop-tag.invariant _ c.in_err-tag.ensures.reads (g.N.Blank.meaning c.loop-tag.message) c.decode.new.buf.now)
 
+pub returns-in_err-tag-clause-fault : goal.returns-in_err-tag-clause-fault
+returns-in_err-tag-clause-fault g c =
+    let p = err_from_is_err_and c.from_residual.result c.from_residual.ensures.1 in
+    rw (p.1, p.2) (λ ne. tells_no_tag (by_payload g.N.MessageSpec.stays g.N.MessageSpec.merged_is g.N.MessageSpec.cost_is) c.args.number c.if-depth-eq0.false c.loop-tag.invariant _ c.in_err-tag.ensures.reads)
+
 pub returns-in_err-tag-clause-full : goal.returns-in_err-tag-clause-full
 returns-in_err-tag-clause-full g c =
     let p = err_from_is_err_and c.from_residual.result c.from_residual.ensures.1 in
@@ -47,6 +52,11 @@ returns-in-EndGroup-clause-taken g c =
     other_end (by_payload g.N.MessageSpec.stays g.N.MessageSpec.merged_is g.N.MessageSpec.cost_is) c.args.number c.if-depth-eq0.false c.loop-tag.invariant _ _ _ _ c.in_ok-tag.ensures.reads (sym c.in-EndGroup.ensures)
     (λ e. c.if-field_number-number.false (c.field_number.ensures ∙ e)) (ap (λ z. InvalidEndGroup z) c.field_number-in-EndGroup.ensures) (g.N.Blank.meaning c.loop-tag.message) c.decode.new.buf.now
 
+pub returns-in-EndGroup-clause-fault : goal.returns-in-EndGroup-clause-fault
+returns-in-EndGroup-clause-fault g c =
+    λ ne. tells_other_end (by_payload g.N.MessageSpec.stays g.N.MessageSpec.merged_is g.N.MessageSpec.cost_is) c.args.number c.if-depth-eq0.false c.loop-tag.invariant _ _ _ _ c.in_ok-tag.ensures.reads (sym c.in-EndGroup.ensures)
+    (λ e. c.if-field_number-number.false (c.field_number.ensures ∙ e)) (ap (λ z. InvalidEndGroup z) c.field_number-in-EndGroup.ensures)
+
 pub returns-in_err-merge_field : goal.returns-in_err-merge_field
 unfolding group_cost group_merged
 returns-in_err-merge_field g c =
@@ -55,6 +65,7 @@ returns-in_err-merge_field g c =
     let p = err_from_is_err_and c.from_residual-in_err-merge_field.result c.from_residual-in_err-merge_field.ensures.1 in
     record {
       taken = rw (p.1, p.2) (field_refused by c.args.number c.if-depth-eq0.false c.loop-tag.invariant _ _ _ c.in_ok-tag.ensures.reads (λ end. c.in_default.not-EndGroup (c.wire_type.ensures ∙ end)) _ (g.N.Blank.meaning c.merge_field.new.self) c.merge_field.new.buf.now _ c.in_err-merge_field.ensures.merged);
+      fault = rw (p.1, p.2) (λ ne. tells_field by c.args.number c.if-depth-eq0.false c.loop-tag.invariant c.in_err-merge_field.field-0.0 there);
       full = rw (p.1, p.2) (λ full. (refl, omega (arith, c.if-depth-eq0.false), there));
       level = λ none. absurd (c.if-depth-eq0.false none);
       stays = λ no. absurd (no there);
