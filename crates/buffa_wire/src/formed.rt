@@ -90,8 +90,8 @@ pub trait MessageForm<M: Blank>: MessageMeaning<M> {
     /// # Errors
     /// Those of [`Message::compute_size`].
     fn compute_size(message: &M, cache: &mut SizeCache) -> Result<u32, EncodeError>
-        ensures sized { IsSized (records_encoding (records (M.meaning message.now))) (slots (M.meaning message.now))
-            cache.old result cache.new }
+        ensures sized { IsSized (records_encoding (Self.records (M.meaning message.now)))
+            (Self.slots (M.meaning message.now)) cache.old result cache.new }
         ensures always { sure (M.meaning message.now) → IsOk result };
 
     /// The write pass.
@@ -103,9 +103,9 @@ pub trait MessageForm<M: Blank>: MessageMeaning<M> {
         cache: &mut SizeCache,
         sink: &mut S,
     ) -> Result<(), EncodeError>
-        requires { IsNext (slots (M.meaning message.now)) cache.old }
-        ensures { IsWritten (records_encoding (records (M.meaning message.now))) (slots (M.meaning message.now)) cache.old
-            (S.written sink.old) result cache.new (S.written sink.new) };
+        requires { IsNext (Self.slots (M.meaning message.now)) cache.old }
+        ensures { IsWritten (records_encoding (Self.records (M.meaning message.now)))
+            (Self.slots (M.meaning message.now)) cache.old (S.written sink.old) result cache.new (S.written sink.new) };
 
     /// Merges the field whose tag was read.
     ///
@@ -118,10 +118,10 @@ pub trait MessageForm<M: Blank>: MessageMeaning<M> {
         buf: &mut &[u8],
         ctx: DecodeContext<'_>,
     ) -> Result<(), DecodeError>
-        ensures merged { MergesField merged cost ctx.entry (M.meaning message.old) tag.number tag.wire_type buf.old.now
-            result (M.meaning message.new) (budget_left ctx.exit) buf.new.now }
-        ensures refused { IfErr result (λ e. Refused ctx.entry.depth (M.meaning message.old) tag.number tag.wire_type
-            buf.old.now ctx.entry.budget.now e (M.meaning message.new)) }
+        ensures merged { MergesField Self.merged Self.cost ctx.entry (M.meaning message.old) tag.number tag.wire_type
+            buf.old.now result (M.meaning message.new) (budget_left ctx.exit) buf.new.now }
+        ensures refused { IfErr result (λ e. Self.Refused ctx.entry.depth (M.meaning message.old) tag.number
+            tag.wire_type buf.old.now ctx.entry.budget.now e (M.meaning message.new)) }
         ensures full { FullOnlyIf result (tag.wire_type ≢ WireType.EndGroup) }
         ensures taken { TakesMessageField Taken ctx.entry message.old tag.number tag.wire_type buf.old.now result message.new
             (budget_left ctx.exit) buf.new.now };
