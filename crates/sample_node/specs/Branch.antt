@@ -1,10 +1,12 @@
 -- What a node is: scores by text, children by number, shades by number, each in the order of its keys, and the records of
 -- fields that it doesn't declare.
-use Rattle.std.specs.Prelude.{ℕ, ℤ, List, [], Option, None, Some, if◌then◌else◌, pos}
+use Rattle.std.specs.Prelude.{ℕ, ℤ, List, [], Option, None, Some, if◌then◌else◌, pos, string_bytes}
 use Rattle.std.specs.Ordering.{int_eq}
 use Rattle.buffa_wire.specs.Enums.{Numbers, numbers}
 use Rattle.buffa_wire.specs.Records.{Datum}
-use Rattle.buffa_fields.specs.MapNests.{Kids, MapNest, map_nest, no_kid}
+use Rattle.buffa_map.specs.Pairs.{means}
+use Rattle.buffa_fields.specs.MapNests.{Kids, MapNest, map_nest, map_nest_means, no_kid}
+use Rattle.sample_node.specs.declared.node.NodeMembers.{NodeMembers}
 use Rattle.sample_node.specs.declared.shade.Shade.{Shade}
 use Rattle.sample_node.specs.declared.shade.Shade.TheVariants.{A, B}
 
@@ -51,3 +53,10 @@ shades_of (branch a cs h r) = h
 
 abbrev pub kept_of : Branch → NodeKept
 kept_of (branch a cs h r) = r
+
+-- what the members of a node mean, and the node
+abbrev pub own_means : NodeMembers → NodeOwn
+own_means m = (means string_bytes (λ v. v) m.scores.entries, (means (λ k. k) shade_number m.shades.entries, m.rest.records))
+
+abbrev pub node_means : MapNest ℤ NodeMembers → Branch
+node_means = map_nest_means (λ k. k) own_means
