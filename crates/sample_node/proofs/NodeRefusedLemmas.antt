@@ -17,6 +17,7 @@ use Rattle.buffa_fields.specs.MapNests.{MapNest, kid_list, kids_of, map_nest, ma
 use Rattle.buffa_fields.specs.Refusals.{RefusesPair}
 use Rattle.sample_node.proofs.NodeOwnLemmas.{IsOwnRefused, SaysOwn, node_keys}
 use Rattle.sample_node.proofs.NodeReadLemmas.{cost_is, merged_is}
+use Rattle.sample_node.proofs.NodeSaysLemmas.{members, members_say}
 use Rattle.sample_node.specs.Branch.{Branch, NodeKept, NodeOwn, Scores, Shades, blank_node}
 use Rattle.sample_node.specs.NodeMeaning.{node_cost, node_merged, shade_reading}
 use Rattle.sample_node.specs.Refused.{HasEntryFault, IsNodeRefused}
@@ -133,3 +134,9 @@ module _ {N M : Type 0} (l : Layout M NodeOwn) (says : SaysOwn l) (key : N → �
 
   pub refused_as_node : message_refused node_keys l 2 96 key d v n w bs left e u → IsNodeRefused d v n w bs left e u
   refused_as_node (apart, (a, b, after, rest, old, new, taken)) = by_test a b after rest (n == 2) refl old new taken
+
+pub node_refused : (d : ℕ) (v : Branch) (n : ℕ) (w : WireType) (bs : List ℕ) (left : BudgetLeft) (e : DecodeError) (u : Branch) → message_refused node_keys members 2 96 (λ (k : ℤ). k) d v n w bs left e u → IsNodeRefused d v n w bs left e u
+node_refused d v n w bs left e u refused =
+    refused_as_node members members_say (λ (k : ℤ). k)
+    (λ d old n w bs before e new after rest taken. own_refused _ _ _ (λ d old n w bs left e new h. h) (λ d old n w bs left e new h. h) d _ _ _ _ _ _ n w bs before e after rest taken)
+    d v n w bs left e u refused
