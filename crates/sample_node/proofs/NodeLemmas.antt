@@ -1,6 +1,6 @@
 -- A node's words by fields and by records: what bytes make of it and cost is what payloads do, and its encoding is that of its
 -- records.
-use Rattle.std.proofs.Common.{◌≡◌, ℕ, ℤ, zero, suc, List, ◌++◌, refl, sym, ap, ◌∙◌}
+use Rattle.std.proofs.Common.{◌≡◌, ℕ, ℤ, zero, suc, List, ◌++◌, [], ◌∷◌, refl, sym, ap, ◌∙◌}
 use Rattle.buffa_wire.specs.Encoding.{records_encoding}
 use Rattle.buffa_wire.proofs.ByPayloadLemmas.{ByPayload, by_payload}
 use Rattle.buffa_wire.proofs.EncodingLemmas.{records_encoding-append}
@@ -14,9 +14,11 @@ use Rattle.buffa_fields.specs.KeptMapFacts.{kept_pair_stays}
 use Rattle.buffa_fields.specs.Layout.{both_need}
 use Rattle.buffa_fields.specs.MapFacts.{map_encoding, map_stays}
 use Rattle.buffa_fields.specs.MapFields.{map_records}
-use Rattle.buffa_fields.specs.MapNests.{Kids, kid, no_kid}
+use Rattle.buffa_map.specs.Pairs.{means}
+use Rattle.buffa_fields.specs.MapNests.{Kids, MapNest, kid, kids_in, kids_mean, map_nest, no_kid}
 use Rattle.buffa_fields.specs.PairFacts.{both_stay}
-use Rattle.sample_node.specs.Branch.{Branch, NodeOwn, branch}
+use Rattle.sample_node.specs.Branch.{Branch, NodeOwn, branch, node_means, own_means}
+use Rattle.sample_node.specs.declared.node.NodeMembers.{NodeMembers}
 use Rattle.sample_node.specs.NodeEncoding.{node_encoding, node_entry_record, node_records, nodes_encoding, nodes_records, shades_encoding}
 use Rattle.sample_node.specs.NodeMeaning.{LevelCost, LevelMeaning, children_cost, node_cost, node_field_need, node_merged, node_need, node_reading, node_takes, scores_cost, shade_reading, shades_cost}
 
@@ -52,3 +54,12 @@ node_encoding_records (branch a cs h r) =
     let end : shades_encoding h ++ records_encoding r ≡ records_encoding (three ++ r) = ap (λ (z : List ℕ). z ++ records_encoding r) (sym (map_encoding int32_writing closed_writing 3 h)) ∙ sym (records_encoding-append three r) in
     let mid : nodes_encoding cs ++ (shades_encoding h ++ records_encoding r) ≡ records_encoding (two ++ (three ++ r)) = (λ i. nodes_encoding_records cs i ++ end i) ∙ sym (records_encoding-append two (three ++ r)) in
     (λ i. sym (map_encoding text_writing int32_writing 1 a) i ++ mid i) ∙ sym (records_encoding-append one (two ++ (three ++ r)))
+
+-- ---- what a node means, by what its members do
+kids_mean_in : (es : List (ℤ × MapNest ℤ NodeMembers)) → kids_mean (λ (k : ℤ). k) own_means (kids_in es) ≡ kids_in (means (λ (k : ℤ). k) node_means es)
+kids_mean_in [] = refl
+kids_mean_in (e ∷ es) = ap (kid e.0 (node_means e.1)) (kids_mean_in es)
+
+pub node_means_members : (m : NodeMembers) (es : List (ℤ × MapNest ℤ NodeMembers)) (t : MapNest ℤ NodeMembers) → map_nest m (kids_in es) ≡ t →
+    node_means t ≡ map_nest (own_means m) (kids_in (means (λ (k : ℤ). k) node_means es))
+node_means_members m es t is = ap node_means (sym is) ∙ ap (map_nest (own_means m)) (kids_mean_in es)

@@ -64,6 +64,7 @@ impl Model for Node {
     ghost use Rattle.std.specs.Coded.{coded_ℤ};
     ghost use Rattle.buffa_fields.specs.MapNests.{MapNest, coded_map_nest, kids_in, map_nest, map_nest_height, most-map_nest_heights};
     ghost use Rattle.sample_node.specs.contracts.node.NodeMembers.{the_row};
+    ghost use Rattle.sample_node.specs.declared.node.NodeMembers.{NodeMembers};
     ghost use Rattle.std.proofs.Common.{arith};
 
     ghost Value = { MapNest ℤ NodeMembers };
@@ -81,10 +82,7 @@ impl Model for Node {
 impl Blank for Node {
     ghost use Rattle.sample_node.specs.Branch.{blank_node};
 
-    type Meaning = MapNestMeaning<
-        i32,
-        And3<[And<[u8; 0], i32>; 0], [And<i32, i32>; 0], KeptFields>,
-    >;
+    type Meaning = MapNestMeaning<i32, <Node as HoldsMap>::Words>;
 
     ghost meaning = { node_means };
 
