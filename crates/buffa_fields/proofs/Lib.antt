@@ -22,6 +22,7 @@ pub mod HeldFieldLemmas
 pub mod HeldMapLemmas
 pub mod HeldMapLawLemmas
 pub mod HeldMapFieldLemmas
+pub mod NamedMapLemmas
 pub mod HeldOneLemmas
 pub mod HeldOneLawLemmas
 pub mod HeldOneFieldLemmas

@@ -61,6 +61,7 @@ pub mod HeldMap
 pub mod HeldMapFacts
 pub mod HeldMessageFacts
 pub mod MapPinned
+pub mod NamedMaps
 pub mod Chains
 pub mod HeldOne
 pub mod HeldOneFacts
