@@ -52,11 +52,13 @@ pub struct Node {
 /// ```ignore
 /// type Own = NodeMembers;
 /// ```
-#[derive(Drop)]
 pub struct NodeMembers {
-    scores: BTreeMap<String, i32>,
-    shades: BTreeMap<i32, Shade>,
-    rest: UnknownFields,
+    /// The scores.
+    pub scores: BTreeMap<String, i32>,
+    /// The shades.
+    pub shades: BTreeMap<i32, Shade>,
+    /// What isn't declared.
+    pub rest: UnknownFields,
 }
 
 impl Model for Node {
