@@ -35,11 +35,21 @@ module _ (m : LevelMeaning) (d : ℕ) (a : Scores) (cs : Kids ℤ NodeOwn) (h : 
   of_child None = refl
   of_child (Some x) = refl
 
-  of_other : {A : Type 0} (set : A → NodeOwn) (o : Option A) → as_other (option_map set o) ≡ option_map (λ x. map_nest (set x) cs) o
-  of_other set None = refl
-  of_other set (Some x) = ap (λ (z : Kids ℤ NodeOwn). Some (map_nest (set x) z)) (kids_in-kid_list cs)
+  of_other : {A B : Type 0} (set : B → NodeOwn) (part : A → B) (o : Option A) → as_other (option_map set (option_map part o)) ≡ option_map (λ x. map_nest (set (part x)) cs) o
+  of_other set part None = refl
+  of_other set part (Some x) = ap (λ (z : Kids ℤ NodeOwn). Some (map_nest (set (part x)) z)) (kids_in-kid_list cs)
 
-  behind : (o : Option (Shades × NodeKept)) → option_map (λ (x : Shades × NodeKept). branch a cs x.0 (r ++ x.1)) o ≡ option_map (λ (x : Shades × NodeKept). branch a cs x.0 x.1) (option_map (λ (x : Shades × NodeKept). let y : Shades × NodeKept = (x.0, r ++ x.1) in y) o)
+  of_score : (o : Option Scores) → as_other (option_map (λ (b : Scores). let y : NodeOwn = (b, (h, r)) in y) o) ≡ option_map (λ b. branch b cs h r) o
+  of_score None = refl
+  of_score (Some x) = ap (λ (z : Kids ℤ NodeOwn). Some (branch x z h r)) (kids_in-kid_list cs)
+
+  abbrev with_own : Shades × NodeKept → NodeOwn
+  with_own x = (a, x)
+
+  abbrev kept_behind_these : Shades × NodeKept → Shades × NodeKept
+  kept_behind_these x = (x.0, r ++ x.1)
+
+  behind : (o : Option (Shades × NodeKept)) → option_map (λ (x : Shades × NodeKept). branch a cs x.0 (r ++ x.1)) o ≡ option_map (λ (x : Shades × NodeKept). branch a cs x.0 x.1) (option_map kept_behind_these o)
   behind None = refl
   behind (Some x) = refl
 
@@ -51,14 +61,14 @@ module _ (m : LevelMeaning) (d : ℕ) (a : Scores) (cs : Kids ℤ NodeOwn) (h : 
   at_two two = subst (λ z. as_child (children_take m d (kid_list cs) z w p) ≡ node_field_takes m d (branch a cs h r) z w p) (sym two) (of_child (children_take m d (kid_list cs) 2 w p))
 
   at_others : (i j : Bool) → (n == 2) ≡ false → (n == 1) ≡ i → (n == 3) ≡ j → as_other (own_takes d (a, (h, r)) n w p) ≡ node_field_takes m d (branch a cs h r) n w p
-  at_others true j not_two one three = rw (one) (of_other (λ (b : Scores). let y : NodeOwn = (b, (h, r)) in y) (scores_take d a n w p))
+  at_others true j not_two one three = rw (one) (of_score (scores_take d a n w p))
   at_others false true not_two one three =
       rw (not_two, one, three) (
-        of_other (λ (x : Shades × NodeKept). let y : NodeOwn = (a, (x.0, r ++ x.1)) in y) (shades_take d (h, []) n w p)
+        of_other with_own kept_behind_these (shades_take d (h, []) n w p)
             ∙ behind (shades_take d (h, []) n w p)
             ∙ ap (option_map (λ (x : Shades × NodeKept). branch a cs x.0 x.1)) (sym (kept_pair_behind int32_reading shade_reading (insert_entry int_cmp) d h r n w p))
       )
-  at_others false false not_two one three = rw (not_two, one, three) (of_other (λ (s : NodeKept). let y : NodeOwn = (a, (h, s)) in y) (keep_takes d r n w p))
+  at_others false false not_two one three = rw (not_two, one, three) (of_other with_own (λ (s : NodeKept). let y : Shades × NodeKept = (h, s) in y) (keep_takes d r n w p))
 
   field_taken : by_parts ≡ node_field_takes m d (branch a cs h r) n w p
   field_taken = by (n == 2) refl

@@ -79,13 +79,12 @@ members_say = record {
   other = refl;
   owes = (
     record { back = λ k some d v fits normal low. scores_back k some d v fits normal; exact = λ _. exact_flat _ (entry_numbers text_writing int32_writing) (λ v i. 0) },
-    record {
+    (record {
       back = λ k some d v fits normal low. shades_back k some d v fits normal;
       again = λ k d v x p aside low payload. kept_pair_again int32_reading shade_reading (insert_entry int_cmp) k d v x p aside low payload;
       exact = λ _. exact_flat_keeping _ _ (entry_numbers int32_writing closed_writing) (λ v i. 0) (kept_pair_low int32_reading shade_reading (insert_entry int_cmp));
-    },
-    tt,
+    }, tt),
   );
-  exact = (tt, tt, tt);
+  exact = (tt, (tt, tt));
   sound = refl;
 }

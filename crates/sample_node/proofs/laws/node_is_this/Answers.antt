@@ -1,3 +1,4 @@
+use Rattle.std.proofs.Common.{refl}
 use Rattle.sample_node.proofs.NodeBackLemmas.{normal_is}
 use Rattle.sample_node.proofs.NodeReadLemmas.{cost_is, merged_is}
 use Rattle.sample_node.proofs.NodeRefusedLemmas.{node_refused}
