@@ -40,6 +40,9 @@ second_of A B false off b = b
 whole_nest : {K O : Type 0} (t : MapNest K O) → map_nest (map_own_of t) (kids_in (kid_list (kids_of t))) ≡ t
 whole_nest (map_nest o ks) = ap (map_nest o) (kids_in-kid_list ks)
 
+pub nest_inside : {N M O : Type 0} (nest : M → MapNest N O) (t : M) (es : List (N × M)) → nest t ≡ map_nest (map_own_of (nest t)) (kids_in (nests_at nest es)) → kid_list (kids_of (nest t)) ≡ nests_at nest es
+nest_inside nest t es is = ap (λ z. kid_list (kids_of z)) is ∙ kid_list-kids_in (nests_at nest es)
+
 -- a message means what its nest does
 module _ {N M K O X : Type 0} (nest : M → MapNest N O) (whole : M → MapNest K X) (key : N → K) (own : O → X) (so : (t : M) → whole t ≡ map_nest_means key own (nest t)) where
   abbrev says : List (N × MapNest N O) → List (K × MapNest K X)
@@ -68,6 +71,10 @@ module _ {N M K O X : Type 0} (nest : M → MapNest N O) (whole : M → MapNest 
 
     high : map_nest_height (whole t) ≡ kids_height (kids_in (means key whole es)) + 1
     high = ap map_nest_height (so t) ∙ ap (λ z. map_nest_height (map_nest_means key own z)) is ∙ ap (λ ks. kids_height ks + 1) (meant_kids es)
+
+    -- what is inside it is what is in its map, as nests, and as what they mean
+    pub meant_inside : kid_list (kids_of (whole t)) ≡ means key whole es
+    meant_inside = ap (λ z. kid_list (kids_of z)) (so t ∙ ap (map_nest_means key own) is) ∙ ap kid_list (meant_kids es) ∙ kid_list-kids_in (means key whole es)
 
     -- a message is deeper than the map in it
     pub deeper : 3 * kids_height (kids_in (means key whole es)) + 2 < 3 * map_nest_height (whole t)

@@ -172,11 +172,14 @@ pub trait HoldsMap: Drop {
 /// ```ignore
 /// impl HoldingMap for Node { .. }
 /// ```
-pub trait HoldingMap:
-    HoldsMap<Inside = BTreeMap<<Self as HoldsMap>::Key, Self>>
-    + Blank<Meaning = MapNestMeaning<<<Self as HoldsMap>::Key as Blank>::Meaning, <Self as HoldsMap>::Words>>
-    + Formed<Form = Held>
-{
+pub trait HoldingMap: HoldsMap<Inside = BTreeMap<<Self as HoldsMap>::Key, Self>>
+    + Blank<
+        Meaning = MapNestMeaning<
+            <<Self as HoldsMap>::Key as Blank>::Meaning,
+            <Self as HoldsMap>::Words,
+        >,
+    >
+    + Formed<Form = Held> {
     /// It means what its nest does.
     ghost means: { (t : Self) → Self.meaning t ≡ map_nest_means Self.Key.meaning Self.own.meaning (Self.nest t) };
 

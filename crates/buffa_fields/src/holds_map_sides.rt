@@ -30,7 +30,10 @@ fn count_front<M: HoldsMap>(message: &M, sizer: &mut Sizer<'_>)
 
 // The size pass over the members in front of the map.
 // Memory runs out only where there is a message in one of these members.
-pub(crate) fn size_front<M: HoldsMap>(message: &M, cache: &mut SizeCache) -> Result<u32, EncodeError>
+pub(crate) fn size_front<M: HoldsMap>(
+    message: &M,
+    cache: &mut SizeCache,
+) -> Result<u32, EncodeError>
     ensures sized { let v = M.own.meaning (map_own_of (M.nest message.now)) in
         IsSized (records_encoding (M.own.front M.NUMBER v)) (M.own.front_slots M.NUMBER v []) cache.old result
         cache.new }
@@ -55,7 +58,10 @@ fn count_behind<M: HoldsMap>(message: &M, sizer: &mut Sizer<'_>)
 
 // The size pass over the members behind the map, and the fields that are kept.
 // Memory runs out only where there is a message in one of these members.
-pub(crate) fn size_behind<M: HoldsMap>(message: &M, cache: &mut SizeCache) -> Result<u32, EncodeError>
+pub(crate) fn size_behind<M: HoldsMap>(
+    message: &M,
+    cache: &mut SizeCache,
+) -> Result<u32, EncodeError>
     ensures sized { let v = M.own.meaning (map_own_of (M.nest message.now)) in
         IsSized (records_encoding (M.own.behind M.NUMBER v ++ M.own.kept v)) (M.own.slots_behind M.NUMBER v)
         cache.old result cache.new }

@@ -12,6 +12,7 @@ pub mod held_one;
 pub mod held_one_laws;
 pub mod holds_map;
 pub mod holds_map_form;
+pub mod holds_map_laws;
 mod holds_map_sides;
 pub mod keeping;
 pub mod kept;

@@ -21,8 +21,8 @@ decreases-take_entry g l = 4 * l.depth
 abbrev pub invariant-merge_self-fields : goal.invariant-merge_self-fields
 invariant-merge_self-fields g l =
     let keys = keys_by g.M.KeyCodec.MapValueDecode.reading g.M.KeyCodec.MapCodec.writing g.M.KeyCodec.MapValueDecode.COST g.M.Key.OrderedKey.order g.M.KeyCodec.MapCodec.fits g.M.KeyCodec.MapCodec.normal in
-    let layout = map_nest_layout keys g.M.HoldsMap.own g.M.HoldsMap.NUMBER g.M.HoldsMap.COST g.M.Key.Blank.meaning in
-    CameTo (merged_of layout.takes) (cost_of layout.need) l.depth (layout.meaning (g.M.HoldsMap.nest l.fn.message)) l.fn.bytes l.fn.budget (layout.meaning (g.M.HoldsMap.nest l.message)) l.rest l.budget
+    let layout = map_nest_layout keys g.M-HoldsMap.own g.M-HoldsMap.NUMBER g.M-HoldsMap.COST g.M.Key.Blank.meaning in
+    CameTo (merged_of layout.takes) (cost_of layout.need) l.depth (layout.meaning (g.M-HoldsMap.nest l.fn.message)) l.fn.bytes l.fn.budget (layout.meaning (g.M-HoldsMap.nest l.message)) l.rest l.budget
 
 abbrev pub decreases-merge_self-fields : goal.decreases-merge_self-fields
 decreases-merge_self-fields g l = length l.rest

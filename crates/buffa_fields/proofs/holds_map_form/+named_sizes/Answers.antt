@@ -1,4 +1,4 @@
-use Rattle.std.proofs.Common.{◌≡◌, ◌∙◌, [], ap, arith, refl, subst, sym}
+use Rattle.std.proofs.Common.{◌≡◌, ◌∙◌, ◌+◌, ◌*◌, ◌<◌, [], ap, arith, refl, subst, sym}
 use Rattle.buffa_bytes.proofs.ResultLemmas.{not_ok}
 use Rattle.buffa_bytes.specs.Number.{IsNumber}
 use Rattle.buffa_wire.specs.Passes.{IsSized}
@@ -10,12 +10,12 @@ use Rattle.buffa_fields.proofs.NestedMapLemmas.{no_pairs}
 use Rattle.buffa_fields.proofs.HeldMapLemmas.{behind_bare, front_bare, held_number, inside_bare, nest_sized}
 use Rattle.buffa_fields.proofs.NamedMapLemmas.{deeper, inside_is, low_of, self_is}
 use Rattle.buffa_fields.specs.HeldMap.{keys_by, map_nest_encoding, map_nest_slots}
-use Rattle.buffa_fields.specs.MapNests.{kid_list, kids_of, map_nest_means, map_own_of}
+use Rattle.buffa_fields.specs.MapNests.{kid_list, kids_height, kids_in, kids_of, map_own_of}
 use Rattle.buffa_fields.proofs.holds_map_form.+named_sizes.Goals as goal
 
 pub kids_len-pairs_len_by-requires-clause-may : goal.kids_len-pairs_len_by-requires-clause-may
 kids_len-pairs_len_by-requires-clause-may g t c =
-    λ x d h. (omega (arith, low_of (means g.M.Key.Blank.meaning g.M.Blank.meaning c.args.kids.now.entries) (g.M.Blank.meaning x.now) h, c.decreases), (λ _ m. m))
+    λ x d h. (omega (arith, low_of (means g.M.Key.Blank.meaning g.M.Blank.meaning c.args.kids.now.entries) (g.M.Blank.meaning x.now) h, c.decreases), ((λ _ m. m), ((λ _ m. m), ((λ _ m. m), ((λ _ m. m), ((λ _ m. m), (λ _ m. m)))))))
 
 pub kids_len-pairs_len_by-requires-clause-keeps : goal.kids_len-pairs_len_by-requires-clause-keeps
 kids_len-pairs_len_by-requires-clause-keeps g t c = λ x d r e h s. s
@@ -23,12 +23,12 @@ kids_len-pairs_len_by-requires-clause-keeps g t c = λ x d r e h s. s
 pub size_self-returns-clause-sized : goal.size_self-returns-clause-sized
 size_self-returns-clause-sized g t c =
     let keys = keys_by g.M.KeyCodec.MapValueDecode.reading g.M.KeyCodec.MapCodec.writing g.M.KeyCodec.MapValueDecode.COST g.M.Key.OrderedKey.order g.M.KeyCodec.MapCodec.fits g.M.KeyCodec.MapCodec.normal in
-    let l = g.M.HoldsMap.own in
-    let k = g.M.HoldsMap.NUMBER in
-    let each = g.M.HoldsMap.COST in
+    let l = g.M-HoldsMap.own in
+    let k = g.M-HoldsMap.NUMBER in
+    let each = g.M-HoldsMap.COST in
     let key = g.M.Key.Blank.meaning in
     let whole = g.M.Blank.meaning in
-    let nest = g.M.HoldsMap.nest in
+    let nest = g.M-HoldsMap.nest in
     let means_so = g.met.M.HoldingMap.means in
     let m = c.args.message.now in
     let own = map_own_of (nest m) in
@@ -51,12 +51,12 @@ size_self-returns-clause-sized g t c =
 pub size_self-returns-in_err-front-clause-always : goal.size_self-returns-in_err-front-clause-always
 size_self-returns-in_err-front-clause-always g t c = λ none.
     let keys = keys_by g.M.KeyCodec.MapValueDecode.reading g.M.KeyCodec.MapCodec.writing g.M.KeyCodec.MapValueDecode.COST g.M.Key.OrderedKey.order g.M.KeyCodec.MapCodec.fits g.M.KeyCodec.MapCodec.normal in
-    let l = g.M.HoldsMap.own in
-    let k = g.M.HoldsMap.NUMBER in
-    let each = g.M.HoldsMap.COST in
+    let l = g.M-HoldsMap.own in
+    let k = g.M-HoldsMap.NUMBER in
+    let each = g.M-HoldsMap.COST in
     let key = g.M.Key.Blank.meaning in
     let whole = g.M.Blank.meaning in
-    let nest = g.M.HoldsMap.nest in
+    let nest = g.M-HoldsMap.nest in
     let means_so = g.met.M.HoldingMap.means in
     let m = c.args.message.now in
     let own = map_own_of (nest m) in
@@ -68,12 +68,12 @@ size_self-returns-in_err-front-clause-always g t c = λ none.
 pub size_self-returns-in_err-below-clause-always : goal.size_self-returns-in_err-below-clause-always
 size_self-returns-in_err-below-clause-always g t c = λ none.
     let keys = keys_by g.M.KeyCodec.MapValueDecode.reading g.M.KeyCodec.MapCodec.writing g.M.KeyCodec.MapValueDecode.COST g.M.Key.OrderedKey.order g.M.KeyCodec.MapCodec.fits g.M.KeyCodec.MapCodec.normal in
-    let l = g.M.HoldsMap.own in
-    let k = g.M.HoldsMap.NUMBER in
-    let each = g.M.HoldsMap.COST in
+    let l = g.M-HoldsMap.own in
+    let k = g.M-HoldsMap.NUMBER in
+    let each = g.M-HoldsMap.COST in
     let key = g.M.Key.Blank.meaning in
     let whole = g.M.Blank.meaning in
-    let nest = g.M.HoldsMap.nest in
+    let nest = g.M-HoldsMap.nest in
     let means_so = g.met.M.HoldingMap.means in
     let m = c.args.message.now in
     let own = map_own_of (nest m) in
@@ -89,12 +89,12 @@ size_self-returns-in_err-below-clause-always g t c = λ none.
 pub size_self-returns-in_err-behind-clause-always : goal.size_self-returns-in_err-behind-clause-always
 size_self-returns-in_err-behind-clause-always g t c = λ none.
     let keys = keys_by g.M.KeyCodec.MapValueDecode.reading g.M.KeyCodec.MapCodec.writing g.M.KeyCodec.MapValueDecode.COST g.M.Key.OrderedKey.order g.M.KeyCodec.MapCodec.fits g.M.KeyCodec.MapCodec.normal in
-    let l = g.M.HoldsMap.own in
-    let k = g.M.HoldsMap.NUMBER in
-    let each = g.M.HoldsMap.COST in
+    let l = g.M-HoldsMap.own in
+    let k = g.M-HoldsMap.NUMBER in
+    let each = g.M-HoldsMap.COST in
     let key = g.M.Key.Blank.meaning in
     let whole = g.M.Blank.meaning in
-    let nest = g.M.HoldsMap.nest in
+    let nest = g.M-HoldsMap.nest in
     let means_so = g.met.M.HoldingMap.means in
     let m = c.args.message.now in
     let own = map_own_of (nest m) in
@@ -104,14 +104,14 @@ size_self-returns-in_err-behind-clause-always g t c = λ none.
     absurd (not_ok (failed c.in_err-behind.field-0.0) c.in_err-behind.field-0.0 refl (c.in_err-behind.ensures.always (behind_bare keys l k each key own ps bare)))
 
 pub size_self-kids_len-requires : goal.size_self-kids_len-requires
-size_self-kids_len-requires g t c =
+size_self-kids_len-requires g t c κs within =
     let keys = keys_by g.M.KeyCodec.MapValueDecode.reading g.M.KeyCodec.MapCodec.writing g.M.KeyCodec.MapValueDecode.COST g.M.Key.OrderedKey.order g.M.KeyCodec.MapCodec.fits g.M.KeyCodec.MapCodec.normal in
-    let l = g.M.HoldsMap.own in
-    let k = g.M.HoldsMap.NUMBER in
-    let each = g.M.HoldsMap.COST in
+    let l = g.M-HoldsMap.own in
+    let k = g.M-HoldsMap.NUMBER in
+    let each = g.M-HoldsMap.COST in
     let key = g.M.Key.Blank.meaning in
     let whole = g.M.Blank.meaning in
-    let nest = g.M.HoldsMap.nest in
+    let nest = g.M-HoldsMap.nest in
     let means_so = g.met.M.HoldingMap.means in
     let m = c.args.message.now in
     let own = map_own_of (nest m) in
@@ -120,6 +120,6 @@ size_self-kids_len-requires g t c =
     let es = c.inside.result.now.entries in
     let is = ap nest c.inside.ensures ∙ g.met.M.HoldingMap.puts m c.inside.result.now in
     let pairs = inside_is nest whole key l.meaning means_so m es is in
-    let low = omega (arith, deeper nest whole key l.meaning means_so m es is, c.decreases) in
-    (low, subst (λ n. IsNumber n) (sym c.NUMBER.ensures) (held_number keys l k each key g.M.HoldsMap.other))
-
+    let low : 3 * kids_height (kids_in (means key whole es)) + 2 < t = omega (arith, deeper nest whole key l.meaning means_so m es is, c.decreases) in
+    let number = subst (λ n. IsNumber n) (sym c.NUMBER.ensures) (held_number keys l k each key g.M-HoldsMap.other) in
+    (low, (within.0, (within.1.0, (within.1.1.0, (within.1.1.1.0, (within.1.1.1.1.0, (within.1.1.1.1.1, number)))))))

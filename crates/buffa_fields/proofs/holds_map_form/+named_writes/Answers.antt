@@ -1,4 +1,4 @@
-use Rattle.std.proofs.Common.{◌∙◌, ap, arith, subst, sym}
+use Rattle.std.proofs.Common.{◌∙◌, ◌+◌, ◌*◌, ◌<◌, ap, arith, subst, sym}
 use Rattle.std.proofs.lemmas.Result.{err_from_is_err_and}
 use Rattle.buffa_bytes.specs.Number.{IsNumber}
 use Rattle.buffa_wire.specs.Passes.{IsNext, IsWritten}
@@ -9,12 +9,12 @@ use Rattle.buffa_fields.specs.NestedMaps.{pair_slots}
 use Rattle.buffa_fields.proofs.HeldMapLemmas.{front_cut, held_number, inside_cut, nest_written, next_behind, next_front_of, next_inside}
 use Rattle.buffa_fields.proofs.NamedMapLemmas.{deeper, inside_is, low_of, self_is}
 use Rattle.buffa_fields.specs.HeldMap.{keys_by, map_nest_encoding, map_nest_slots}
-use Rattle.buffa_fields.specs.MapNests.{kid_list, kids_of, map_own_of}
+use Rattle.buffa_fields.specs.MapNests.{kid_list, kids_height, kids_in, kids_of, map_own_of}
 use Rattle.buffa_fields.proofs.holds_map_form.+named_writes.Goals as goal
 
 pub write_kids-write_pairs_by-requires-clause-may : goal.write_kids-write_pairs_by-requires-clause-may
 write_kids-write_pairs_by-requires-clause-may g t c =
-    λ x d s h next. (omega (arith, low_of (means g.M.Key.Blank.meaning g.M.Blank.meaning c.args.kids.now.entries) (g.M.Blank.meaning x.now) h, c.decreases), ((λ _ m. m), ((λ _ m. m), next)))
+    λ x d s h next. (omega (arith, low_of (means g.M.Key.Blank.meaning g.M.Blank.meaning c.args.kids.now.entries) (g.M.Blank.meaning x.now) h, c.decreases), ((λ _ m. m), ((λ _ m. m), ((λ _ m. m), ((λ _ m. m), ((λ _ m. m), ((λ _ m. m), ((λ _ m. m), next))))))))
 
 pub write_kids-write_pairs_by-requires-clause-keeps : goal.write_kids-write_pairs_by-requires-clause-keeps
 write_kids-write_pairs_by-requires-clause-keeps g t c = λ x d s r e u h k. k
@@ -22,12 +22,12 @@ write_kids-write_pairs_by-requires-clause-keeps g t c = λ x d s r e u h k. k
 pub write_self-write_front-requires : goal.write_self-write_front-requires
 write_self-write_front-requires g t c =
     let keys = keys_by g.M.KeyCodec.MapValueDecode.reading g.M.KeyCodec.MapCodec.writing g.M.KeyCodec.MapValueDecode.COST g.M.Key.OrderedKey.order g.M.KeyCodec.MapCodec.fits g.M.KeyCodec.MapCodec.normal in
-    let l = g.M.HoldsMap.own in
-    let k = g.M.HoldsMap.NUMBER in
-    let each = g.M.HoldsMap.COST in
+    let l = g.M-HoldsMap.own in
+    let k = g.M-HoldsMap.NUMBER in
+    let each = g.M-HoldsMap.COST in
     let key = g.M.Key.Blank.meaning in
     let whole = g.M.Blank.meaning in
-    let nest = g.M.HoldsMap.nest in
+    let nest = g.M-HoldsMap.nest in
     let means_so = g.met.M.HoldingMap.means in
     let m = c.args.message.now in
     let own = map_own_of (nest m) in
@@ -37,14 +37,14 @@ write_self-write_front-requires g t c =
     next_front_of keys l k each key own ps c.args.cache.now next
 
 pub write_self-write_kids-requires : goal.write_self-write_kids-requires
-write_self-write_kids-requires g t c =
+write_self-write_kids-requires g t c κs within =
     let keys = keys_by g.M.KeyCodec.MapValueDecode.reading g.M.KeyCodec.MapCodec.writing g.M.KeyCodec.MapValueDecode.COST g.M.Key.OrderedKey.order g.M.KeyCodec.MapCodec.fits g.M.KeyCodec.MapCodec.normal in
-    let l = g.M.HoldsMap.own in
-    let k = g.M.HoldsMap.NUMBER in
-    let each = g.M.HoldsMap.COST in
+    let l = g.M-HoldsMap.own in
+    let k = g.M-HoldsMap.NUMBER in
+    let each = g.M-HoldsMap.COST in
     let key = g.M.Key.Blank.meaning in
     let whole = g.M.Blank.meaning in
-    let nest = g.M.HoldsMap.nest in
+    let nest = g.M-HoldsMap.nest in
     let means_so = g.met.M.HoldingMap.means in
     let m = c.args.message.now in
     let own = map_own_of (nest m) in
@@ -60,20 +60,20 @@ write_self-write_kids-requires g t c =
     let is = ap nest c.inside.ensures ∙ g.met.M.HoldingMap.puts m c.inside.result.now in
     let pairs = inside_is nest whole key l.meaning means_so m es is in
     let next = subst (λ z. IsNext (map_nest_slots keys l k each z) c.args.cache.now) (sym self) c.requires in
-    let low = omega (arith, deeper nest whole key l.meaning means_so m es is, c.decreases) in
-    let number = subst (λ n. IsNumber n) (sym c.NUMBER.ensures) (held_number keys l k each key g.M.HoldsMap.other) in
+    let low : 3 * kids_height (kids_in (means key whole es)) + 2 < t = omega (arith, deeper nest whole key l.meaning means_so m es is, c.decreases) in
+    let number = subst (λ n. IsNumber n) (sym c.NUMBER.ensures) (held_number keys l k each key g.M-HoldsMap.other) in
     let inside = subst (λ xs. IsNext (pair_slots encoding slots xs) c1) pairs (next_inside keys l k each key own ps c0 c1 b0 b1 next c.in_ok-write_front.ensures) in
-    (low, (number, inside))
+    (low, (within.0, (within.1.0, (within.1.1.0, (within.1.1.1.0, (within.1.1.1.1.0, (within.1.1.1.1.1.0, (within.1.1.1.1.1.1, (number, inside)))))))))
 
 pub write_self-write_behind-requires : goal.write_self-write_behind-requires
 write_self-write_behind-requires g t c =
     let keys = keys_by g.M.KeyCodec.MapValueDecode.reading g.M.KeyCodec.MapCodec.writing g.M.KeyCodec.MapValueDecode.COST g.M.Key.OrderedKey.order g.M.KeyCodec.MapCodec.fits g.M.KeyCodec.MapCodec.normal in
-    let l = g.M.HoldsMap.own in
-    let k = g.M.HoldsMap.NUMBER in
-    let each = g.M.HoldsMap.COST in
+    let l = g.M-HoldsMap.own in
+    let k = g.M-HoldsMap.NUMBER in
+    let each = g.M-HoldsMap.COST in
     let key = g.M.Key.Blank.meaning in
     let whole = g.M.Blank.meaning in
-    let nest = g.M.HoldsMap.nest in
+    let nest = g.M-HoldsMap.nest in
     let means_so = g.met.M.HoldingMap.means in
     let m = c.args.message.now in
     let own = map_own_of (nest m) in
@@ -98,12 +98,12 @@ write_self-write_behind-requires g t c =
 pub write_self-returns : goal.write_self-returns
 write_self-returns g t c =
     let keys = keys_by g.M.KeyCodec.MapValueDecode.reading g.M.KeyCodec.MapCodec.writing g.M.KeyCodec.MapValueDecode.COST g.M.Key.OrderedKey.order g.M.KeyCodec.MapCodec.fits g.M.KeyCodec.MapCodec.normal in
-    let l = g.M.HoldsMap.own in
-    let k = g.M.HoldsMap.NUMBER in
-    let each = g.M.HoldsMap.COST in
+    let l = g.M-HoldsMap.own in
+    let k = g.M-HoldsMap.NUMBER in
+    let each = g.M-HoldsMap.COST in
     let key = g.M.Key.Blank.meaning in
     let whole = g.M.Blank.meaning in
-    let nest = g.M.HoldsMap.nest in
+    let nest = g.M-HoldsMap.nest in
     let means_so = g.met.M.HoldingMap.means in
     let m = c.args.message.now in
     let own = map_own_of (nest m) in
@@ -130,12 +130,12 @@ write_self-returns g t c =
 pub write_self-returns-in_err-write_kids : goal.write_self-returns-in_err-write_kids
 write_self-returns-in_err-write_kids g t c =
     let keys = keys_by g.M.KeyCodec.MapValueDecode.reading g.M.KeyCodec.MapCodec.writing g.M.KeyCodec.MapValueDecode.COST g.M.Key.OrderedKey.order g.M.KeyCodec.MapCodec.fits g.M.KeyCodec.MapCodec.normal in
-    let l = g.M.HoldsMap.own in
-    let k = g.M.HoldsMap.NUMBER in
-    let each = g.M.HoldsMap.COST in
+    let l = g.M-HoldsMap.own in
+    let k = g.M-HoldsMap.NUMBER in
+    let each = g.M-HoldsMap.COST in
     let key = g.M.Key.Blank.meaning in
     let whole = g.M.Blank.meaning in
-    let nest = g.M.HoldsMap.nest in
+    let nest = g.M-HoldsMap.nest in
     let means_so = g.met.M.HoldingMap.means in
     let m = c.args.message.now in
     let own = map_own_of (nest m) in
@@ -162,12 +162,12 @@ write_self-returns-in_err-write_kids g t c =
 pub write_self-returns-in_err-write_front : goal.write_self-returns-in_err-write_front
 write_self-returns-in_err-write_front g t c =
     let keys = keys_by g.M.KeyCodec.MapValueDecode.reading g.M.KeyCodec.MapCodec.writing g.M.KeyCodec.MapValueDecode.COST g.M.Key.OrderedKey.order g.M.KeyCodec.MapCodec.fits g.M.KeyCodec.MapCodec.normal in
-    let l = g.M.HoldsMap.own in
-    let k = g.M.HoldsMap.NUMBER in
-    let each = g.M.HoldsMap.COST in
+    let l = g.M-HoldsMap.own in
+    let k = g.M-HoldsMap.NUMBER in
+    let each = g.M-HoldsMap.COST in
     let key = g.M.Key.Blank.meaning in
     let whole = g.M.Blank.meaning in
-    let nest = g.M.HoldsMap.nest in
+    let nest = g.M-HoldsMap.nest in
     let means_so = g.met.M.HoldingMap.means in
     let m = c.args.message.now in
     let own = map_own_of (nest m) in
@@ -183,4 +183,3 @@ write_self-returns-in_err-write_front g t c =
     let p = err_from_is_err_and c.from_residual.result c.from_residual.ensures.1 in
     rw (p.1, p.2) (subst (λ z. IsWritten (encoding z) (slots z) c0 b0 (refusal e) c1 b1) self
     (front_cut keys l k each key own ps c0 c1 b0 b1 e c.in_err-write_front.ensures))
-

@@ -6,11 +6,11 @@ use Rattle.buffa_fields.proofs.holds_map_form.HeldMessageForm.merge_field.Goals 
 pub returns : goal.returns
 returns g c =
     let keys = keys_by g.M.KeyCodec.MapValueDecode.reading g.M.KeyCodec.MapCodec.writing g.M.KeyCodec.MapValueDecode.COST g.M.Key.OrderedKey.order g.M.KeyCodec.MapCodec.fits g.M.KeyCodec.MapCodec.normal in
-    let l = g.M.HoldsMap.own in
-    let k = g.M.HoldsMap.NUMBER in
-    let each = g.M.HoldsMap.COST in
+    let l = g.M-HoldsMap.own in
+    let k = g.M-HoldsMap.NUMBER in
+    let each = g.M-HoldsMap.COST in
     let key = g.M.Key.Blank.meaning in
-    let nest = g.M.HoldsMap.nest in
+    let nest = g.M-HoldsMap.nest in
     let whole = g.M.Blank.meaning in
     let means_so = g.met.M.HoldingMap.means in
     let old = c.args.message.now in
