@@ -31,7 +31,7 @@ module _ (t : Branch) where
 
   pub node_some : {T : Type 0} (r : Result T EncodeError) → (slots ≡ [] → IsOk r) → OnErr r (node_slots t ≢ [])
   node_some (Ok x) always = tt
-  node_some (Err e) always = λ none. always (slots_same members members_say t ∙ none)
+  node_some (Err e) always = λ none. let bad = always (slots_same members members_say t ∙ none) in cc
 
   pub node_next : (c : Cache) → IsNext (node_slots t) c → IsNext slots c
   node_next c h = subst (λ z. IsNext z c) (sym (slots_same members members_say t)) h
