@@ -57,8 +57,8 @@ are_kept [] fits one two aside = tt
 are_kept (y ∷ ys) fits one two aside = (kept_here y (fits.0, fits.1, tt) one.0 two.0 (y.0 == 3) refl aside.0, are_kept ys fits.2 one.1 two.1 aside.1)
 
 other_number : (k : ℕ) → (k ≡ 1) ⊎ (k ≡ 2) → (y : ℕ × Datum) → IsKept y → not (y.0 == k) ≡ true
-other_number k low y (inl (high, fits)) = rw (ne_eqb y.0 k (λ e. elim low [ | inl is ↦ absurd (omega (arith, high, e, is)) | inr is ↦ absurd (omega (arith, high, e, is)) ])) refl
-other_number k low y (inr (three, aside)) = rw (ne_eqb y.0 k (λ e. elim low [ | inl is ↦ absurd (omega (arith, three, e, is)) | inr is ↦ absurd (omega (arith, three, e, is)) ])) refl
+other_number k low y (inl (high, fits)) = rw (ne_eqb y.0 k (λ e. elim low [ inl is ↦ absurd (omega (arith, high, e, is)) | inr is ↦ absurd (omega (arith, high, e, is)) ])) refl
+other_number k low y (inr (three, aside)) = rw (ne_eqb y.0 k (λ e. elim low [ inl is ↦ absurd (omega (arith, three, e, is)) | inr is ↦ absurd (omega (arith, three, e, is)) ])) refl
 
 other_numbers : (k : ℕ) → (k ≡ 1) ⊎ (k ≡ 2) → (r : NodeKept) → AllByRecursion IsKept r → NoNumber k r
 other_numbers k low [] h = tt

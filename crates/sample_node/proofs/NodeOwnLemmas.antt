@@ -1,6 +1,6 @@
 -- The members of a node beside its children, as a list of members: what such a list has to say for the nodes to be those of the
 -- specs.
-use Rattle.std.proofs.Common.{◌≡◌, ◌≢◌, ℕ, ℤ, ◌==◌, true, List, [], ◌++◌, not, FitsSigned, Result, Err}
+use Rattle.std.proofs.Common.{◌≡◌, ◌≢◌, ℕ, ℤ, ◌==◌, true, List, [], ◌++◌, not, FitsSigned, Err}
 use Rattle.std.specs.Int.{w32}
 use Rattle.std.specs.Ordering.{int_cmp}
 use Rattle.buffa_bytes.specs.declared.error.DecodeError.{DecodeError}
@@ -21,7 +21,7 @@ use Rattle.buffa_fields.specs.KeptMaps.{IsAsideEntry}
 use Rattle.buffa_fields.specs.Layout.{Layout, both_need, both_take}
 use Rattle.buffa_fields.specs.MapFields.{map_records}
 use Rattle.buffa_fields.specs.OrderedMaps.{KeysAscend}
-use Rattle.sample_node.specs.Branch.{NodeKept, NodeOwn, Scores, Shades, shade_numbers}
+use Rattle.sample_node.specs.Branch.{NodeOwn, Scores, Shades, shade_numbers}
 use Rattle.sample_node.specs.NodeEncoding.{kept_levels}
 use Rattle.sample_node.specs.NodeMeaning.{scores_cost, scores_take, shade_reading, shades_cost, shades_take, text_cmp}
 use Rattle.sample_node.specs.Refused.{HasEntryFault}

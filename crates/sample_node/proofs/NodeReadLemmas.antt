@@ -1,12 +1,12 @@
 -- A node as a message that holds a map of itself: bytes make of it, and cost, what the specs say.
 use Rattle.std.proofs.Common.{◌≡◌, ℕ, ℤ, zero, suc, ◌==◌, Bool, true, false, List, [], ◌++◌, Option, Some, None, refl, sym, ap, subst, ◌∙◌, if◌then◌else◌}
-use Rattle.std.proofs.lemmas.Bool.{eqb-false, eqb-true}
+use Rattle.std.proofs.lemmas.Bool.{eqb-true}
 use Rattle.std.specs.BTreeMap.{insert_entry}
 use Rattle.std.specs.Option.{option_map}
 use Rattle.std.specs.Ordering.{int_cmp}
 use Rattle.buffa_bytes.specs.declared.wire_type.WireType.{WireType}
-use Rattle.buffa_wire.specs.BudgetLeft.{BudgetLeft, nothing}
-use Rattle.buffa_wire.specs.Takes.{Need, Taker, cost_of, merged_of}
+use Rattle.buffa_wire.specs.BudgetLeft.{nothing}
+use Rattle.buffa_wire.specs.Takes.{Taker, cost_of, merged_of}
 use Rattle.buffa_map.specs.Message.{message_reading}
 use Rattle.buffa_map.specs.Scalars.{int32_reading}
 use Rattle.buffa_fields.specs.HeldMap.{map_nest_cost, map_nest_merged, map_nest_need, map_nest_takes}
@@ -15,7 +15,7 @@ use Rattle.buffa_fields.specs.KeptMapFacts.{kept_pair_behind}
 use Rattle.buffa_fields.specs.Keep.{keep_takes}
 use Rattle.buffa_fields.specs.Layout.{Layout}
 use Rattle.buffa_fields.specs.MapFields.{pair_cost, pair_taken}
-use Rattle.buffa_fields.specs.MapNests.{Kids, MapNest, kid_list, kids_in, kids_in-kid_list, map_nest, map_nest_of, map_parts_of, nest_of-parts_of, no_kid, parts_of-nest_of}
+use Rattle.buffa_fields.specs.MapNests.{Kids, kid_list, kids_in, kids_in-kid_list, map_nest, map_nest_of, map_parts_of, nest_of-parts_of, no_kid, parts_of-nest_of}
 use Rattle.sample_node.proofs.NodeOwnLemmas.{SaysOwn, node_keys, own_need, own_takes}
 use Rattle.sample_node.specs.Branch.{Branch, NodeKept, NodeOwn, Scores, Shades, branch}
 use Rattle.sample_node.specs.NodeMeaning.{LevelCost, LevelMeaning, children_cost, children_take, node_cost, node_field_need, node_field_takes, node_merged, scores_take, shade_reading, shades_take}
@@ -64,9 +64,9 @@ module _ (m : LevelMeaning) (d : ℕ) (a : Scores) (cs : Kids ℤ NodeOwn) (h : 
   at_others true j not_two one three = rw (one) (of_score (scores_take d a n w p))
   at_others false true not_two one three =
       rw (not_two, one, three) (
-        of_other with_own kept_behind_these (shades_take d (h, []) n w p)
-            ∙ behind (shades_take d (h, []) n w p)
-            ∙ ap (option_map (λ (x : Shades × NodeKept). branch a cs x.0 x.1)) (sym (kept_pair_behind int32_reading shade_reading (insert_entry int_cmp) d h r n w p))
+      of_other with_own kept_behind_these (shades_take d (h, []) n w p)
+      ∙ behind (shades_take d (h, []) n w p)
+      ∙ ap (option_map (λ (x : Shades × NodeKept). branch a cs x.0 x.1)) (sym (kept_pair_behind int32_reading shade_reading (insert_entry int_cmp) d h r n w p))
       )
   at_others false false not_two one three = rw (not_two, one, three) (of_other with_own (λ (s : NodeKept). let y : Shades × NodeKept = (h, s) in y) (keep_takes d r n w p))
 
@@ -93,9 +93,6 @@ module _ {M : Type 0} (l : Layout M NodeOwn) (says : SaysOwn l) where
   module _ (m : LevelMeaning) where
     abbrev as_node : Taker Branch
     as_node d t n w p = option_map map_nest_of (map_nest_takes node_keys l 2 96 m d (map_parts_of t) n w p)
-
-    abbrev as_parts : ℕ → ℕ → WireType → List ℕ → List (ℤ × Branch) × NodeOwn → Option (List (ℤ × Branch) × NodeOwn)
-    as_parts d n w p v = map_nest_takes node_keys l 2 96 m d v n w p
 
     same_takes : (d : ℕ) (t : Branch) (n : ℕ) (w : WireType) (p : List ℕ) → as_node d t n w p ≡ node_field_takes m d t n w p
     same_takes d (branch a cs h r) n w p = split (n == 2) ∙ field_taken m d a cs h r n w p

@@ -1,5 +1,5 @@
 -- The members of a node beside its children, as the node's type lists them, say what the specs do.
-use Rattle.std.proofs.Common.{◌≡◌, ℕ, ℤ, ◌==◌, ◌≤◌, zero, true, List, [], ◌++◌, FitsSigned, Ok, refl, sym, ap, ◌∙◌, append-nil, arith}
+use Rattle.std.proofs.Common.{◌≡◌, ℕ, ℤ, ◌==◌, true, List, [], FitsSigned, Ok, refl, ap, append-nil, arith}
 use Rattle.std.specs.BTreeMap.{insert_entry}
 use Rattle.std.specs.Cmp.{int_cmp_total}
 use Rattle.std.specs.Cmp.Lexicographic.{nat_list_cmp_total}
@@ -26,7 +26,7 @@ use Rattle.buffa_fields.specs.MapFacts.{map_back}
 use Rattle.buffa_fields.specs.MapFields.{entry_records, map_records}
 use Rattle.buffa_fields.specs.OrderedFacts.{ascending_put}
 use Rattle.sample_node.proofs.NodeOwnLemmas.{AreNormalScores, AreNormalShades, SaysOwn, node_keys}
-use Rattle.sample_node.specs.Branch.{NodeKept, NodeOwn, Scores, Shades, shade_numbers}
+use Rattle.sample_node.specs.Branch.{NodeOwn, Scores, Shades, shade_numbers}
 use Rattle.sample_node.specs.NodeMeaning.{scores_take, shade_reading, shades_take, text_cmp}
 use Rattle.sample_node.specs.contracts.node.NodeHoldsMap.TheImpl.{ghosts}
 use Rattle.sample_node.specs.declared.node.NodeMembers.{NodeMembers}
@@ -79,11 +79,14 @@ members_say = record {
   other = refl;
   owes = (
     record { back = λ k some d v fits normal low. scores_back k some d v fits normal; exact = λ _. exact_flat _ (entry_numbers text_writing int32_writing) (λ v i. 0) },
-    (record {
-      back = λ k some d v fits normal low. shades_back k some d v fits normal;
-      again = λ k d v x p aside low payload. kept_pair_again int32_reading shade_reading (insert_entry int_cmp) k d v x p aside low payload;
-      exact = λ _. exact_flat_keeping _ _ (entry_numbers int32_writing closed_writing) (λ v i. 0) (kept_pair_low int32_reading shade_reading (insert_entry int_cmp));
-    }, tt),
+    (
+      record {
+        back = λ k some d v fits normal low. shades_back k some d v fits normal;
+        again = λ k d v x p aside low payload. kept_pair_again int32_reading shade_reading (insert_entry int_cmp) k d v x p aside low payload;
+        exact = λ _. exact_flat_keeping _ _ (entry_numbers int32_writing closed_writing) (λ v i. 0) (kept_pair_low int32_reading shade_reading (insert_entry int_cmp));
+      },
+      tt,
+    ),
   );
   exact = (tt, (tt, tt));
   sound = refl;

@@ -1,8 +1,8 @@
 -- A node as a message that holds a map of itself: its records, encoding, slots and levels are those of the specs.
-use Rattle.std.proofs.Common.{◌≡◌, ℕ, ℤ, suc, max, List, [], ◌∷◌, ◌++◌, length, refl, sym, ap, ◌∙◌, append-nil, arith}
+use Rattle.std.proofs.Common.{◌≡◌, ℤ, suc, max, ◌∷◌, ◌++◌, length, refl, sym, ap, ◌∙◌, append-nil}
 use Rattle.buffa_wire.specs.Encoding.{records_encoding}
 use Rattle.buffa_wire.specs.Passes.{cap}
-use Rattle.buffa_wire.specs.Records.{Datum, bytes}
+use Rattle.buffa_wire.specs.Records.{bytes}
 use Rattle.buffa_fields.specs.HeldMap.{kid_levels, kid_records, kid_slots, map_nest_encoding, map_nest_levels, map_nest_records, map_nest_slots}
 use Rattle.buffa_fields.specs.Layout.{Layout}
 use Rattle.buffa_fields.specs.MapNests.{Kids, kid, no_kid}

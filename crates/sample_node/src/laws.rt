@@ -19,8 +19,9 @@ use crate::shade::Shade;
 use buffa_wire::{Blank, Enumeration, MessageSpec, UnknownFields};
 use std::collections::BTreeMap;
 
-/// Which message a node is: what bytes make of it and cost, its encoding, its slots, which nodes are read
-/// back, and how deep their encoding nests. Nothing is left out.
+/// Which message a node is: what bytes make of it and cost, its encoding, its slots, which nodes are read back where no
+/// length in them is too large to be read, and how deep their encoding nests. Of these nothing is left out. What its type
+/// says of a refused field is at least what `IsNodeRefused` does.
 pub fn node_is_this()
     ensures merged { (⟦<Node as MessageSpec>⟧.merged ≡ node_merged) × (⟦<Node as MessageSpec>⟧.cost ≡ node_cost) }
     ensures encoding { (⟦<Node as MessageSpec>⟧.encoding ≡ node_encoding) × (⟦<Node as MessageSpec>⟧.records ≡ node_records) }

@@ -105,9 +105,13 @@ impl HoldsMap for Node {
     ghost use Rattle.buffa_fields.specs.NamedMaps.{put_map};
 
     type Key = i32;
+
     type KeyCodec = Int32;
+
     type Inside = BTreeMap<i32, Node>;
+
     type Own = NodeMembers;
+
     type Words = And3<[And<[u8; 0], i32>; 0], [And<i32, i32>; 0], KeptFields>;
 
     const COST: usize = 96;
