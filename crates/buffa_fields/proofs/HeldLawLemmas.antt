@@ -1,26 +1,25 @@
 -- The list in which a message holds itself is a list of messages of its type; and what one field makes of such a message.
-use Rattle.std.proofs.Common.{◌≡◌, ◌↔◌, ◌<◌, inl, inr, ℕ, zero, suc, max, ◌==◌, Bool, true, false, List, [], ◌∷◌, ◌++◌, length, map, Option, Some, None, Result, Ok, Err, refl, sym, ap, subst, ◌∙◌, append-nil, if◌then◌else◌}
+use Rattle.std.proofs.Common.{◌≡◌, ◌↔◌, ℕ, zero, suc, max, Bool, true, false, List, [], ◌∷◌, ◌++◌, length, map, Option, Some, None, Result, Ok, Err, refl, sym, ap, subst, ◌∙◌, if◌then◌else◌}
 use Rattle.std.specs.List.{AllByRecursion}
 use Rattle.std.specs.Option.{option_map}
-use Rattle.buffa_bytes.specs.Field.{IsTag, Payload}
 use Rattle.buffa_bytes.specs.Front.{delimited_at}
 use Rattle.buffa_bytes.specs.WireType.{same_wire}
 use Rattle.buffa_bytes.specs.declared.error.DecodeError.{DecodeError}
 use Rattle.buffa_bytes.specs.declared.wire_type.WireType.{WireType}
 use Rattle.buffa_bytes.specs.declared.wire_type.WireType.TheVariants.{LengthDelimited}
-use Rattle.buffa_wire.specs.BudgetLeft.{BudgetLeft, nothing, plus, units}
+use Rattle.buffa_wire.specs.BudgetLeft.{nothing, plus, units}
 use Rattle.buffa_wire.specs.Encoding.{records_encoding}
 use Rattle.buffa_wire.specs.Message.{cost_of_payload}
 use Rattle.buffa_wire.specs.Parse.{Fits}
 use Rattle.buffa_wire.specs.Passes.{cap}
 use Rattle.buffa_wire.specs.Records.{Datum, bytes, records_of}
-use Rattle.buffa_wire.specs.Takes.{Taker, cost_of, merged_of}
-use Rattle.buffa_fields.specs.Held.{AreNormalInside, IsNormalNest, blank_nest, held_shape, nest_cost, nest_encoding, nest_layout, nest_levels, nest_merged, nest_records, nest_slots}
+use Rattle.buffa_wire.specs.Takes.{cost_of, merged_of}
+use Rattle.buffa_fields.specs.Held.{AreNormalInside, IsNormalNest, blank_nest, nest_cost, nest_encoding, nest_layout, nest_levels, nest_merged, nest_records, nest_slots}
 use Rattle.buffa_fields.specs.HeldFacts.{held_back, inside_levels_are, inside_records_are, inside_slots_are, nest_cost_is, nest_merged_is, parts_are}
 use Rattle.buffa_fields.specs.Layout.{Layout}
 use Rattle.buffa_fields.specs.Lists.{element_records}
 use Rattle.buffa_fields.specs.Nested.{FitsInside, inside, message_merged}
-use Rattle.buffa_fields.specs.Nests.{Nest, Nests, nest, no_nest, first, nest_list, nest_means, nest_of, nests_in, nest_list-nests_in, nests_in-nest_list, parts_of}
+use Rattle.buffa_fields.specs.Nests.{Nest, Nests, nest, no_nest, first, nest_list, nest_means, nest_of, nest_list-nests_in, nests_in-nest_list, parts_of}
 use Rattle.buffa_fields.specs.RepeatedNested.{messages_cost, messages_levels, messages_records, messages_slots, messages_taken}
 
 pub nest_is_whole : {O : Type 0} (t : Nest O) → nest_of (parts_of t) ≡ t

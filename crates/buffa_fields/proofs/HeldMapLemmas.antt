@@ -9,7 +9,7 @@ use Rattle.buffa_bytes.specs.declared.error.DecodeError.{DecodeError}
 use Rattle.buffa_bytes.specs.declared.error.EncodeError.{EncodeError}
 use Rattle.buffa_bytes.specs.declared.wire_type.WireType.{WireType}
 use Rattle.buffa_wire.proofs.EncodingLemmas.{records_encoding-append}
-use Rattle.buffa_wire.proofs.PassLemmas.{appended_twice, next_front, next_past, written_short, written_then}
+use Rattle.buffa_wire.proofs.PassLemmas.{next_front, next_past, written_short, written_then}
 use Rattle.buffa_wire.specs.BudgetLeft.{BudgetLeft}
 use Rattle.buffa_wire.specs.Cache.{Cache}
 use Rattle.buffa_wire.specs.Encoding.{records_encoding}
@@ -17,7 +17,7 @@ use Rattle.buffa_wire.specs.Passes.{IsNext, IsSized, IsSmall, IsWritten}
 use Rattle.buffa_wire.specs.Pinned.{done, refusal}
 use Rattle.buffa_map.specs.Pairs.{means}
 use Rattle.buffa_fields.specs.Layout.{Choice, Layout, Seen, Took, is_number, more}
-use Rattle.buffa_fields.specs.LayoutFacts.{failed, sized_more, small_both, sum}
+use Rattle.buffa_fields.specs.LayoutFacts.{sized_more, small_both, sum}
 use Rattle.buffa_fields.specs.NestedMaps.{pair_records, pair_slots}
 use Rattle.buffa_fields.specs.PairFacts.{number_of_test}
 use Rattle.buffa_fields.specs.HeldMap.{Keys, held_map_shape, map_nest_encoding, map_nest_layout, map_nest_slots}

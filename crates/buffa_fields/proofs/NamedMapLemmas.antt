@@ -23,7 +23,7 @@ use Rattle.buffa_fields.proofs.HeldMapLemmas.{field_inside}
 use Rattle.buffa_fields.specs.HeldMap.{Keys, blank_map_nest, held_map_shape, map_nest_cost, map_nest_layout, map_nest_merged, message_refused}
 use Rattle.buffa_fields.specs.HeldMapFacts.{as_map_nest}
 use Rattle.buffa_fields.specs.HeldMessageFacts.{field_merged, field_refused}
-use Rattle.buffa_fields.specs.MapNests.{Kids, MapNest, kid, kid_list, kid_list-kids_in, kids_height, kids_in, kids_in-kid_list, kids_mean, kids_of, map_nest, map_nest_height, map_nest_means, map_own_of}
+use Rattle.buffa_fields.specs.MapNests.{MapNest, kid, kid_list, kid_list-kids_in, kids_height, kids_in, kids_in-kid_list, kids_mean, kids_of, map_nest, map_nest_height, map_nest_means, map_own_of}
 use Rattle.buffa_fields.specs.NamedMaps.{nests_at}
 
 -- a nest in a map is less deep than what holds the map

@@ -5,13 +5,12 @@
 //! message. What a message is read and written as is what its nest is: the words of [`MapNest`](crate::held_map::MapNest), at
 //! the other members of the struct.
 
-ghost use Rattle.std.specs.Prelude.{◌≡◌, ◌≢◌, ◌+◌, IfErr, IsOk, OnErr, [], refl};
+ghost use Rattle.std.specs.Prelude.{◌≡◌, ◌≢◌, ◌+◌, IfErr, IsOk, OnErr, []};
 ghost use Rattle.std.specs.BTreeMap.{insert_entry};
 ghost use Rattle.std.proofs.Common.{ap, sym, ◌∙◌};
 ghost use Rattle.buffa_bytes.specs.Gives.{FullOnlyIf};
 ghost use Rattle.buffa_bytes.specs.Number.{IsNumber};
 ghost use Rattle.buffa_wire.specs.BudgetLeft.{budget_left};
-ghost use Rattle.buffa_wire.specs.Encoding.{records_encoding};
 ghost use Rattle.buffa_wire.specs.Message.{MergesBytes, MergesField, TakesMessageField};
 ghost use Rattle.buffa_wire.specs.Passes.{IsNext, IsSized, IsWritten};
 ghost use Rattle.buffa_wire.specs.Takes.{IsTaken};
@@ -22,7 +21,7 @@ ghost use Rattle.buffa_fields.specs.MapFields.{PairTakesMemory, pair_cost, pair_
 ghost use Rattle.buffa_fields.specs.MemberCalls.{SizesPairs, WritesPairs};
 ghost use Rattle.buffa_fields.specs.NestedMaps.{pair_slots};
 ghost use Rattle.buffa_fields.specs.Refusals.{RefusesPairIn};
-ghost use Rattle.buffa_fields.specs.HeldMap.{IsNormalMapNest, kids_needed_at, blank_map_nest, keys_by, message_refused, message_takes, map_nest_cost, map_nest_encoding, map_nest_layout, map_nest_levels, map_nest_merged, map_nest_records, map_nest_slots};
+ghost use Rattle.buffa_fields.specs.HeldMap.{IsNormalMapNest, kids_needed_at, keys_by, message_refused, message_takes, map_nest_cost, map_nest_encoding, map_nest_layout, map_nest_levels, map_nest_merged, map_nest_records, map_nest_slots};
 ghost use Rattle.buffa_fields.specs.HeldMapFacts.{codec_reads_back, map_nest_back, map_nest_cost_is};
 ghost use Rattle.buffa_fields.specs.HeldMessageFacts.{message_merged_is, message_need_stays};
 ghost use Rattle.buffa_fields.specs.NamedMaps.{nest_taken};
@@ -30,10 +29,9 @@ ghost use Rattle.buffa_fields.specs.NamedMaps.{nest_taken};
 use crate::holds_map::{Held, HoldingMap, HoldsMap};
 use crate::holds_map_sides::{size_behind, size_front, write_behind, write_front};
 use crate::pairs_by::{pairs_len_by, take_pair_by, write_pairs_by};
-use buffa_map::map_codec::MapValueDecode;
 use buffa_wire::{
-    Blank, Budget, Buf, DecodeContext, DecodeError, EncodeError, EncodeSink, MessageForm,
-    MessageMeaning, SizeCache, Tag, WireType,
+    Budget, Buf, DecodeContext, DecodeError, EncodeError, EncodeSink, MessageForm, MessageMeaning,
+    SizeCache, Tag, WireType,
 };
 use std::alloc::Global;
 use std::collections::BTreeMap;

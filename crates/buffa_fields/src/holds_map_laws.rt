@@ -20,8 +20,7 @@ ghost use Rattle.buffa_fields.specs.NamedMaps.{PutsMap, nest_taken, nests_at};
 ghost use Rattle.buffa_fields.specs.NestedMaps.{pair_levels, pair_slots};
 ghost use Rattle.buffa_fields.specs.Pinned.{TakeAlike};
 
-use crate::holds_map::{Held, HoldingMap, HoldsMap};
-use buffa_map::map_codec::{MapCodec, MapValueDecode};
+use crate::holds_map::{Held, HoldingMap};
 use buffa_wire::{MessageForm, MessageMeaning, MessageSpec, WireType};
 use std::collections::BTreeMap;
 

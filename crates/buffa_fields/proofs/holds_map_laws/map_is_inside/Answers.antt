@@ -1,6 +1,5 @@
 use Rattle.std.proofs.Common.{◌∙◌, ap}
 use Rattle.buffa_fields.proofs.NamedMapLemmas.{meant_inside, nest_inside}
-use Rattle.buffa_fields.specs.MapPinned.{map_inside_of}
 use Rattle.buffa_fields.proofs.holds_map_laws.map_is_inside.Goals as goal
 
 pub returns-clause-nests : goal.returns-clause-nests
