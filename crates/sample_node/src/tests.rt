@@ -40,7 +40,10 @@ fn a_node_comes_back(rt: HostRuntime) -> Result<(), Fail> {
 fn a_refused_node_has_the_fields_before(rt: HostRuntime) -> Result<(), Fail> {
     let alloc = rt.alloc();
     let mut node: Node = Blank::blank(alloc);
-    let bytes: &[u8] = &[0x1A, 0x04, 0x08, 0x02, 0x10, 0x01, 0x12, 0x02, 0x08, 0x01];
+    let bytes: &[u8] = &[
+        0x1A, 0x04, 0x08, 0x02, 0x10, 0x01, // a shade,
+        0x12, 0x04, 0x08, 0x01, 0x12, 0x00, // and a node, for which no level is left
+    ];
     let mut budget = Budget::new(0);
     let answer = merge_node(alloc, &mut node, bytes, 0, &mut budget);
     assert!(rt; answer == Err(DecodeError::RecursionLimitExceeded));
