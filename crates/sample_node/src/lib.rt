@@ -6,3 +6,5 @@
 pub mod laws;
 pub mod node;
 pub mod shade;
+#[cfg(test)]
+mod tests;

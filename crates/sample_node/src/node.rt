@@ -196,7 +196,7 @@ impl HoldingMap for Node {
 /// Those of [`Message::compute_size`]; never for a node with no children.
 ///
 /// ```ignore
-/// let size = size_node(child, cache);
+/// let size = size_node(&node, &mut cache)?;
 /// ```
 pub fn size_node(node: &Node, cache: &mut SizeCache) -> Result<u32, EncodeError>
     ensures sized { IsSized (node_encoding (node_means node.now)) (node_slots (node_means node.now)) cache.old result
@@ -212,7 +212,7 @@ pub fn size_node(node: &Node, cache: &mut SizeCache) -> Result<u32, EncodeError>
 /// Those of [`Message::write_to`].
 ///
 /// ```ignore
-/// let answer = write_node(child, cache, sink);
+/// write_node(&node, &mut cache, &mut encoding)?;
 /// ```
 pub fn write_node<S: EncodeSink>(
     node: &Node,
@@ -252,7 +252,7 @@ fn merge_node_field(
 /// Those of [`Message::merge`]. The node is then what the fields before the refused one make of it.
 ///
 /// ```ignore
-/// merge_node(alloc, child, bytes, depth, budget)?;
+/// merge_node(alloc, &mut node, bytes, 1, &mut budget)?;
 /// ```
 pub fn merge_node(
     alloc: Global,
