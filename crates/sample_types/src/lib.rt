@@ -14,6 +14,8 @@ pub mod keep;
 pub mod laws;
 pub mod passed_on;
 pub mod round_trip;
+#[cfg(test)]
+mod tests;
 pub mod tree;
 pub mod two;
 pub mod word;

@@ -152,7 +152,7 @@ impl Formed for Tree {
 /// Those of [`Message::compute_size`]; never for a tree with no children.
 ///
 /// ```ignore
-/// let size = size_tree(child, cache);
+/// let size = size_tree(&tree, &mut cache)?;
 /// ```
 pub fn size_tree(tree: &Tree, cache: &mut SizeCache) -> Result<u32, EncodeError>
     ensures sized { IsSized (tree_encoding tree.now) (tree_slots tree.now) cache.old result cache.new }
@@ -164,7 +164,7 @@ pub fn size_tree(tree: &Tree, cache: &mut SizeCache) -> Result<u32, EncodeError>
 /// The write pass: the encoding, and the slots of the children consumed.
 ///
 /// ```ignore
-/// let answer = write_tree(child, cache, sink);
+/// write_tree(&tree, &mut cache, &mut encoding)?;
 /// ```
 pub fn write_tree<S: EncodeSink>(
     tree: &Tree,
@@ -185,7 +185,7 @@ pub fn write_tree<S: EncodeSink>(
 /// Those of [`Message::merge`], and the tree is then as it says: what the fields before the refused one make of it.
 ///
 /// ```ignore
-/// merge_tree(alloc, child, bytes, depth, budget)?;
+/// merge_tree(alloc, &mut tree, bytes, 1, &mut budget)?;
 /// ```
 pub fn merge_tree(
     alloc: Global,
