@@ -33,7 +33,7 @@ use Rattle.buffa_fields.specs.Values.{RefusesAlone, ValueTakesMemory, free, valu
 use Rattle.sample_types.proofs.NumberLemmas.{flat_written}
 use Rattle.sample_types.specs.Grown.{Children, Grown, Label, grown}
 use Rattle.sample_types.specs.TreeEncoding.{child_entry, children_levels, children_records, children_slots, tree_encoding, tree_levels, tree_records, tree_slots}
-use Rattle.sample_types.specs.TreeMeaning.{ChildCost, ChildMeaning, children_cost, children_take, label_take, tree_cost, tree_field_need, tree_field_takes, tree_merged}
+use Rattle.sample_types.specs.TreeMeaning.{ChildCost, ChildMeaning, kids_cost, kids_take, label_take, tree_cost, tree_field_need, tree_field_takes, tree_merged}
 
 -- ---- the keys, and the label as the one member
 abbrev pub tree_keys : Keys ℤ
@@ -91,7 +91,7 @@ one_field false false apart a b l cs = ap (λ z. Some (grown l z)) (sym (kids_in
 takes_are : (m : ChildMeaning) (d : ℕ) (t : Grown) (n : ℕ) (w : WireType) (p : List ℕ) →
     tree_field_takes m d t n w p ≡ option_map map_nest_of (map_nest_takes tree_keys tree_own 2 32 m d (map_parts_of t) n w p)
 takes_are m d (grown l cs) n w p =
-    one_field (n == 1) (n == 2) (λ one two. omega (arith, eqb-true n 1 one, eqb-true n 2 two)) (label_take d l n w p) (children_take m d (kid_list cs) n w p) l cs
+    one_field (n == 1) (n == 2) (λ one two. omega (arith, eqb-true n 1 one, eqb-true n 2 two)) (label_take d l n w p) (kids_take m d (kid_list cs) n w p) l cs
 
 at_level : (m : ChildMeaning) (d : ℕ) (t : Grown) (b : List ℕ) → merged_of (tree_field_takes m) d t b ≡ option_map map_nest_of (merged_of (map_nest_takes tree_keys tree_own 2 32 m) d (map_parts_of t) b)
 at_level m d t b =
@@ -112,7 +112,7 @@ either_nothing true = refl
 either_nothing false = refl
 
 needs_are : (m : ChildMeaning) (c : ChildCost) (d n : ℕ) (w : WireType) (bs : List ℕ) → tree_field_need m c d n w bs ≡ map_nest_need tree_keys tree_own 2 32 m c d n w bs
-needs_are m c d n w bs = λ i. if n == 2 then children_cost m c d n w bs else either_nothing (n == 1) i
+needs_are m c d n w bs = λ i. if n == 2 then kids_cost m c d n w bs else either_nothing (n == 1) i
 
 pub tree_cost_is : (d : ℕ) (b : List ℕ) → tree_cost d b ≡ map_nest_cost tree_keys tree_own 2 32 d b
 tree_cost_is zero b = costs_alike (tree_field_need (λ _ _. None) (λ _. nothing)) (map_nest_need tree_keys tree_own 2 32 (λ _ _. None) (λ _. nothing)) zero (needs_are (λ _ _. None) (λ _. nothing) zero) b

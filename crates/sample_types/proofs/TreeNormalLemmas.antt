@@ -38,7 +38,7 @@ use Rattle.buffa_fields.specs.Values.{all_of}
 use Rattle.sample_types.specs.FieldsFacts.{Keeps, merged_keeps}
 use Rattle.sample_types.specs.Grown.{Children, Grown, blank_tree, grown}
 use Rattle.sample_types.specs.TreeEncoding.{AreNormalChildren, IsNormalTree}
-use Rattle.sample_types.specs.TreeMeaning.{ChildMeaning, child_reading, children_take, label_take, tree_field_takes, tree_merged}
+use Rattle.sample_types.specs.TreeMeaning.{ChildMeaning, child_reading, kids_take, label_take, tree_field_takes, tree_merged}
 
 -- ---- what each field keeps all bytes keep
 module _ {X : Type 0} (takes : Taker X) (d : ℕ) (P : X → Type 0) (keeps : (v u : X) (n : ℕ) (w : WireType) (p : List ℕ) → P v → takes d v n w p ≡ Some u → P u) where
@@ -131,7 +131,7 @@ module _ (m : ChildMeaning) (stays : KeepsNormal m) (d : ℕ) where
   whole_said (Ok (e, b ∷ bs)) x h = cc
   whole_said (Err f) x h = cc
 
-  child_said : (n : ℕ) (w : WireType) (p : List ℕ) (es new : List (ℤ × Grown)) → children_take m d es n w p ≡ Some new → (s : MapEntry ℤ Grown) × Said s × (stepped (insert_entry int_cmp) es s ≡ new)
+  child_said : (n : ℕ) (w : WireType) (p : List ℕ) (es new : List (ℤ × Grown)) → kids_take m d es n w p ≡ Some new → (s : MapEntry ℤ Grown) × Said s × (stepped (insert_entry int_cmp) es s ≡ new)
   unfolding entry_taken
   child_said n w p es new h = by (same_wire LengthDelimited w) h
     where
@@ -154,12 +154,12 @@ module _ (m : ChildMeaning) (stays : KeepsNormal m) (d : ℕ) where
     with_child s is false = subst (λ z. IsNormalTree (grown l z)) (sym (kids_in-kid_list cs)) normal
 
     by_number : (u : Grown) (n : ℕ) (w : WireType) (p : List ℕ) (i j : Bool) →
-        (if i then option_map (λ new. grown new cs) (label_take d l n w p) else if j then option_map (λ es. grown l (kids_in es)) (children_take m d (kid_list cs) n w p) else Some (grown l cs)) ≡ Some u → IsNormalTree u
+        (if i then option_map (λ new. grown new cs) (label_take d l n w p) else if j then option_map (λ es. grown l (kids_in es)) (kids_take m d (kid_list cs) n w p) else Some (grown l cs)) ≡ Some u → IsNormalTree u
     by_number u n w p true j h =
         let x = mapped (λ new. grown new cs) (label_take d l n w p) u h in
         subst (λ z. IsNormalTree z) x.2 (label_fits d n w p l x.0 x.1, normal.1, normal.2)
     by_number u n w p false true h =
-        let x = mapped (λ es. grown l (kids_in es)) (children_take m d (kid_list cs) n w p) u h in
+        let x = mapped (λ es. grown l (kids_in es)) (kids_take m d (kid_list cs) n w p) u h in
         let s = child_said n w p (kid_list cs) x.0 x.1 in
         subst (λ z. IsNormalTree z) (ap (λ (es : List (ℤ × Grown)). grown l (kids_in es)) s.2 ∙ x.2) (with_child s.0 s.1 s.0.known)
     by_number u n w p false false h = let e : grown l cs ≡ u = cc in subst (λ z. IsNormalTree z) e normal

@@ -29,20 +29,20 @@ abbrev pub label_take : Taker ℤ
 label_take = value_taken int32_reading
 
 -- field 2: a key costs 4 units, and a child 32
-abbrev pub children_take : ChildMeaning → Taker (List (ℤ × Grown))
-children_take m = pair_taken int32_reading (child_reading m (λ _. nothing)) (insert_entry int_cmp)
+abbrev pub kids_take : ChildMeaning → Taker (List (ℤ × Grown))
+kids_take m = pair_taken int32_reading (child_reading m (λ _. nothing)) (insert_entry int_cmp)
 
-abbrev pub children_cost : ChildMeaning → ChildCost → Need
-children_cost m c = pair_cost int32_reading (child_reading m c) 36
+abbrev pub kids_cost : ChildMeaning → ChildCost → Need
+kids_cost m c = pair_cost int32_reading (child_reading m c) 36
 
 abbrev pub tree_field_takes : ChildMeaning → Taker Grown
 tree_field_takes m d (grown l cs) n w p =
     if n == 1 then option_map (λ new. grown new cs) (label_take d l n w p)
-    else if n == 2 then option_map (λ es. grown l (kids_in es)) (children_take m d (kid_list cs) n w p)
+    else if n == 2 then option_map (λ es. grown l (kids_in es)) (kids_take m d (kid_list cs) n w p)
     else Some (grown l cs)
 
 abbrev pub tree_field_need : ChildMeaning → ChildCost → Need
-tree_field_need m c d n w bs = if n == 2 then children_cost m c d n w bs else nothing
+tree_field_need m c d n w bs = if n == 2 then kids_cost m c d n w bs else nothing
 
 abbrev pub tree_merged : ℕ → Grown → List ℕ → Option Grown
 tree_merged zero t bs = merged_of (tree_field_takes (λ _ _. None)) zero t bs
