@@ -8,7 +8,7 @@ ghost use Rattle.buffa_bytes.specs.Varint.{IsByte};
 ghost use Rattle.buffa_wire.specs.Parse.{Fits};
 ghost use Rattle.buffa_wire.specs.Records.{records_of};
 ghost use Rattle.buffa_map.specs.Pairs.{means};
-ghost use Rattle.buffa_fields.specs.MapNests.{kids_in};
+ghost use Rattle.buffa_fields.specs.MapNests.{kids_in, map_nest};
 ghost use Rattle.sample_node.specs.Branch.{Branch, blank_node, branch, node_means, shade_number};
 ghost use Rattle.sample_node.specs.NodeMeaning.{node_cost, node_merged};
 ghost use Rattle.sample_node.specs.Refused.{IsNodeRefused};
@@ -49,7 +49,7 @@ pub fn node_levels_are_exact()
         ⟦<Node as MessageSpec>⟧.merged d ⟦<Node as Blank>⟧.blank_is (⟦<Node as MessageSpec>⟧.encoding v) ≡ None }
 {}
 
-/// What a node means is what its fields hold. Nothing is left out.
+/// A node is its fields, and what it means is what they hold. Nothing is left out.
 pub fn nodes_hold_these(
     node: &Node,
 ) -> (
@@ -58,7 +58,9 @@ pub fn nodes_hold_these(
     &BTreeMap<i32, Shade>,
     &UnknownFields,
 )
-    ensures { node_means node.now ≡ branch (means string_bytes (λ v. v) result.0.now.entries)
+    ensures fields { node.now ≡ map_nest (record { scores = result.0.now; shades = result.2.now; rest = result.3.now })
+        (kids_in result.1.now.entries) }
+    ensures meaning { node_means node.now ≡ branch (means string_bytes (λ v. v) result.0.now.entries)
         (kids_in (means (λ k. k) node_means result.1.now.entries)) (means (λ k. k) shade_number result.2.now.entries)
         result.3.now.records }
 {
