@@ -41,12 +41,12 @@ pub fn nodes_stay_normal()
     ensures blank { IsNormalNode ⟦<Node as Blank>⟧.blank_is }
 {}
 
-/// How deep a node nests is exactly so deep: at no lesser depth are its encoding's bytes merged, so that it isn't read back
-/// there. Nothing is left out.
+/// How deep a node nests is exactly so deep: at no lesser depth are its encoding's bytes merged, into whatever node, so that it
+/// isn't read back there. Nothing is left out.
 pub fn node_levels_are_exact()
-    ensures { (d : ℕ) (v : Branch) → Fits (records_of (⟦<Node as MessageSpec>⟧.records v)) →
+    ensures { (d : ℕ) (old v : Branch) → Fits (records_of (⟦<Node as MessageSpec>⟧.records v)) →
         ⟦<Node as MessageSpec>⟧.normal v → d < ⟦<Node as MessageSpec>⟧.levels v →
-        ⟦<Node as MessageSpec>⟧.merged d ⟦<Node as Blank>⟧.blank_is (⟦<Node as MessageSpec>⟧.encoding v) ≡ None }
+        ⟦<Node as MessageSpec>⟧.merged d old (⟦<Node as MessageSpec>⟧.encoding v) ≡ None }
 {}
 
 /// A node is its fields, and what it means is what they hold. Nothing is left out.
