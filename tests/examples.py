@@ -178,7 +178,7 @@ def pattern_of(code):
 
 def stands_alone(text, found, is_closed):
     """Whether what was found is an expression: no function behind another value or type, nor cut off at its end."""
-    earlier, before = text[max(0, found.start() - 200): found.start()].split(" ")[-3:-1]
+    earlier, before = ["", "", *text[max(0, found.start() - 200): found.start()].split(" ")][-3:-1]
     after = text[found.end(): found.end() + 200].split(" ")[0]
     if before in (".", "fn") or before == "::" and not NAME.match(earlier):
         return False

@@ -7,7 +7,8 @@ pub mod MapFields
 pub mod Members
 pub mod Slots
 pub mod Wire
-pub use Rattle.buffa_map.specs.Children
+pub use Rattle.buffa_fields.specs.MapNests
+pub use Rattle.buffa_fields.specs.NamedMaps
 pub use Rattle.sample_node.specs.Branch
 pub use Rattle.sample_node.specs.NodeMeaning
 pub use Rattle.sample_node.specs.NodeEncoding

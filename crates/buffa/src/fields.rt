@@ -2,8 +2,9 @@
 //!
 //! A struct is one by [`Fields`], [`Blank`](crate::Blank), [`Listing`] and [`Formed`]; what these cite is handed on in
 //! `specs/` under the name `Members`. One that holds a list of itself, a map of itself or one message of itself is a [`Nest`],
-//! a [`MapNest`] or a [`Chain`] of a struct that has [`Holds`]. [`crate::laws::fields`], [`crate::laws::held_maps`] and
-//! [`crate::laws::held_ones`] say what each member type is.
+//! a [`MapNest`] or a [`Chain`] of a struct that has [`Holds`]. A struct of one's own with a map of itself is one by [`HoldsMap`],
+//! [`HoldingMap`] and [`Held`]. [`crate::laws::fields`], [`crate::laws::held_maps`], [`crate::laws::held_messages`] and
+//! [`crate::laws::held_ones`] say what each member type and each form is.
 //!
 //! ```ignore
 //! impl Fields for Stock { .. }
@@ -12,8 +13,9 @@
 pub use buffa_fields::fields::Fields;
 pub use buffa_fields::group::Group;
 pub use buffa_fields::held::{self, Holds, Inside, Nest};
-pub use buffa_fields::held_map::{self, MapInside, MapNest};
+pub use buffa_fields::held_map::{self, MapInside, MapNest, MapNestMeaning};
 pub use buffa_fields::held_one::{self, Chain, ChainInside};
+pub use buffa_fields::holds_map::{self, Held, HoldingMap, HoldsMap};
 pub use buffa_fields::keeping::Keeping;
 pub use buffa_fields::kept::{self, KeptFields};
 pub use buffa_fields::map_member::MapOf;

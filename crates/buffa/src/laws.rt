@@ -39,6 +39,8 @@ pub use buffa_ext::laws as extensions;
 pub use buffa_fields::laws as fields;
 /// Laws of messages that hold a map of themselves.
 pub use buffa_fields::held_map_laws as held_maps;
+/// Laws of structs that hold a map of themselves in a member with a name of its own.
+pub use buffa_fields::holds_map_laws as held_messages;
 /// Laws of messages that may hold one message of themselves.
 pub use buffa_fields::held_one_laws as held_ones;
 /// Laws of map fields: codecs, entries, runs, sizes, encodings and rewrites.

@@ -14,6 +14,7 @@ ghost use Rattle.buffa_ext.specs.Messages.{group_of};
 ghost use Rattle.std.specs.BTreeMap.{insert_entry};
 ghost use Rattle.buffa_fields.specs.Groups.{group_datum, group_records};
 ghost use Rattle.buffa_fields.specs.Held.{nest_encoding};
+ghost use Rattle.buffa_fields.specs.HeldMap.{keys_by, map_nest_records};
 ghost use Rattle.buffa_fields.specs.HeldOne.{chain_encoding};
 ghost use Rattle.buffa_fields.specs.Layout.{both_take};
 ghost use Rattle.buffa_fields.specs.Lists.{element_records, packed_records};
@@ -27,7 +28,9 @@ ghost use Rattle.buffa_map.specs.Pairs.{put};
 ghost use Rattle.buffa_map.specs.Scalars.{bytes_reading, number_reading, string_reading};
 
 use crate::extension::{ExtensionCodec, PackableCodec, SingularCodec, codecs};
-use crate::fields::{Fields, Holds, Listing, Member, OrderedKey, Packable, ProtoType};
+use crate::fields::{
+    Fields, HoldingMap, Holds, HoldsMap, Listing, Member, OrderedKey, Packable, ProtoType,
+};
 use crate::map_codec::{MapCodec, MapStorage, MapValueDecode};
 use crate::{
     Blank, DEFAULT_ELEMENT_MEMORY_LIMIT, DEFAULT_UNKNOWN_FIELD_LIMIT, Enumeration,
@@ -141,6 +144,7 @@ pub fn member_types_are_these<
     VC: MapCodec,
     M: Listing,
     O: Holds,
+    H: HoldingMap,
 >()
     ensures plain { (n : ℕ) (v : _) → ⟦<fields::Plain<C> as Member>⟧.shape.records n v
         ≡ plain_records C.is_blank C.datum n v }
@@ -182,4 +186,5 @@ pub fn member_types_are_these<
         ++ (message_records (chain_encoding O.layout O.NUMBER) O.NUMBER v.0
         ++ (O.layout.behind O.NUMBER v.1 ++ O.layout.kept v.1)) }
     ensures listed { ⟦<fields::Listed as MessageMeaning<M>>⟧.records ≡ M.layout.records }
+    ensures held { ⟦<fields::Held as MessageMeaning<H>>⟧.records ≡ map_nest_records (keys_by H.KeyCodec.reading H.KeyCodec.writing H.KeyCodec.COST H.Key.order H.KeyCodec.fits H.KeyCodec.normal) H.own H.NUMBER H.HoldsMap.COST }
 {}

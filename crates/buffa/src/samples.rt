@@ -1,7 +1,7 @@
-//! Two messages that are written by hand over the crates below this one: a node that holds itself, and a MessageSet.
+//! Two messages over the crates below this one: a node that holds a map of itself, and a MessageSet, which is written by hand.
 //!
 //! Which messages they are is said by [`crate::laws::nodes`] and [`crate::laws::sets`]. What they cite is handed on in
-//! `specs/` under the names `Children`, `Branch`, `NodeMeaning`, `NodeEncoding` and `Set`.
+//! `specs/` under the names `Branch`, `NodeMeaning`, `NodeEncoding` and `Set`.
 //!
 //! ```ignore
 //! use buffa::samples::Node;

@@ -51,7 +51,7 @@ pub trait HoldsMap: Drop {
     /// The other members, as a struct of their own. It is for contracts: no value of it is ever made.
     ///
     /// ```ignore
-    /// type Own = NodeOwn;
+    /// type Own = NodeMembers;
     /// ```
     type Own;
 

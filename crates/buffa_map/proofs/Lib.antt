@@ -27,6 +27,5 @@ pub mod PlainLemmas
 pub mod PinLemmas
 pub mod PinEncodingLemmas
 pub mod InsertLemmas
-pub mod ChildrenLemmas
 pub mod LowLemmas
 pub mod ReaderRules

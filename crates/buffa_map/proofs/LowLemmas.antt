@@ -1,37 +1,18 @@
--- What is merged isn't too deep: of an encoding that is merged each record is taken, and so is each child in it.
-use Rattle.std.proofs.Common.{◌≡◌, inl, inr, ℕ, zero, suc, ℤ, FitsSigned, ◌-◌, ◌^◌, ◌<◌, ◌≤◌, true, List, [], ◌∷◌, ◌++◌, length, length-append, Option, Some, None, Result, Ok, Err, refl, sym, ap, subst, ◌∙◌, arith, append_assoc, append-nil}
-use Rattle.std.specs.Int.{w32}
+-- What is merged isn't too deep: of an encoding that is merged each record is taken.
+use Rattle.std.proofs.Common.{◌≡◌, ℕ, ◌-◌, ◌<◌, ◌≤◌, List, [], ◌∷◌, ◌++◌, Option, Some, None, refl, sym, ap, subst, ◌∙◌, arith, append_assoc}
 use Rattle.std.specs.List.{AllByRecursion}
-use Rattle.buffa_bytes.proofs.FieldLemmas.{is_tag, tag_some}
-use Rattle.buffa_bytes.proofs.VarintLemmas.{IsVarint-varint_encoding}
-use Rattle.buffa_bytes.specs.Content.{bytes as payload_of}
 use Rattle.buffa_bytes.specs.Field.{IsTag, Payload}
-use Rattle.buffa_bytes.specs.Values.{delimited_encoding, tag_encoding}
-use Rattle.buffa_bytes.specs.Varint.{varint_encoding}
-use Rattle.buffa_bytes.specs.declared.error.DecodeError.{DecodeError}
-use Rattle.buffa_bytes.specs.declared.error.DecodeError.TheVariants.{RecursionLimitExceeded, UnexpectedEof}
+use Rattle.buffa_bytes.specs.declared.error.DecodeError.TheVariants.{UnexpectedEof}
 use Rattle.buffa_bytes.specs.declared.wire_type.WireType.{WireType}
-use Rattle.buffa_bytes.specs.declared.wire_type.WireType.TheVariants.{LengthDelimited, Varint}
 use Rattle.buffa_wire.proofs.ByFieldLemmas.{read, refused}
 use Rattle.buffa_wire.proofs.JoinLemmas.{join_records, payload_of_record}
 use Rattle.buffa_wire.proofs.ParseLemmas.{encoding_parses, one_reading}
 use Rattle.buffa_wire.proofs.TakesLemmas.{framed_at, framed_same, framed_sound, merged_of_fields}
-use Rattle.buffa_wire.specs.BudgetLeft.{nothing}
 use Rattle.buffa_wire.specs.DepthFacts.{height-records}
 use Rattle.buffa_wire.specs.Encoding.{records_encoding, wire_of}
-use Rattle.buffa_wire.specs.Message.{merged_in}
 use Rattle.buffa_wire.specs.Parse.{Fits, IsPayload, Parse}
 use Rattle.buffa_wire.specs.Records.{Datum, Records, bytes, datum_height, fixed32, fixed64, group, height, no_records, one, records_height, records_of, varint}
 use Rattle.buffa_wire.specs.Takes.{Taker, answer, framed, merged_of}
-use Rattle.buffa_map.proofs.BackLemmas.{entry_back}
-use Rattle.buffa_map.proofs.ChildrenLemmas.{child_shorter, int32_reads_back}
-use Rattle.buffa_map.proofs.EntryLemmas.{entry_faulty}
-use Rattle.buffa_map.specs.Children.{AreNormalChildren, AreShort, ChildMeaning, Children, Family, IsNormalFamily, child, child_entry, child_reading, children_of, family, family_levels, levels_below, no_child}
-use Rattle.buffa_map.specs.Codec.{ValueFault}
-use Rattle.buffa_map.specs.Entry.{FaultOf, IsEntryField, blanks, entry_of}
-use Rattle.buffa_map.specs.Message.{meant}
-use Rattle.buffa_map.specs.Scalars.{int32_reading, int32_writing}
-use Rattle.buffa_map.specs.declared.map_entry.MapEntry.{MapEntry}
 
 -- ---- records that are read nest no deeper than the depth
 mutual
@@ -82,78 +63,3 @@ module _ {X : Type 0} (takes : Taker X) (d : ℕ) where
   -- records whose groups nest deeper aren't merged
   pub deep_records_are_refused : (rs : List (ℕ × Datum)) (v : X) → Fits (records_of rs) → d < height rs → merged_of takes d v (records_encoding rs) ≡ None
   deep_records_are_refused rs v fits high = too_high rs v fits high (merged_of takes d v (records_encoding rs)) refl
-
--- ---- the entry of a child is read only where a level is left, and the level below reads the child
-module _ {O : Type 0} (blank : Family O) (encoding : Family O → List ℕ) (d : ℕ) (m : ChildMeaning (Family O)) where
-  -- a child whose entry is read
-  abbrev pub IsEntryRead : ℤ → Family O → Type 0
-  IsEntryRead k t = (s : MapEntry ℤ (Family O)) × (entry_of int32_reading (child_reading blank m (λ _. nothing)) d (child_entry k (encoding t)) ≡ Ok s)
-
-  abbrev pub AreEntriesRead : Children O → Type 0
-  AreEntriesRead no_child = Unit {0}
-  AreEntriesRead (child k t cs) = IsEntryRead k t × AreEntriesRead cs
-
-  -- a fault of the child is one of its entry
-  child_fault : (k : ℤ) (b : List ℕ) (f : DecodeError) → FitsSigned w32 k → ValueFault (child_reading blank m (λ _. nothing)) d blank (delimited_encoding b) f → FaultOf int32_reading (child_reading blank m (λ _. nothing)) d (child_entry k b) f
-  child_fault k b f fits h =
-      let head : List ℕ = tag_encoding 1 Varint ++ int32_writing.encoding k in
-      let tag = is_tag 2 LengthDelimited (omega arith, omega arith) in
-      let rest : List ℕ = tag_encoding 2 LengthDelimited ++ delimited_encoding b in
-      let back = int32_reads_back d k fits in
-      let s : MapEntry ℤ (Family O) = record { key = k; value = blank; known = true } in (
-        s,
-        rest,
-        (head ∷ [], ap (λ z. z ++ rest) (sym (append-nil head)), (s, inl (k, true, (tag_encoding 1 Varint, int32_writing.encoding k, back.1, is_tag 1 Varint (omega arith, omega arith), back.0, back.2, back.3, refl), refl), refl)),
-        (λ e. omega (arith, tag_some (tag_encoding 2 LengthDelimited) 2 LengthDelimited tag, length-append (tag_encoding 2 LengthDelimited) (delimited_encoding b), ap length e)),
-        inr (inr (inl (LengthDelimited, delimited_encoding b, (tag_encoding 2 LengthDelimited, tag, refl), inr (refl, h)))),
-      )
-
-  not_read : (k : ℤ) (t : Family O) (f : DecodeError) → FitsSigned w32 k → IsEntryRead k t → ValueFault (child_reading blank m (λ _. nothing)) d blank (delimited_encoding (encoding t)) f → ⊥
-  not_read k t f fits (s, is) h =
-      let bad = entry_faulty int32_reading (child_reading blank m (λ _. nothing)) d (child_entry k (encoding t)) f (child_fault k (encoding t) f fits h) in
-      let both = sym bad.1 ∙ is in cc
-
--- a child at depth 0 is refused, and above what the level below refuses
-module _ {O : Type 0} (blank : Family O) (encoding : Family O → List ℕ) where
-  no_level : (m : ChildMeaning (Family O)) (k : ℤ) (t : Family O) → FitsSigned w32 k → IsEntryRead blank encoding 0 m k t → ⊥
-  no_level m k t fits h = not_read blank encoding 0 m k t RecursionLimitExceeded fits h (inl refl)
-
-  not_below : (d : ℕ) (m : ChildMeaning (Family O)) (k : ℤ) (t : Family O) → FitsSigned w32 k → length (encoding t) < 2 ^ 64 → IsEntryRead blank encoding (suc d) m k t → m blank (encoding t) ≡ None → ⊥
-  not_below d m k t fits short h none =
-      not_read blank encoding (suc d) m k t UnexpectedEof fits h (inr (inr (
-        refl,
-        payload_of (encoding t),
-        [],
-        UnexpectedEof,
-        (delimited_encoding (encoding t), (varint_encoding (length (encoding t)), IsVarint-varint_encoding (length (encoding t)) short, refl), sym (append-nil (delimited_encoding (encoding t)))),
-        ap meant none,
-        inl refl,
-      )))
-
--- ---- a family that is merged nests no deeper than the depth, where what is its own doesn't, and its entries are read
-module _ {O : Type 0} (blank : Family O) (encoding : Family O → List ℕ) (deep : O → ℕ → ℕ) (Own : O → Type 0) (Short : Family O → Type 0) (merged : ℕ → Family O → List ℕ → Option (Family O))
-    (shorter : (t : Family O) → IsNormalFamily Own t → length (encoding t) < 2 ^ 64 → Short t) (below : (t : Family O) → Short t → AreShort encoding (children_of t))
-    (low : (d : ℕ) (o : O) (cs : Children O) (x : Family O) → Short (family o cs) → IsNormalFamily Own (family o cs) → merged d blank (encoding (family o cs)) ≡ Some x →
-    ((n : ℕ) → n ≤ d → deep o n ≤ d) × AreEntriesRead blank encoding d (merged_in merged d) cs) where
-  mutual
-    pub family_low : (d : ℕ) (t : Family O) → Short t → IsNormalFamily Own t → (r : Option (Family O)) → merged d blank (encoding t) ≡ r → (r ≡ None → ⊥) → family_levels deep t ≤ d
-    family_low d (family o cs) s n None is some = absurd (some refl)
-    family_low d (family o cs) s n (Some x) is some =
-        let u = low d o cs x s n is in
-        u.0 (levels_below deep cs) (children_low d cs (below (family o cs) s) n.2 u.1)
-
-    children_low : (d : ℕ) (cs : Children O) → AreShort encoding cs → AreNormalChildren Own cs → AreEntriesRead blank encoding d (merged_in merged d) cs → levels_below deep cs ≤ d
-    children_low d no_child s n h = omega arith
-    children_low zero (child k t cs) s n h = absurd (no_level blank encoding (merged_in merged 0) k t n.0 h.0)
-    children_low (suc d) (child k t cs) s n h =
-        let small = child_shorter k (encoding t) s.0 in
-        let one = family_low d t (shorter t n.1 small) n.1 (merged d blank (encoding t)) refl (not_below blank encoding d (merged_in merged (suc d)) k t n.0 small h.0) in
-        omega (arith, one, children_low (suc d) cs s.1 n.2 h.1)
-
-  too_deep : (d : ℕ) (t : Family O) → Short t → IsNormalFamily Own t → d < family_levels deep t → (r : Option (Family O)) → merged d blank (encoding t) ≡ r → r ≡ None
-  too_deep d t s n h None is = refl
-  too_deep d t s n h (Some x) is = absurd (omega (arith, h, family_low d t s n (Some x) is (λ e. cc)))
-
-  -- one that nests deeper isn't merged
-  pub deep_is_refused : (d : ℕ) (t : Family O) → Short t → IsNormalFamily Own t → d < family_levels deep t → merged d blank (encoding t) ≡ None
-  deep_is_refused d t s n h = too_deep d t s n h (merged d blank (encoding t)) refl

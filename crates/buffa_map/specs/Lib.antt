@@ -21,5 +21,3 @@ pub mod Plain
 pub mod Laws
 pub mod Pinned
 pub mod PinnedEncodings
-pub mod Children
-pub mod ChildrenFacts

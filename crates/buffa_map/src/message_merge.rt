@@ -116,7 +116,7 @@ where
 /// Those of [`merge_entry`](crate::entry::merge_entry).
 ///
 /// ```ignore
-/// let answer = merge_message_entry_by::<Int32, Tree, _, _, _>(alloc, children, buf, lent, merge);
+/// merge_message_entry_by::<Int32, FlatMsg, _, _, _>(alloc, map, buf, ctx, .. )
 /// ```
 pub fn merge_message_entry_by<
     KC: MapCodec,

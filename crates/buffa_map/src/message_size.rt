@@ -44,7 +44,7 @@ fn message_record_len<KC: MapCodec>(outer_tag_len: u64, key: &KC::Value, inner: 
 /// [`EncodeError::OutOfMemory`] alone, never for a map of no pairs; the cache's old slots come first then.
 ///
 /// ```ignore
-/// let size = message_field_len_by::<Int32, Tree, _, _>(&tree.children, 1, cache, .. )?;
+/// let len: u64 = message_field_len_by::<Int32, FlatMsg, _, _>(&map, 1, &mut cache, .. )?;
 /// ```
 pub fn message_field_len_by<
     'a,

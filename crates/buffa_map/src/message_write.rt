@@ -89,7 +89,7 @@ where
 /// where the function refuses no message that fits.
 ///
 /// ```ignore
-/// write_message_field_by::<Int32, Tree, _, _, _>(children, 2, cache, sink, write)?;
+/// write_message_field_by::<Int32, FlatMsg, _, _, _>(&map, 4, &mut cache, &mut sink, .. )?;
 /// ```
 pub fn write_message_field_by<
     'a,

@@ -113,7 +113,7 @@ pub trait MessageSpec: Blank {
 /// A message, which bytes can be merged into, and which is written in two passes.
 ///
 /// ```ignore
-/// impl Message for Tree { .. }
+/// impl Message for CountMsg { .. }
 /// ```
 pub trait Message: MessageSpec {
     /// The size pass: the length of the encoding, or 2^32 - 1 where it is more. The value's slots are

@@ -7,7 +7,7 @@ use Rattle.buffa_bytes.specs.declared.error.DecodeError.TheVariants as of_bytes
 use Rattle.buffa_wire.specs.BudgetLeft.{BudgetLeft, defaults}
 use Rattle.buffa_wire.specs.Message.{MergeFault}
 use Rattle.buffamap.specs.declared.fault.Fault.{Fault}
-use Rattle.buffamap.specs.Again.{IsReadAgain, IsReadAgainIn, RefusesMessageBytes}
+use Rattle.buffamap.specs.Again.{IsReadAgain, IsReadAgainIn, RefusesMessageBytes, RepliesToAgain}
 use Rattle.buffamap.specs.Fault.{IsOfBytes, TellsReply, fault_reply}
 use Rattle.buffamap.specs.Reply.{Reply}
 
@@ -26,3 +26,9 @@ refused meant cost e f is says real_fault =
 module _ {X : Type 0} (merged : ℕ → X → List ℕ → Option X) (cost : ℕ → List ℕ → BudgetLeft) (encoding : X → List ℕ) (blank : X) where
   pub spelled : {T : Type 0} (r : Result T Fault) (o : Option (List ℕ)) (bytes : List ℕ) → o ≡ Some bytes → IfErr r (TellsReply (IsReadAgain merged cost encoding blank bytes)) → IfErr r (TellsReply (IsReadAgainIn merged cost encoding blank o))
   spelled r o bytes is h = subst (λ z. IfErr r (TellsReply (IsReadAgainIn merged cost encoding blank z))) (sym is) h
+
+-- a type whose words are these is read again in these words
+pub again_as : {X : Type 0} {merged merged2 : ℕ → X → List ℕ → Option X} {cost cost2 : ℕ → List ℕ → BudgetLeft} {encoding encoding2 : X → List ℕ} (blank : X) → merged ≡ merged2 → cost ≡ cost2 → encoding ≡ encoding2 →
+    (says : (List ℕ → Reply → Type 0) → Type 0) → says (RepliesToAgain merged cost encoding blank) → says (RepliesToAgain merged2 cost2 encoding2 blank)
+again_as {X} {merged} {merged2} {cost} {cost2} {encoding} {encoding2} blank m c e says h =
+    subst (λ z. says (RepliesToAgain merged2 cost2 z blank)) e (subst (λ z. says (RepliesToAgain merged2 z encoding blank)) c (subst (λ z. says (RepliesToAgain z cost encoding blank)) m h))

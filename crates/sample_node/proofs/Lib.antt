@@ -1,7 +1,12 @@
 -- The lemmas that this crate hands out.
-pub mod FieldMergeLemmas
-pub mod StopLemmas
-mod RefusedLemmas
-pub mod NodePassLemmas
-mod NodeLowLemmas
+mod NodeLemmas
+mod NodeOwnLemmas
+mod NodeSaysLemmas
+mod NodeReadLemmas
+mod NodeShortLemmas
+mod NodeWrittenLemmas
+mod NodeBackLemmas
+mod NodeRefusedLemmas
+mod NodePassLemmas
 mod NodeNormalLemmas
+pub mod StopLemmas

@@ -40,7 +40,6 @@ use Rattle.buffa_wire.specs.Takes.{Taker, merged_of}
 use Rattle.buffa_map.proofs.EntryLemmas.{entry_sound}
 use Rattle.buffa_map.proofs.LowLemmas.{first_taken}
 use Rattle.buffa_map.proofs.SortedLemmas.{sorted_put}
-use Rattle.buffa_map.specs.Children.{AreNormalChildren, ChildMeaning, Children, child_reading, children_in, children_in-listed, listed, listed-children_in}
 use Rattle.buffa_map.specs.Codec.{Reading}
 use Rattle.buffa_map.specs.Encoding.{AllHold}
 use Rattle.buffa_map.specs.Entry.{IsEntry, IsEntryField, blanks, entry_of}
@@ -55,16 +54,17 @@ use Rattle.buffa_fields.specs.Keep.{keep_takes}
 use Rattle.buffa_fields.specs.KeepFacts.{kept_record}
 use Rattle.buffa_fields.specs.KeptMaps.{put_or_keep}
 use Rattle.buffa_fields.specs.MapFields.{stepped}
+use Rattle.buffa_fields.specs.MapNests.{Kids, kid_list, kid_list-kids_in, kids_in, kids_in-kid_list}
 use Rattle.sample_node.specs.Branch.{Branch, NodeKept, NodeOwn, Scores, Shades, blank_node, branch, shade_numbers}
-use Rattle.sample_node.specs.NodeEncoding.{IsKept, IsNormalNode, IsNormalOwn}
-use Rattle.sample_node.specs.NodeMeaning.{children_take, node_field_takes, node_merged, scores_take, shade_reading, shades_take, text_cmp}
+use Rattle.sample_node.specs.NodeEncoding.{AreNormalNodes, IsKept, IsNormalNode}
+use Rattle.sample_node.specs.NodeMeaning.{LevelMeaning, children_take, node_field_takes, node_merged, node_reading, scores_take, shade_reading, shades_take, text_cmp}
 
 -- ---- what holds of a list holds of its parts
-pub all_before : {A : Type 0} (P : A → Type 0) (xs ys : List A) → AllByRecursion P (xs ++ ys) → AllByRecursion P xs
+all_before : {A : Type 0} (P : A → Type 0) (xs ys : List A) → AllByRecursion P (xs ++ ys) → AllByRecursion P xs
 all_before P [] ys h = tt
 all_before P (x ∷ xs) ys h = (h.0, all_before P xs ys h.1)
 
-pub all_behind : {A : Type 0} (P : A → Type 0) (xs ys : List A) → AllByRecursion P (xs ++ ys) → AllByRecursion P ys
+all_behind : {A : Type 0} (P : A → Type 0) (xs ys : List A) → AllByRecursion P (xs ++ ys) → AllByRecursion P ys
 all_behind P [] ys h = h
 all_behind P (x ∷ xs) ys h = all_behind P xs ys h.1
 
@@ -134,7 +134,7 @@ module _ {K V : Type 0} (key : Reading K) (val : Reading V) (d : ℕ) (Q : MapEn
 
 -- ---- the entry that was taken
 module _ {K V X : Type 0} (key : Reading K) (val : Reading V) (does : X → List ℕ → MapEntry K V → X) (d : ℕ) (v u : X) (n : ℕ) where
-  pub entry_there : (e p : List ℕ) → IsPayload d n (bytes e) p → entry_taken key val does d v n LengthDelimited p ≡ Some u → (s : MapEntry K V) × (entry_of key val d e ≡ Ok s) × (u ≡ does v e s)
+  entry_there : (e p : List ℕ) → IsPayload d n (bytes e) p → entry_taken key val does d v n LengthDelimited p ≡ Some u → (s : MapEntry K V) × (entry_of key val d e ≡ Ok s) × (u ≡ does v e s)
   unfolding entry_taken
   entry_there e p (t, var, is) taken = by (entry_of key val d e) refl
     where
@@ -161,7 +161,7 @@ module _ {K V X : Type 0} (key : Reading K) (val : Reading V) (does : X → List
       let s = entry_there e p h taken in
       (e, s.0, all_behind IsByte h.0 e (as_bytes p (h.0 ++ e) h.2 b), agree_ok (entry_of key val d e) s.0 (entry_sound key val d e) s.1, s.2)
 
-pub mapped : {A B : Type 0} (f : A → B) (o : Option A) (u : B) → option_map f o ≡ Some u → (x : A) × (o ≡ Some x) × (u ≡ f x)
+mapped : {A B : Type 0} (f : A → B) (o : Option A) (u : B) → option_map f o ≡ Some u → (x : A) × (o ≡ Some x) × (u ≡ f x)
 mapped f None u h = cc
 mapped f (Some x) u h = (x, refl, cc)
 
@@ -175,11 +175,11 @@ insert_holds {K} {V} cmp P Q (e ∷ es) k v h a b = by (cmp k e.0) (insert_holds
     by Equal i = (h.0, b, h.2)
     by Greater i = (h.0, h.1, i)
 
-put_normal : (es : List (ℤ × Branch)) (k : ℤ) (t : Branch) → AreNormalChildren IsNormalOwn (children_in es) → FitsSigned w32 k → IsNormalNode t → AreNormalChildren IsNormalOwn (children_in (insert_entry int_cmp es k t))
+put_normal : (es : List (ℤ × Branch)) (k : ℤ) (t : Branch) → AreNormalNodes (kids_in es) → FitsSigned w32 k → IsNormalNode t → AreNormalNodes (kids_in (insert_entry int_cmp es k t))
 put_normal [] k t a f n = (f, n, tt)
 put_normal (e ∷ es) k t a f n = by (int_cmp k e.0) (put_normal es k t a.2 f n)
   where
-    by : (r : Ordering) → AreNormalChildren IsNormalOwn (children_in (insert_entry int_cmp es k t)) → AreNormalChildren IsNormalOwn (children_in (match_ordering r ((k, t) ∷ e ∷ es) ((e.0, t) ∷ es) (e ∷ insert_entry int_cmp es k t)))
+    by : (r : Ordering) → AreNormalNodes (kids_in (insert_entry int_cmp es k t)) → AreNormalNodes (kids_in (match_ordering r ((k, t) ∷ e ∷ es) ((e.0, t) ∷ es) (e ∷ insert_entry int_cmp es k t)))
     by Less i = (f, n, a)
     by Equal i = (a.0, n, a.2)
     by Greater i = (a.0, a.1, i)
@@ -217,14 +217,14 @@ shade_is d e s b h = entry_is int32_reading shade_reading d IsShadeEntry
     e s b (int32_fits 0, λ _. (int32_fits 0, refl)) h
 
 -- ---- children, where what the level below makes of a normal node is one
-abbrev KeepsNormal : ChildMeaning Branch → Type 0
+abbrev KeepsNormal : LevelMeaning → Type 0
 KeepsNormal m = (t u : Branch) (bs : List ℕ) → AreBytes bs → IsNormalNode t → m t bs ≡ Some u → IsNormalNode u
 
 pub blank_is_normal : IsNormalNode blank_node
 unfolding IsStrictlySortedBy
 blank_is_normal = (((tt, tt), (tt, tt), tt), tt, tt)
 
-module _ (m : ChildMeaning Branch) (stays : KeepsNormal m) (d : ℕ) where
+module _ (m : LevelMeaning) (stays : KeepsNormal m) (d : ℕ) where
   abbrev IsChildEntry : MapEntry ℤ Branch → Type 0
   IsChildEntry s = FitsSigned w32 s.key × IsNormalNode s.value
 
@@ -240,25 +240,25 @@ module _ (m : ChildMeaning Branch) (stays : KeepsNormal m) (d : ℕ) where
   content_bytes p (number n) b has = tt
   content_bytes p (content v) b (t, var, is) = all_behind IsByte t v (as_bytes p (t ++ v) is b)
 
-  child_is : (e : List ℕ) (s : MapEntry ℤ Branch) → AreBytes e → IsEntry int32_reading (child_reading blank_node m (λ _. nothing)) d e s → IsChildEntry s
-  child_is e s b h = entry_is int32_reading (child_reading blank_node m (λ _. nothing)) d IsChildEntry
+  child_is : (e : List ℕ) (s : MapEntry ℤ Branch) → AreBytes e → IsEntry int32_reading (node_reading m (λ _. nothing)) d e s → IsChildEntry s
+  child_is e s b h = entry_is int32_reading (node_reading m (λ _. nothing)) d IsChildEntry
       (λ s k known p c b has reads h. let e : int32_of (number_in c) ≡ k = ap (λ z. z.0) (ok_same reads) in (subst (λ z. FitsSigned w32 z) e (int32_fits (number_in c)), h.1))
       (λ s v known p c b has reads h. (h.0, meant_normal d s.value v (bytes_in c) known (content_bytes p c b has) h.1 reads))
       e s b (int32_fits 0, blank_is_normal) h
 
   -- ---- a field
-  module _ (a : Scores) (cs : Children NodeOwn) (h : Shades) (r : NodeKept) (normal : IsNormalNode (branch a cs h r)) where
+  module _ (a : Scores) (cs : Kids ℤ NodeOwn) (h : Shades) (r : NodeKept) (normal : IsNormalNode (branch a cs h r)) where
     with_score : (s : MapEntry (List ℕ) ℤ) → IsScore s → (known : Bool) → IsNormalNode (branch (cond known (insert_entry text_cmp a s.key s.value) a) cs h r)
     with_score s is true = (((insert_holds text_cmp IsText (FitsSigned w32) a s.key s.value normal.0.0.0 is.0 is.1, sorted_put nat_list_cmp_total a s.key s.value normal.0.0.1), normal.0.1, normal.0.2), normal.1, normal.2)
     with_score s is false = normal
 
-    with_child : (s : MapEntry ℤ Branch) → IsChildEntry s → (known : Bool) → IsNormalNode (branch a (children_in (cond known (insert_entry int_cmp (listed cs) s.key s.value) (listed cs))) h r)
+    with_child : (s : MapEntry ℤ Branch) → IsChildEntry s → (known : Bool) → IsNormalNode (branch a (kids_in (cond known (insert_entry int_cmp (kid_list cs) s.key s.value) (kid_list cs))) h r)
     with_child s is true = (
       normal.0,
-      subst (λ es. IsStrictlySortedBy int_cmp (keys_of es)) (sym (listed-children_in (insert_entry int_cmp (listed cs) s.key s.value))) (sorted_put int_cmp_total (listed cs) s.key s.value normal.1),
-      put_normal (listed cs) s.key s.value (subst (λ z. AreNormalChildren IsNormalOwn z) (sym (children_in-listed cs)) normal.2) is.0 is.1,
+      subst (λ es. IsStrictlySortedBy int_cmp (keys_of es)) (sym (kid_list-kids_in (insert_entry int_cmp (kid_list cs) s.key s.value))) (sorted_put int_cmp_total (kid_list cs) s.key s.value normal.1),
+      put_normal (kid_list cs) s.key s.value (subst (λ z. AreNormalNodes z) (sym (kids_in-kid_list cs)) normal.2) is.0 is.1,
     )
-    with_child s is false = subst (λ z. IsNormalNode (branch a z h r)) (sym (children_in-listed cs)) normal
+    with_child s is false = subst (λ z. IsNormalNode (branch a z h r)) (sym (kids_in-kid_list cs)) normal
 
     with_shade : (n : ℕ) → n ≡ 3 → (e : List ℕ) (s : MapEntry ℤ ℤ) → IsEntry int32_reading shade_reading d e s → FitsSigned w32 s.key → (known : Bool) → s.known ≡ known → (known ≡ true → ClosedFits shade_numbers s.value) →
         IsNormalNode (branch a cs (cond known (insert_entry int_cmp h s.key s.value) h) (r ++ undeclared_record n e known))
@@ -282,11 +282,11 @@ module _ (m : ChildMeaning Branch) (stays : KeepsNormal m) (d : ℕ) where
           let t = taken_entry text_reading int32_reading (λ v e s. stepped (insert_entry text_cmp) v s) d a m.0 n x p b payload m.1 in
           subst (λ z. IsNormalNode z) (sym (m.2 ∙ ap (λ z. branch z cs h r) t.4)) (with_score t.1 (score_is d t.0 t.1 t.2 t.3) t.1.known)
 
-      child_put : option_map (λ es. branch a (children_in es) h r) (children_take m d (listed cs) n (wire_of x) p) ≡ Some u → IsNormalNode u
+      child_put : option_map (λ es. branch a (kids_in es) h r) (children_take m d (kid_list cs) n (wire_of x) p) ≡ Some u → IsNormalNode u
       child_put taken =
-          let o = mapped (λ es. branch a (children_in es) h r) (children_take m d (listed cs) n (wire_of x) p) u taken in
-          let t = taken_entry int32_reading (child_reading blank_node m (λ _. nothing)) (λ v e s. stepped (insert_entry int_cmp) v s) d (listed cs) o.0 n x p b payload o.1 in
-          subst (λ z. IsNormalNode z) (sym (o.2 ∙ ap (λ es. branch a (children_in es) h r) t.4)) (with_child t.1 (child_is t.0 t.1 t.2 t.3) t.1.known)
+          let o = mapped (λ es. branch a (kids_in es) h r) (children_take m d (kid_list cs) n (wire_of x) p) u taken in
+          let t = taken_entry int32_reading (node_reading m (λ _. nothing)) (λ v e s. stepped (insert_entry int_cmp) v s) d (kid_list cs) o.0 n x p b payload o.1 in
+          subst (λ z. IsNormalNode z) (sym (o.2 ∙ ap (λ es. branch a (kids_in es) h r) t.4)) (with_child t.1 (child_is t.0 t.1 t.2 t.3) t.1.known)
 
       shade_put : n ≡ 3 → option_map (λ (z : Shades × NodeKept). branch a cs z.0 z.1) (shades_take d (h, r) n (wire_of x) p) ≡ Some u → IsNormalNode u
       shade_put three taken =
@@ -304,7 +304,7 @@ module _ (m : ChildMeaning Branch) (stays : KeepsNormal m) (d : ℕ) where
 
       by_number : (i j k : Bool) → (n == 1) ≡ i → (n == 2) ≡ j → (n == 3) ≡ k →
           (if i then option_map (λ z. branch z cs h r) (scores_take d a n (wire_of x) p)
-          else if j then option_map (λ es. branch a (children_in es) h r) (children_take m d (listed cs) n (wire_of x) p)
+          else if j then option_map (λ es. branch a (kids_in es) h r) (children_take m d (kid_list cs) n (wire_of x) p)
           else if k then option_map (λ (z : Shades × NodeKept). branch a cs z.0 z.1) (shades_take d (h, r) n (wire_of x) p)
           else option_map (λ z. branch a cs h z) (keep_takes d r n (wire_of x) p)) ≡ Some u → IsNormalNode u
       by_number true j k is_one is_two is_three taken = score_put taken

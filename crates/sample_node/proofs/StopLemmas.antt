@@ -9,14 +9,9 @@ use Rattle.buffa_wire.specs.Message.{IsFieldMerged}
 use Rattle.buffa_bytes.specs.Front.{tag_at}
 use Rattle.buffa_wire.proofs.MergeLoopLemmas.{CameTo}
 use Rattle.sample_node.specs.Branch.{Branch}
-use Rattle.buffa_wire.proofs.ByPayloadLemmas.{ByPayload, by_payload}
-use Rattle.sample_node.specs.NodeFacts.{node_cost_is, node_merged_is, node_need_stays}
-use Rattle.sample_node.specs.NodeMeaning.{node_cost, node_merged, node_need, node_takes}
+use Rattle.sample_node.specs.NodeMeaning.{node_cost, node_merged}
 use Rattle.sample_node.specs.Stops.{Stops}
 use Rattle.buffa_wire.specs.Pinned.{refusal}
-
-pub node_by_payloads : ByPayload node_takes node_need node_merged node_cost
-node_by_payloads = by_payload node_need_stays node_merged_is node_cost_is
 
 -- ---- a refused field
 module _ {d : ℕ} {old : Branch} {bytes : List ℕ} {before : BudgetLeft} {v : Branch} {rest : List ℕ} {left : BudgetLeft} (came : CameTo node_merged node_cost d old bytes before v rest left) where

@@ -1,12 +1,12 @@
 -- What a node is: scores by text, children by number, shades by number, each in the order of its keys, and the records of
 -- fields that it doesn't declare.
-use Rattle.std.specs.Prelude.{ℕ, ℤ, List, [], Option, None, Some, if◌then◌else◌, pos}
-use Rattle.std.specs.Coded.{Coded, coded_list, coded_ℕ, coded_ℤ, coded×}
+use Rattle.std.specs.Prelude.{ℕ, ℤ, List, [], Option, None, Some, if◌then◌else◌, pos, string_bytes}
 use Rattle.std.specs.Ordering.{int_eq}
-use Rattle.buffa_wire.specs.Code.{coded_datum}
 use Rattle.buffa_wire.specs.Enums.{Numbers, numbers}
 use Rattle.buffa_wire.specs.Records.{Datum}
-use Rattle.buffa_map.specs.Children.{Children, Family, coded_family, family, no_child}
+use Rattle.buffa_map.specs.Pairs.{means}
+use Rattle.buffa_fields.specs.MapNests.{Kids, MapNest, map_nest, map_nest_means, no_kid}
+use Rattle.sample_node.specs.declared.node.NodeMembers.{NodeMembers}
 use Rattle.sample_node.specs.declared.shade.Shade.{Shade}
 use Rattle.sample_node.specs.declared.shade.Shade.TheVariants.{A, B}
 
@@ -36,14 +36,14 @@ abbrev pub NodeOwn : Type 0
 NodeOwn = Scores × (Shades × NodeKept)
 
 abbrev pub Branch : Type 0
-Branch = Family NodeOwn
+Branch = MapNest ℤ NodeOwn
 
-pattern abbrev pub branch : Scores → Children NodeOwn → Shades → NodeKept → Branch
-branch a cs h r = family (a, (h, r)) cs
+pattern abbrev pub branch : Scores → Kids ℤ NodeOwn → Shades → NodeKept → Branch
+branch a cs h r = map_nest (a, (h, r)) cs
 
 -- the one with nothing in it
 abbrev pub blank_node : Branch
-blank_node = branch [] no_child [] []
+blank_node = branch [] no_kid [] []
 
 abbrev pub scores_of : Branch → Scores
 scores_of (branch a cs h r) = a
@@ -54,6 +54,9 @@ shades_of (branch a cs h r) = h
 abbrev pub kept_of : Branch → NodeKept
 kept_of (branch a cs h r) = r
 
--- how the logic stores it
-abbrev pub branch_code : Coded Branch
-branch_code = coded_family (coded× (coded_list (coded× (coded_list coded_ℕ) coded_ℤ)) (coded× (coded_list (coded× coded_ℤ coded_ℤ)) (coded_list (coded× coded_ℕ coded_datum))))
+-- what the members of a node mean, and the node
+abbrev pub own_means : NodeMembers → NodeOwn
+own_means m = (means string_bytes (λ v. v) m.scores.entries, (means (λ k. k) shade_number m.shades.entries, m.rest.records))
+
+abbrev pub node_means : MapNest ℤ NodeMembers → Branch
+node_means = map_nest_means (λ k. k) own_means

@@ -2,8 +2,5 @@
 pub mod Branch
 pub mod NodeMeaning
 pub mod NodeEncoding
-pub mod NodeFacts
-pub mod NodeBackFacts
 pub mod Refused
 pub mod Stops
-pub mod Calls

@@ -9,15 +9,16 @@ use Rattle.std.specs.Ordering.{int_cmp, nat_cmp}
 use Rattle.std.specs.declared.cmp.Ordering.{Ordering}
 use Rattle.buffa_wire.specs.BudgetLeft.{BudgetLeft, nothing}
 use Rattle.buffa_wire.specs.Message.{cost_in, merged_in}
-use Rattle.buffa_map.specs.Children.{ChildCost, ChildMeaning, child_reading, children_in, listed}
 use Rattle.buffa_map.specs.Codec.{Reading}
 use Rattle.buffa_map.specs.Enums.{closed_reading}
+use Rattle.buffa_map.specs.Message.{message_reading}
 use Rattle.buffa_map.specs.Scalars.{int32_reading, text_reading}
 use Rattle.buffa_wire.specs.Kept.{keep_need}
 use Rattle.buffa_fields.specs.Keep.{keep_takes}
 use Rattle.buffa_wire.specs.Takes.{Need, Taker, cost_of, merged_of}
 use Rattle.buffa_fields.specs.KeptMaps.{kept_pair_cost, kept_pair_taken}
 use Rattle.buffa_fields.specs.MapFields.{pair_cost, pair_taken}
+use Rattle.buffa_fields.specs.MapNests.{kid_list, kids_in}
 use Rattle.sample_node.specs.Branch.{Branch, NodeKept, Scores, Shades, blank_node, branch, shade_numbers}
 
 -- texts are in the order of their bytes
@@ -35,12 +36,21 @@ scores_take = pair_taken text_reading int32_reading (insert_entry text_cmp)
 abbrev pub scores_cost : Need
 scores_cost = pair_cost text_reading int32_reading 28
 
--- field 2
-abbrev pub children_take : ChildMeaning Branch → Taker (List (ℤ × Branch))
-children_take m = pair_taken int32_reading (child_reading blank_node m (λ _. nothing)) (insert_entry int_cmp)
+-- field 2: what a level below makes of a node, what it costs there, and so how a node is read
+abbrev pub LevelMeaning : Type 0
+LevelMeaning = Branch → List ℕ → Option Branch
 
-abbrev pub children_cost : ChildMeaning Branch → ChildCost → Need
-children_cost m c = pair_cost int32_reading (child_reading blank_node m c) 100
+abbrev pub LevelCost : Type 0
+LevelCost = List ℕ → BudgetLeft
+
+abbrev pub node_reading : LevelMeaning → LevelCost → Reading Branch
+node_reading m c = message_reading blank_node (λ _. m) (λ _. c)
+
+abbrev pub children_take : LevelMeaning → Taker (List (ℤ × Branch))
+children_take m = pair_taken int32_reading (node_reading m (λ _. nothing)) (insert_entry int_cmp)
+
+abbrev pub children_cost : LevelMeaning → LevelCost → Need
+children_cost m c = pair_cost int32_reading (node_reading m c) 100
 
 -- field 3, and what is kept beside it: an entry with an undeclared shade, byte for byte, which costs an unknown field besides
 abbrev pub shades_take : Taker (Shades × NodeKept)
@@ -49,14 +59,14 @@ shades_take = kept_pair_taken int32_reading shade_reading (insert_entry int_cmp)
 abbrev pub shades_cost : Need
 shades_cost = kept_pair_cost int32_reading shade_reading 8
 
-abbrev pub node_field_takes : ChildMeaning Branch → Taker Branch
+abbrev pub node_field_takes : LevelMeaning → Taker Branch
 node_field_takes m d (branch a cs h r) n w p =
     if n == 1 then option_map (λ b. branch b cs h r) (scores_take d a n w p)
-    else if n == 2 then option_map (λ es. branch a (children_in es) h r) (children_take m d (listed cs) n w p)
+    else if n == 2 then option_map (λ es. branch a (kids_in es) h r) (children_take m d (kid_list cs) n w p)
     else if n == 3 then option_map (λ x. branch a cs x.0 x.1) (shades_take d (h, r) n w p)
     else option_map (λ s. branch a cs h s) (keep_takes d r n w p)
 
-abbrev pub node_field_need : ChildMeaning Branch → ChildCost → Need
+abbrev pub node_field_need : LevelMeaning → LevelCost → Need
 node_field_need m c d n w bs =
     if n == 1 then scores_cost d n w bs
     else if n == 2 then children_cost m c d n w bs

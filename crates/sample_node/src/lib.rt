@@ -1,8 +1,10 @@
-//! A message type that is written by hand, and holds a map of itself under a name of its own, `children`. It is older than
-//! the form that such messages are written in without a proof (`MapNest`), where the map is named `inside`. Its other maps,
-//! of scores and of a closed enum, and the fields that it doesn't declare, are read and written by calls of `buffa_fields`.
+//! A message type that holds a map of itself under a name of its own, `children`, in the form `Held`. Its other maps, of scores and
+//! of a closed enum, and the fields that it doesn't declare, are members of types of `buffa_fields`. What a node is, is said here
+//! once more, without the words of that form, and proved to be what the form makes of it.
 #![tactic(auto)]
 
 pub mod laws;
 pub mod node;
 pub mod shade;
+#[cfg(test)]
+mod tests;

@@ -1,36 +1,29 @@
 //! A message that holds itself, keeps entries with undeclared values, and every field that it doesn't declare.
 
-ghost use Rattle.std.specs.Prelude.{OnErr, [], IfErr, ◌≡◌, ◌≢◌, ◌+◌};
-ghost use Rattle.buffa_wire.specs.Passes.{IsNext, IsSized};
-ghost use Rattle.std.specs.BTreeMap.{values};
-ghost use Rattle.std.specs.List.{Contains};
-ghost use Rattle.buffa_map.specs.MessageField.{IsFieldWritten, field_slots};
-ghost use Rattle.buffa_wire.specs.BudgetLeft.{budget_left};
+ghost use Rattle.std.proofs.Common.{lit<, refl};
+ghost use Rattle.std.specs.Prelude.{OnErr, [], IfErr, ◌≢◌};
 ghost use Rattle.buffa_bytes.specs.Gives.{FullOnlyIf};
 ghost use Rattle.buffa_wire.specs.Message.{BeginsField, IsFieldMerged, IsMerged, Stands};
-ghost use Rattle.buffa_bytes.specs.declared.error.DecodeError.TheVariants.{OutOfMemory};
-ghost use Rattle.buffa_map.specs.Message.{message_reading};
-ghost use Rattle.sample_node.specs.Calls.{TakesChild};
-ghost use Rattle.buffa_map.specs.Scalars.{int32_reading, int32_writing};
-ghost use Rattle.buffa_map.specs.Children.{meant_children};
-ghost use Rattle.sample_node.specs.Branch.{blank_node};
+ghost use Rattle.buffa_wire.specs.Passes.{IsNext, IsSized};
+ghost use Rattle.sample_node.specs.Branch.{node_means};
 ghost use Rattle.sample_node.specs.NodeMeaning.{node_cost, node_merged};
 ghost use Rattle.sample_node.specs.NodeEncoding.{IsNodeWritten, node_encoding, node_slots};
-ghost use Rattle.sample_node.specs.Refused.{HasEntryFault, IsNodeRefused};
+ghost use Rattle.sample_node.specs.Refused.{IsNodeRefused};
 ghost use Rattle.sample_node.specs.Stops.{Stops};
 
 use crate::shade::Shade;
+use buffa_fields::held_map::MapNestMeaning;
+use buffa_fields::holds_map::{Held, HoldingMap, HoldsMap};
 use buffa_fields::keeping::Keeping;
-use buffa_fields::kept;
+use buffa_fields::kept::{self, KeptFields};
+use buffa_fields::meaning::{And, And3};
 use buffa_fields::member::Member;
 use buffa_fields::ordered_map::OrderedMapOf;
-use buffa_map::map_codec::{
-    ClosedEnum, Int32, Str, field_len, merge_message_entry_by, message_field_len_by,
-    write_message_field_by,
-};
+use buffa_fields::visitor::Visitor;
+use buffa_map::map_codec::{ClosedEnum, Int32, Str};
 use buffa_wire::{
-    Blank, Budget, Buf, DecodeContext, DecodeError, EncodeError, EncodeSink, Message, MessageSpec,
-    SizeCache, Tag, UnknownFields, WireType, capped, check_wire_type,
+    Blank, Budget, Buf, DecodeContext, DecodeError, EncodeError, EncodeSink, Formed, Message,
+    SizeCache, Tag, UnknownFields, WireType,
 };
 use std::alloc::Global;
 use std::collections::BTreeMap;
@@ -54,33 +47,46 @@ pub struct Node {
     pub rest: UnknownFields,
 }
 
+/// The members of a node beside its children, as contracts see them. No value of it is ever made.
+///
+/// ```ignore
+/// type Own = NodeMembers;
+/// ```
+pub struct NodeMembers {
+    /// The scores.
+    pub scores: BTreeMap<String, i32>,
+    /// The shades.
+    pub shades: BTreeMap<i32, Shade>,
+    /// What isn't declared.
+    pub rest: UnknownFields,
+}
+
 impl Model for Node {
-    ghost use Rattle.std.specs.Prelude.{string_bytes};
-    ghost use Rattle.buffa_map.specs.Pairs.{means};
-    ghost use Rattle.buffa_map.specs.Children.{children_in, family_height};
-    ghost use Rattle.sample_node.specs.Branch.{Branch, branch, branch_code, shade_number};
-
-    ghost Value = { Branch };
-
-    ghost coded = { branch_code };
-
-    ghost view = { λ t. branch (means string_bytes (λ v. v) t.scores.entries) (children_in t.children.entries)
-        (means (λ k. k) shade_number t.shades.entries) t.rest.records };
-
-    ghost size = { family_height };
-
-    ghost use Rattle.buffa_map.specs.ChildrenFacts.{most-heights};
+    ghost use Rattle.std.specs.Prelude.{ℤ};
+    ghost use Rattle.std.specs.Coded.{coded_ℤ};
+    ghost use Rattle.buffa_fields.specs.MapNests.{MapNest, coded_map_nest, kids_in, map_nest, map_nest_height, most-map_nest_heights};
+    ghost use Rattle.sample_node.specs.contracts.node.NodeMembers.{the_row};
+    ghost use Rattle.sample_node.specs.declared.node.NodeMembers.{NodeMembers};
     ghost use Rattle.std.proofs.Common.{arith};
 
-    ghost size_decreases = { λ t h. omega (arith, most-heights t.children.entries) };
+    ghost Value = { MapNest ℤ NodeMembers };
+
+    ghost coded = { coded_map_nest coded_ℤ the_row.coded };
+
+    ghost view = { λ t. map_nest (record { scores = t.scores; shades = t.shades; rest = t.rest })
+        (kids_in t.children.entries) };
+
+    ghost size = { map_nest_height };
+
+    ghost size_decreases = { λ t h. omega (arith, most-map_nest_heights t.children.entries) };
 }
 
 impl Blank for Node {
     ghost use Rattle.sample_node.specs.Branch.{blank_node};
 
-    type Meaning = Node;
+    type Meaning = MapNestMeaning<i32, <Node as HoldsMap>::Words>;
 
-    ghost meaning = { λ t. t };
+    ghost meaning = { node_means };
 
     ghost blank_is = { blank_node };
 
@@ -94,82 +100,94 @@ impl Blank for Node {
     }
 }
 
-impl MessageSpec for Node {
-    ghost use Rattle.std.proofs.Common.{arith};
-    ghost use Rattle.sample_node.specs.NodeEncoding.{IsNormalNode, node_levels, node_records};
-    ghost use Rattle.sample_node.specs.NodeBackFacts.{node_back};
-    ghost use Rattle.sample_node.specs.NodeFacts.{node_cost_is, node_encoding_records, node_merged_is, node_need_stays};
-    ghost use Rattle.sample_node.specs.NodeMeaning.{node_need, node_takes};
+impl HoldsMap for Node {
+    ghost use Rattle.buffa_fields.specs.Members.{field, field_kept, keep};
+    ghost use Rattle.buffa_fields.specs.NamedMaps.{put_map};
+
+    type Key = i32;
+
+    type KeyCodec = Int32;
+
+    type Inside = BTreeMap<i32, Node>;
+
+    type Own = NodeMembers;
+
+    type Words = And3<[And<[u8; 0], i32>; 0], [And<i32, i32>; 0], KeptFields>;
 
     const COST: usize = 96;
 
     ghost COST = { 96 };
 
-    ghost takes = { node_takes };
+    ghost positive = { lit< tt };
 
-    ghost need = { node_need };
+    const NUMBER: u32 = 2;
 
-    ghost merged = { node_merged };
+    ghost NUMBER = { 2 };
 
-    ghost cost = { node_cost };
+    ghost own = { field 1 (λ m. m.scores) ⟦<OrderedMapOf<Str, Int32> as Member>⟧.shape (
+        field_kept 3 (λ m. m.shades) ⟦<OrderedMapOf<Int32, ClosedEnum<Shade>> as Member>⟧.shape
+        ⟦<OrderedMapOf<Int32, ClosedEnum<Shade>> as Keeping>⟧.aside (
+        keep (λ m. m.rest.records))) };
 
-    ghost Refused = { IsNodeRefused };
+    ghost sound = { refl };
 
-    ghost encoding = { node_encoding };
+    ghost other = { refl };
 
-    ghost records = { node_records };
+    ghost nest = { λ t. t };
 
-    ghost slots = { node_slots };
+    ghost with_inside = { put_map };
 
-    ghost levels = { node_levels };
-
-    ghost normal = { IsNormalNode };
-
-    ghost encoding_records = { node_encoding_records };
-
-    ghost merged_encoding = { node_back };
-
-    ghost positive = { omega arith };
-
-    ghost stays = { node_need_stays };
-
-    ghost merged_is = { node_merged_is };
-
-    ghost cost_is = { node_cost_is };
-}
-
-impl Message for Node {
-    fn compute_size(&self, cache: &mut SizeCache) -> Result<u32, EncodeError>
-        ensures sized { IsSized (node_encoding self.now) (node_slots self.now) cache.old result cache.new }
-        ensures some { OnErr result (node_slots self.now ≢ []) }
-    {
-        size_node(self, cache)
+    fn inside(&self) -> &BTreeMap<i32, Node> {
+        &self.children
     }
 
-    fn write_to<S: EncodeSink>(
-        &self,
-        cache: &mut SizeCache,
-        sink: &mut S,
-    ) -> Result<(), EncodeError> {
-        write_node(self, cache, sink)
+    fn inside_mut(&mut self) -> &mut BTreeMap<i32, Node> {
+        &mut self.children
     }
 
-    fn merge_field(
+    fn front<V: Visitor>(&self, visitor: &mut V) {
+        visitor.visit::<OrderedMapOf<Str, Int32>>(1, &self.scores);
+    }
+
+    fn behind<V: Visitor>(&self, visitor: &mut V) {
+        visitor.visit_keeping::<OrderedMapOf<Int32, ClosedEnum<Shade>>>(3, &self.shades);
+        visitor.visit_kept(&self.rest);
+    }
+
+    fn take(
         &mut self,
         alloc: Global,
         tag: Tag,
         buf: &mut &[u8],
         ctx: DecodeContext<'_>,
-    ) -> Result<(), DecodeError>
-        ensures merged { IsFieldMerged node_merged node_cost ctx.entry.depth self.old tag.number tag.wire_type buf.old.now
-            ctx.entry.budget.now result self.new (budget_left ctx.exit) buf.new.now }
-        ensures full { FullOnlyIf result (tag.wire_type ≢ WireType.EndGroup) }
-        ensures refused { IfErr result (λ e. IsNodeRefused ctx.entry.depth self.old tag.number tag.wire_type buf.old.now
-            ctx.entry.budget.now e self.new) }
-    {
-        let DecodeContext { depth, budget } = ctx;
-        merge_node_field(alloc, self, tag, buf, depth, budget)
+    ) -> Result<(), DecodeError> {
+        match tag.field_number() {
+            1 => OrderedMapOf::<Str, Int32>::merge(&mut self.scores, alloc, tag, buf, ctx),
+            3 => OrderedMapOf::<Int32, ClosedEnum<Shade>>::merge_kept(
+                &mut self.shades,
+                &mut self.rest,
+                alloc,
+                tag,
+                buf,
+                ctx,
+            ),
+            _ => kept::keep(alloc, &mut self.rest, tag, buf, ctx),
+        }
     }
+}
+
+impl Formed for Node {
+    type Form = Held;
+}
+
+impl HoldingMap for Node {
+    ghost use Rattle.buffa_fields.specs.NamedMaps.{map_put};
+
+    ghost means = { λ t. refl };
+
+    ghost starts = { refl };
+
+    ghost puts = { map_put };
 }
 
 /// The size pass: the length of the encoding, and the slots of the children appended.
@@ -178,49 +196,14 @@ impl Message for Node {
 /// Those of [`Message::compute_size`]; never for a node with no children.
 ///
 /// ```ignore
-/// let size = size_node(child, cache);
+/// let size = size_node(&node, &mut cache)?;
 /// ```
 pub fn size_node(node: &Node, cache: &mut SizeCache) -> Result<u32, EncodeError>
-    ensures sized { IsSized (node_encoding node.now) (node_slots node.now) cache.old result cache.new }
-    ensures some { OnErr result (node_slots node.now ≢ []) }
+    ensures sized { IsSized (node_encoding (node_means node.now)) (node_slots (node_means node.now)) cache.old result
+        cache.new }
+    ensures some { OnErr result (node_slots (node_means node.now) ≢ []) }
 {
-    let children = message_field_len_by::<Int32, Node, BTreeMap<i32, Node>, _>(
-        &node.children,
-        1,
-        cache,
-        |child: &Node, cache: &mut SizeCache| -> Result<u32, EncodeError>
-            ensures { IsSized (node_encoding child.now) (node_slots child.now) cache.old result cache.new }
-        { size_node(child, cache) },
-    )?;
-    let scores = field_len::<Str, Int32, BTreeMap<String, i32>>(&node.scores, 1);
-    let shades = field_len::<Int32, ClosedEnum<Shade>, BTreeMap<i32, Shade>>(&node.shades, 1);
-    let maps = scores.saturating_add(children).saturating_add(shades);
-    let total = maps.saturating_add(node.rest.encoded_len());
-    Ok(capped(total))
-}
-
-// The write pass of the children, by a function that writes a child. Its contract names no trait, so that the goals of
-// the recursion stay small.
-#[tactic(auto, using(buffa_map::proofs::ChildrenLemmas::meant_values))]
-fn write_children_by<S: EncodeSink, F>(
-    children: &BTreeMap<i32, Node>,
-    cache: &mut SizeCache,
-    sink: &mut S,
-    write: F,
-) -> Result<(), EncodeError>
-where
-    F: Fn(&Node, &mut SizeCache, &mut S) -> Result<(), EncodeError>,
-    requires next { IsNext (field_slots node_encoding node_slots (meant_children children.now.entries)) cache.old }
-    requires may { (x c s : _) → Contains (values children.now) x.now → IsNext (node_slots x.now) c.now →
-        F.pre write x c s }
-    requires keeps { (x c s r d t : _) → Contains (values children.now) x.now →
-        F.post write x c s r d t → IsNodeWritten x.now c.now (S.written s.now) r d.now (S.written t.now) }
-    ensures { IsFieldWritten int32_writing node_encoding node_slots 2 (meant_children children.now.entries) cache.old
-        (S.written sink.old) result cache.new (S.written sink.new) }
-{
-    write_message_field_by::<Int32, Node, BTreeMap<i32, Node>, S, F>(
-        children, 2, cache, sink, write,
-    )
+    node.compute_size(cache)
 }
 
 /// The write pass: the encoding, and the slots of the children consumed.
@@ -229,69 +212,21 @@ where
 /// Those of [`Message::write_to`].
 ///
 /// ```ignore
-/// let answer = write_node(child, cache, sink);
+/// write_node(&node, &mut cache, &mut encoding)?;
 /// ```
 pub fn write_node<S: EncodeSink>(
     node: &Node,
     cache: &mut SizeCache,
     sink: &mut S,
 ) -> Result<(), EncodeError>
-    requires { IsNext (node_slots node.now) cache.old }
-    ensures { IsNodeWritten node.now cache.old (S.written sink.old) result cache.new (S.written sink.new) }
+    requires { IsNext (node_slots (node_means node.now)) cache.old }
+    ensures { IsNodeWritten (node_means node.now) cache.old (S.written sink.old) result cache.new (S.written sink.new) }
 {
-    OrderedMapOf::<Str, Int32>::write_to(1, &node.scores, cache, sink)?;
-    write_children_by(
-        &node.children,
-        cache,
-        sink,
-        |child: &Node, cache: &mut SizeCache, sink: &mut S| -> Result<(), EncodeError>
-            requires { IsNext (node_slots child.now) cache.old }
-            ensures { IsNodeWritten child.now cache.old (S.written sink.old) result cache.new (S.written sink.new) }
-        { write_node(child, cache, sink) },
-    )?;
-    OrderedMapOf::<Int32, ClosedEnum<Shade>>::write_to(3, &node.shades, cache, sink)?;
-    node.rest.write_to(sink)
+    node.write_to(cache, sink)
 }
 
-// Merges the entry of a child, by a function that merges the child's bytes. Its contract names no trait, so that the
-// goals of the recursion stay small; the two lengths are there since they tell that the keys ascend.
-fn merge_child_by<F>(
-    alloc: Global,
-    children: &mut BTreeMap<i32, Node>,
-    tag: Tag,
-    buf: &mut &[u8],
-    depth: u32,
-    budget: &mut Budget,
-    merge: F,
-) -> Result<(), DecodeError>
-where
-    F: Fn(&mut Node, &[u8], u32, &mut Budget) -> Result<(), DecodeError>,
-    requires may { (x : _) (b : _) (d : _) (w : _) → d + 1 ≡ depth → F.pre merge x b d w }
-    requires keeps { (x : _) (b : _) (d : _) (w : _) (r : _) (y : _) (v : _) → d + 1 ≡ depth →
-        F.post merge x b d w r y v → IsMerged (node_merged d x.now b.now) (node_cost d b.now) w.now r y.now v.now }
-    ensures taken { TakesChild tag depth children.old budget.old buf.old children.new budget.new buf.new result
-        (λ m. m.entries) }
-    ensures stays { OnErr result (children.new.entries ≡ children.old.entries) }
-    ensures fault { IfErr result (λ e. e ≢ OutOfMemory →
-        HasEntryFault int32_reading (message_reading blank_node node_merged node_cost) 100 0 depth tag.number tag.wire_type
-        buf.old.now budget.old e) }
-{
-    check_wire_type(tag, WireType::LengthDelimited)?;
-    let _old = children.len();
-    let lent = DecodeContext {
-        depth,
-        budget: &mut *budget,
-    };
-    let answer = merge_message_entry_by::<Int32, Node, BTreeMap<i32, Node>, &[u8], F>(
-        alloc, children, buf, lent, merge,
-    );
-    let _new = children.len();
-    answer
-}
-
-// Merges the field whose tag was read. A refused one leaves the node as it was, and tells its own fault; what is inside a child
-// may tell any.
-#[cycle(merge)]
+// Merges the field whose tag was read, as the form does, in the words of a node. A refused one leaves the node as it was, and
+// tells its own fault; what is inside a child may tell any.
 fn merge_node_field(
     alloc: Global,
     node: &mut Node,
@@ -300,46 +235,13 @@ fn merge_node_field(
     depth: u32,
     budget: &mut Budget,
 ) -> Result<(), DecodeError>
-    ensures merged { IsFieldMerged node_merged node_cost depth node.old tag.number tag.wire_type buf.old.now budget.old result
-        node.new budget.new buf.new.now }
+    ensures merged { IsFieldMerged node_merged node_cost depth (node_means node.old) tag.number tag.wire_type buf.old.now
+        budget.old result (node_means node.new) budget.new buf.new.now }
     ensures full { FullOnlyIf result (tag.wire_type ≢ WireType.EndGroup) }
-    ensures refused { IfErr result (λ e. IsNodeRefused depth node.old tag.number tag.wire_type buf.old.now budget.old e
-        node.new) }
+    ensures refused { IfErr result (λ e. IsNodeRefused depth (node_means node.old) tag.number tag.wire_type buf.old.now
+        budget.old e (node_means node.new)) }
 {
-    let number = tag.field_number();
-    if number == 1 {
-        let ctx = DecodeContext { depth, budget };
-        return OrderedMapOf::<Str, Int32>::merge(&mut node.scores, alloc, tag, buf, ctx);
-    }
-    if number == 2 {
-        return merge_child_by(
-            alloc,
-            &mut node.children,
-            tag,
-            buf,
-            depth,
-            budget,
-            |child: &mut Node, bytes: &[u8], depth: u32, budget: &mut Budget| -> Result<
-                (),
-                DecodeError,
-            >
-                ensures { IsMerged (node_merged depth child.old bytes.now) (node_cost depth bytes.now) budget.old result child.new
-                    budget.new }
-            { merge_node(alloc, child, bytes, depth, budget) },
-        );
-    }
-    let ctx = DecodeContext { depth, budget };
-    if number == 3 {
-        return OrderedMapOf::<Int32, ClosedEnum<Shade>>::merge_kept(
-            &mut node.shades,
-            &mut node.rest,
-            alloc,
-            tag,
-            buf,
-            ctx,
-        );
-    }
-    kept::keep(alloc, &mut node.rest, tag, buf, ctx)
+    node.merge_field(alloc, tag, buf, DecodeContext { depth, budget })
 }
 
 /// Merges the fields that the bytes are, all of them, where so many levels may still open: a child is one level
@@ -350,9 +252,8 @@ fn merge_node_field(
 /// Those of [`Message::merge`]. The node is then what the fields before the refused one make of it.
 ///
 /// ```ignore
-/// merge_node(alloc, child, bytes, depth, budget)?;
+/// merge_node(alloc, &mut node, bytes, 1, &mut budget)?;
 /// ```
-#[cycle(merge)]
 pub fn merge_node(
     alloc: Global,
     node: &mut Node,
@@ -360,12 +261,13 @@ pub fn merge_node(
     depth: u32,
     budget: &mut Budget,
 ) -> Result<(), DecodeError>
-    ensures merged { IsMerged (node_merged depth node.old bytes.now) (node_cost depth bytes.now) budget.old result node.new
-        budget.new }
+    ensures merged { IsMerged (node_merged depth (node_means node.old) bytes.now) (node_cost depth bytes.now) budget.old
+        result (node_means node.new) budget.new }
     ensures full { FullOnlyIf result (BeginsField bytes.now) }
-    ensures stands { IfErr result (λ e. Stands node_merged node_cost IsNodeRefused depth node.old bytes.now budget.old e
-        node.new) }
-    ensures stops { IfErr result (Stops node_merged node_cost depth node.old bytes.now budget.old node.new budget.new) }
+    ensures stands { IfErr result (λ e. Stands node_merged node_cost IsNodeRefused depth (node_means node.old) bytes.now
+        budget.old e (node_means node.new)) }
+    ensures stops { IfErr result (Stops node_merged node_cost depth (node_means node.old) bytes.now budget.old
+        (node_means node.new) budget.new) }
 {
     let mut rest = bytes;
     while rest.remaining() > 0 {

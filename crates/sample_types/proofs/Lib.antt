@@ -3,11 +3,11 @@ pub mod NormalLemmas
 mod FieldLemmas
 mod NumberLemmas
 pub mod PassedLemmas
-pub mod TreeFieldLemmas
-pub mod TreeMergeLemmas
-pub mod TreeSizeLemmas
 pub mod TripLemmas
-pub mod TreeNormalLemmas
-pub mod TreeLowLemmas
+mod TreeLemmas
+mod TreeBackLemmas
+mod TreeNormalLemmas
+mod TreeRefusedLemmas
+mod TreeToldLemmas
 mod PinLemmas
 mod PassPinLemmas

@@ -1,29 +1,29 @@
 -- What is proved of single fields of the samples.
-use Rattle.std.proofs.Common.{◌≡◌, ◌≢◌, inl, inr, ℤ, pos, negsuc, ℕ, ◌+◌, ◌*◌, ◌==◌, zero, suc, ◌<◌, Bool, true, false, List, [], ◌∷◌, ◌++◌, length, Some, Result, Ok, Err, refl, sym, ap, subst, ◌∙◌, arith, append_assoc, append-nil, length-append, if◌then◌else◌}
+use Rattle.std.proofs.Common.{◌≡◌, ◌≢◌, inl, inr, ℤ, pos, negsuc, ℕ, ◌+◌, ◌*◌, zero, suc, ◌<◌, Bool, true, false, List, ◌∷◌, ◌++◌, length, Some, Result, Ok, Err, refl, sym, ap, subst, ◌∙◌, arith, append-nil, if◌then◌else◌}
 use Rattle.buffa_bytes.specs.Gives.{◌>>=◌, FullOnlyIf, Gives}
 use Rattle.buffa_bytes.specs.Field.{IsTag, Payload}
 use Rattle.buffa_bytes.specs.Number.{IsNumber}
 use Rattle.buffa_bytes.specs.Front.{check_wire, tag_at, varint_at}
 use Rattle.buffa_wire.specs.Records.{Datum}
 use Rattle.buffa_wire.specs.Encoding.{records_encoding}
-use Rattle.buffa_bytes.specs.Values.{int32_at, int32_of, int32_encoding, tag_encoding}
+use Rattle.buffa_bytes.specs.Values.{int32_encoding, tag_encoding}
 use Rattle.buffa_bytes.specs.Varint.{IsVarint, TakesVarint, VarintFault}
 use Rattle.buffa_bytes.specs.WireType.{same_wire}
 use Rattle.buffa_bytes.specs.declared.wire_type.WireType.{WireType}
 use Rattle.buffa_bytes.specs.declared.wire_type.WireType.TheVariants.{Varint, EndGroup}
 use Rattle.buffa_bytes.specs.declared.error.DecodeError.{DecodeError}
 use Rattle.buffa_bytes.specs.declared.error.DecodeError.TheVariants.{OutOfMemory, WireTypeMismatch}
-use Rattle.buffa_bytes.proofs.StepLemmas.{Agrees, agree_bind, agree_if, agree_weaker}
+use Rattle.buffa_bytes.proofs.StepLemmas.{Agrees, agree_bind, agree_weaker}
 use Rattle.buffa_bytes.proofs.FieldLemmas.{payload_complete, payload_sound, same_true}
 use Rattle.buffa_bytes.proofs.ShortestLemmas.{varint_encoding-last}
-use Rattle.buffa_bytes.proofs.VarintLemmas.{IsVarint-varint_encoding, varint_complete, varint_sound}
+use Rattle.buffa_bytes.proofs.VarintLemmas.{IsVarint-varint_encoding, varint_sound}
 use Rattle.buffa_bytes.proofs.WireLemmas.{check_sound}
 use Rattle.buffa_wire.proofs.MessageLemmas.{NoLimit, payload_no_limit, var_no_limit}
 use Rattle.buffa_bytes.specs.Sequence.{parse_all}
 use Rattle.buffa_bytes.proofs.SequenceLemmas.{ok_same, parse_keeps}
 use Rattle.buffa_wire.specs.ByField.{FieldReader, merged_by, next_at}
-use Rattle.buffa_wire.proofs.ByFieldLemmas.{IsSame, IsSound, Same, read, some_of}
-use Rattle.sample_types.specs.Fields.{int32_field, number_records, number_encoding, skipped_field, value_field}
+use Rattle.buffa_wire.proofs.ByFieldLemmas.{Same, some_of}
+use Rattle.sample_types.specs.Fields.{number_records, number_encoding, skipped_field}
 use Rattle.buffa_wire.proofs.EncodingLemmas.{records_encoding-append}
 
 -- ---- fields that are passed over
@@ -69,13 +69,6 @@ module _ {A X : Type 0} (d n m : ℕ) (read : List ℕ → Result (A × List ℕ
 pub varint_takes : (bs : List ℕ) → Agrees (varint_at bs) (λ x. (k : ℕ) × TakesVarint bs k x.1) (VarintFault bs)
 varint_takes bs = agree_weaker (varint_sound bs) (λ k u. (k.0, u)) (λ e h. h)
 
--- and an int32
-pub int32_takes : (bs : List ℕ) → Agrees (int32_at bs) (λ x. (k : ℕ) × TakesVarint bs k x.1) (VarintFault bs)
-int32_takes bs = agree_bind (varint_sound bs) (λ k u. record { holds = (k.0, u) }) (λ e h. h)
-
-pub int32_reads : (p x : List ℕ) (k : ℕ) → IsVarint p k → int32_at (p ++ x) ≡ Ok (int32_of k, x)
-int32_reads p x k h = rw (varint_complete p k x h) refl
-
 -- one of two fields
 pub same_if : {X : Type 0} (f g : List ℕ → Result (X × List ℕ) DecodeError) (p : List ℕ) (b : Bool) → Same f p → Same g p → Same (λ bs. if b then f bs else g bs) p
 same_if f g p true h k = h
@@ -103,9 +96,6 @@ pub ends_if : {A : Type 0} (b : Bool) (x y : Result A DecodeError) → x ≢ Err
 ends_if true x y h k = h
 ends_if false x y h k = k
 
-pub int32_ends : {X : Type 0} (m : ℕ) (put : ℤ → X) (bs : List ℕ) → int32_field m put EndGroup bs ≢ Err OutOfMemory
-int32_ends m put bs h = cc
-
 pub skipped_ends : {X : Type 0} (d : ℕ) (v : X) (n : ℕ) (bs : List ℕ) → skipped_field d v n EndGroup bs ≢ Err OutOfMemory
 skipped_ends d v n bs h = cc
 
@@ -114,21 +104,7 @@ pub full_not_at_end : {X T : Type 0} (field : FieldReader X) → Ends field → 
 full_not_at_end field ends (Ok x) old new n w bs rest h = tt
 full_not_at_end field ends (Err e) old new n w bs rest h = λ full is. ends old n bs (ap (λ z. field old n z bs) (sym is) ∙ h ∙ ap (λ z. Err z) full)
 
-pub value_sound : (d : ℕ) → IsSound d (value_field d)
-value_sound d v n w bs = agree_if (n == 1) (λ _. one_sound d n 1 int32_at (λ x. x) int32_takes w bs) (λ _. skipped_sound d v n w bs)
-
-pub value_ends : (d : ℕ) → Ends (value_field d)
-value_ends d v n bs = ends_if (n == 1) (int32_field 1 (λ x. x) EndGroup bs) (skipped_field d v n EndGroup bs) (int32_ends 1 (λ x. x) bs) (skipped_ends d v n bs)
-
 -- ---- the encoding of an int32 field
-pub zero_encoding : (n : ℕ) (v : ℤ) → v ≡ pos 0 → number_encoding n v ≡ []
-zero_encoding n v h = ap (number_encoding n) h
-
-pub some_encoding : (n : ℕ) (v : ℤ) → (v ≡ pos 0 → ⊥) → number_encoding n v ≡ tag_encoding n Varint ++ int32_encoding v
-some_encoding n (pos zero) h = absurd (h refl)
-some_encoding n (pos (suc k)) h = refl
-some_encoding n (negsuc k) h = refl
-
 pub number_encoding_records : (n : ℕ) (v : ℤ) → number_encoding n v ≡ records_encoding (number_records n v)
 number_encoding_records n (pos zero) = refl
 number_encoding_records n (pos (suc k)) = sym (append-nil (tag_encoding n Varint ++ int32_encoding (pos (suc k))))
@@ -142,19 +118,5 @@ both_records a b xs ys h k = (λ i. h i ++ k i) ∙ sym (records_encoding-append
 pub tag_one : (n : ℕ) → n < 16 → length (tag_encoding n Varint) ≡ 1
 tag_one n h = ap length (varint_encoding-last (8 * n + 0) (omega (arith, h)))
 
-pub length_tag : (n : ℕ) (v : ℤ) → n < 16 → length (tag_encoding n Varint ++ int32_encoding v) ≡ 1 + length (int32_encoding v)
-length_tag n v h = omega (arith, length-append (tag_encoding n Varint) (int32_encoding v), tag_one n h)
-
 pub number_tag : (n : ℕ) → IsNumber n → n < 16 → IsTag (tag_encoding n Varint) n Varint
 number_tag n is h = (is, IsVarint-varint_encoding (8 * n + 0) (omega (arith, h)))
-
--- the encoding of an int32 field is merged, and then what follows it
-module _ {X : Type 0} (d : ℕ) (field : FieldReader X) (sound : IsSound d field) (same : IsSame d field) (n : ℕ) (number : IsNumber n) (small : n < 16) where
-  pub number_read : (v : ℤ) (u put : X) (rest : List ℕ) → (v ≡ pos 0 → u ≡ put) → (field u n Varint (int32_encoding v ++ rest) ≡ Ok (put, rest)) → merged_by field u (number_encoding n v ++ rest) ≡ merged_by field put rest
-  number_read (pos zero) u put rest h k = ap (λ z. merged_by field z rest) (h refl)
-  number_read (pos (suc m)) u put rest h k =
-      let v = pos (suc m) in
-      ap (merged_by field u) (append_assoc (tag_encoding n Varint) (int32_encoding v) rest) ∙ read d field sound same u n Varint (tag_encoding n Varint) (number_tag n number small) put (int32_encoding v ++ rest) rest k
-  number_read (negsuc m) u put rest h k =
-      let v = negsuc m in
-      ap (merged_by field u) (append_assoc (tag_encoding n Varint) (int32_encoding v) rest) ∙ read d field sound same u n Varint (tag_encoding n Varint) (number_tag n number small) put (int32_encoding v ++ rest) rest k

@@ -9,8 +9,8 @@ pub mod Passed
 pub mod Grown
 pub mod TreeEncoding
 pub mod TreeMeaning
+pub mod TreeRefused
 pub mod RoundTrip
 pub mod TreeFacts
-pub mod TreeBackFacts
 pub mod Pinned
 pub mod Census

@@ -17,13 +17,14 @@ ghost use Rattle.buffa_wire.specs.Records.{Datum, height, records_of};
 ghost use Rattle.buffa_wire.specs.Encoding.{records_encoding};
 ghost use Rattle.sample_types.specs.Count.{IsCountRefused, count_cost, count_merged, count_records, count_encoding};
 ghost use Rattle.sample_types.specs.Fields.{number_encoding, number_records, value_encoding, value_field, value_records};
-ghost use Rattle.buffa_map.specs.Children.{children_in, no_child};
+ghost use Rattle.buffa_fields.specs.MapNests.{kids_in, no_kid};
 ghost use Rattle.sample_types.specs.Grown.{Grown, grown};
 ghost use Rattle.sample_types.specs.Letters.{lower, same_letters};
 ghost use Rattle.sample_types.specs.Numbers.{ReadsAlone, flat_takes, two_field, two_takes};
 ghost use Rattle.sample_types.specs.Passed.{proxy};
 ghost use Rattle.sample_types.specs.Pinned.{PassIsPinned, TripIsPinned};
-ghost use Rattle.sample_types.specs.TreeMeaning.{IsTreeRefused, tree_cost, tree_merged};
+ghost use Rattle.sample_types.specs.TreeMeaning.{tree_cost, tree_merged};
+ghost use Rattle.sample_types.specs.TreeRefused.{IsTreeRefused};
 ghost use Rattle.sample_types.specs.TreeEncoding.{IsNormalTree, tree_encoding, tree_levels, tree_records, tree_slots};
 
 use crate::count::CountMsg;
@@ -103,7 +104,7 @@ pub fn messages_are_what_they_mean()
 
 /// What a tree means is what its fields hold: its label, and its children by their keys. Nothing is left out.
 pub fn trees_hold_these(tree: &Tree) -> (&i32, &BTreeMap<i32, Tree>)
-    ensures { tree.now ≡ grown result.0.now (children_in result.1.now.entries) }
+    ensures { tree.now ≡ grown result.0.now (kids_in result.1.now.entries) }
 {
     (&tree.label, &tree.children)
 }
@@ -118,30 +119,33 @@ pub fn fields_are_read_alone()
 {}
 
 /// How deep a value nests is exactly so deep: at no lesser depth are its encoding's bytes merged, so that it isn't read back
-/// there. Of the others no value nests. Nothing is left out.
+/// there. Those of a tree aren't merged into any other tree either. Of the others no value nests. Nothing is left out.
 pub fn levels_are_exact()
-    ensures tree { (d : ℕ) (t : Grown) → Fits (records_of (⟦<Tree as MessageSpec>⟧.records t)) →
+    ensures tree { (d : ℕ) (old t : Grown) → Fits (records_of (⟦<Tree as MessageSpec>⟧.records t)) →
         ⟦<Tree as MessageSpec>⟧.normal t → d < ⟦<Tree as MessageSpec>⟧.levels t →
-        ⟦<Tree as MessageSpec>⟧.merged d ⟦<Tree as Blank>⟧.blank_is (⟦<Tree as MessageSpec>⟧.encoding t) ≡ None }
+        ⟦<Tree as MessageSpec>⟧.merged d old (⟦<Tree as MessageSpec>⟧.encoding t) ≡ None }
     ensures keep { (d : ℕ) (rs : List (ℕ × Datum)) → Fits (records_of (⟦<BudgetMsg as MessageSpec>⟧.records rs)) →
         d < ⟦<BudgetMsg as MessageSpec>⟧.levels rs →
         ⟦<BudgetMsg as MessageSpec>⟧.merged d [] (⟦<BudgetMsg as MessageSpec>⟧.encoding rs) ≡ None }
 {}
 
-/// Which values of each sample are read back from their encoding, and how deep it nests. Nothing is left out.
+/// Which values of each sample are read back from their encoding, and how deep it nests. Of a tree this is said where no
+/// record of its own is too long to be read; nothing else is left out.
 pub fn messages_are_read_back(flat: &FlatMsg, two: &TestMsg)
     ensures flat { (v : _) → ⟦<FlatMsg as MessageSpec>⟧.normal v ↔ FitsSigned w32 v.0 }
     ensures two { (v : _) → ⟦<TestMsg as MessageSpec>⟧.normal v ↔ (FitsSigned w32 v.0 × FitsSigned w32 v.1.0) }
     ensures count { (n : ℕ) → ⟦<CountMsg as MessageSpec>⟧.normal n ↔ (n < 2 ^ 64) }
     ensures keep { (rs : List (ℕ × Datum)) → ⟦<BudgetMsg as MessageSpec>⟧.normal rs }
-    ensures tree { (t : Grown) → ⟦<Tree as MessageSpec>⟧.normal t ↔ IsNormalTree t }
+    ensures tree { (t : Grown) → Fits (records_of (⟦<Tree as MessageSpec>⟧.records t)) →
+        (⟦<Tree as MessageSpec>⟧.normal t ↔ IsNormalTree t) }
+    ensures tree_long { (t : Grown) → ⟦<Tree as MessageSpec>⟧.normal t → IsNormalTree t }
     ensures deep { (⟦<BudgetMsg as MessageSpec>⟧.levels ≡ height) × (⟦<Tree as MessageSpec>⟧.levels ≡ tree_levels) }
     ensures flat_levels { (⟦<FlatMsg as MessageSpec>⟧.levels ≡ (λ _. 0)) × (⟦<TestMsg as MessageSpec>⟧.levels ≡ (λ _. 0))
         × (⟦<CountMsg as MessageSpec>⟧.levels ≡ (λ _. 0)) }
     ensures blank { (⟦<FlatMsg as Blank>⟧.blank_is ≡ (pos 0, tt))
         × (⟦<TestMsg as Blank>⟧.blank_is ≡ (pos 0, (pos 0, tt))) }
     ensures blank_lists { (⟦<CountMsg as Blank>⟧.blank_is ≡ 0) × (⟦<BudgetMsg as Blank>⟧.blank_is ≡ []) }
-    ensures blank_tree { ⟦<Tree as Blank>⟧.blank_is ≡ grown (pos 0) no_child }
+    ensures blank_tree { ⟦<Tree as Blank>⟧.blank_is ≡ grown (pos 0) no_kid }
 {
     members_read_back(flat);
     members_read_back(two);
