@@ -1,10 +1,12 @@
 //! Types whose reading and writing as messages another type says, once for all of them.
 
-ghost use Rattle.std.specs.Prelude.{◌≡◌, ◌≢◌, ◌<◌, ◌≤◌, ℕ, List, Option, Some, refl};
-ghost use Rattle.std.specs.Prelude.{IfErr, IsOk};
+ghost use Rattle.std.specs.Prelude.{◌≡◌, ◌≢◌, ◌<◌, ◌≤◌, ℕ, List, [], Option, Some, refl};
+ghost use Rattle.std.specs.Prelude.{IfErr, IsOk, OnOk};
 ghost use Rattle.buffa_bytes.specs.Gives.{FullOnlyIf};
+ghost use Rattle.buffa_bytes.specs.Unread.{IsTailOf};
 ghost use Rattle.buffa_wire.specs.BudgetLeft.{BudgetLeft, budget_left};
-ghost use Rattle.buffa_wire.specs.Message.{FieldRefused, FieldTaken, MergesField, TakesMessageField};
+ghost use Rattle.buffa_wire.specs.Message.{BeginsField, FieldRefused, FieldTaken, MergesBytes, MergesField, Stands};
+ghost use Rattle.buffa_wire.specs.Message.{TakesMessageField};
 ghost use Rattle.buffa_wire.specs.Parse.{Fits};
 ghost use Rattle.buffa_wire.specs.Passes.{IsNext, IsSized, IsWritten};
 ghost use Rattle.buffa_wire.specs.Records.{Datum, records_of};
@@ -125,6 +127,25 @@ pub trait MessageForm<M: Blank>: MessageMeaning<M> {
         ensures full { FullOnlyIf result (tag.wire_type ≢ WireType.EndGroup) }
         ensures taken { TakesMessageField Taken ctx.entry message.old tag.number tag.wire_type buf.old.now result message.new
             (budget_left ctx.exit) buf.new.now };
+
+    /// Merges the fields that the bytes are, all of them. A form whose messages hold themselves has a loop of its own here,
+    /// the one that its inner messages are merged by.
+    ///
+    /// # Errors
+    /// Those of [`Message::merge`].
+    fn merge(
+        message: &mut M,
+        alloc: Global,
+        buf: &mut &[u8],
+        ctx: DecodeContext<'_>,
+    ) -> Result<(), DecodeError>
+        ensures merged { MergesBytes Self.merged Self.cost ctx.entry.depth (M.meaning message.old) buf.old.now
+            ctx.entry.budget.now result (M.meaning message.new) (budget_left ctx.exit) }
+        ensures stands { IfErr result (λ e. Stands Self.merged Self.cost Self.Refused ctx.entry.depth
+            (M.meaning message.old) buf.old.now ctx.entry.budget.now e (M.meaning message.new)) }
+        ensures full { FullOnlyIf result (BeginsField buf.old.now) }
+        ensures read { OnOk result (buf.new.now ≡ []) }
+        ensures tail { IsTailOf buf.new.now buf.old.now };
 }
 
 /// A type whose messages are read and written as another type says. It is a [`Message`] by that alone.
@@ -222,5 +243,14 @@ where
             (budget_left ctx.exit) buf.new.now }
     {
         <M::Form as MessageForm<M>>::merge_field(self, alloc, tag, buf, ctx)
+    }
+
+    fn merge(
+        &mut self,
+        alloc: Global,
+        buf: &mut &[u8],
+        ctx: DecodeContext<'_>,
+    ) -> Result<(), DecodeError> {
+        <M::Form as MessageForm<M>>::merge(self, alloc, buf, ctx)
     }
 }
