@@ -11,18 +11,19 @@ use Rattle.buffa_bytes.specs.Gives.{FullOnlyIf}
 use Rattle.buffa_bytes.specs.declared.error.DecodeError.{DecodeError}
 use Rattle.buffa_bytes.specs.declared.wire_type.WireType.{WireType}
 use Rattle.buffa_bytes.specs.declared.wire_type.WireType.TheVariants.{LengthDelimited}
+use Rattle.buffa_wire.proofs.ByPayloadLemmas.{ByPayload, by_payload}
 use Rattle.buffa_wire.specs.BudgetLeft.{BudgetLeft}
-use Rattle.buffa_wire.specs.Message.{IsFieldMerged, IsMerged, MergesBytes}
-use Rattle.buffa_wire.specs.Takes.{IsTaken, cost_of, merged_of}
+use Rattle.buffa_wire.specs.Message.{IsFieldMerged}
+use Rattle.buffa_wire.specs.Takes.{IsTaken}
 use Rattle.buffa_map.specs.Message.{message_reading}
 use Rattle.buffa_map.specs.Pairs.{means}
 use Rattle.buffa_fields.specs.Layout.{Choice, Layout, Took}
 use Rattle.buffa_fields.specs.MapFields.{PairTakesMemory, pair_cost, pair_taken}
 use Rattle.buffa_fields.specs.Refusals.{RefusesPair}
 use Rattle.buffa_fields.proofs.HeldMapLemmas.{field_inside}
-use Rattle.buffa_fields.specs.HeldMap.{Keys, blank_map_nest, held_map_shape, map_nest_cost, map_nest_layout, map_nest_merged, message_refused}
-use Rattle.buffa_fields.specs.HeldMapFacts.{as_map_nest}
-use Rattle.buffa_fields.specs.HeldMessageFacts.{field_merged, field_refused}
+use Rattle.buffa_fields.specs.HeldMap.{Keys, blank_map_nest, held_map_shape, kids_needed_at, map_nest_cost, map_nest_layout, map_nest_merged, message_refused, message_takes}
+use Rattle.buffa_fields.specs.HeldMapFacts.{map_nest_cost_is}
+use Rattle.buffa_fields.specs.HeldMessageFacts.{field_merged, field_refused, message_merged_is, message_need_stays}
 use Rattle.buffa_fields.specs.MapNests.{MapNest, kid, kid_list, kid_list-kids_in, kids_height, kids_in, kids_in-kid_list, kids_mean, kids_of, map_nest, map_nest_height, map_nest_means, map_own_of}
 use Rattle.buffa_fields.specs.NamedMaps.{nests_at}
 
@@ -116,6 +117,11 @@ module _ {N M K O X : Type 0} (keys : Keys K) (l : Layout O X) (k each : ℕ) (k
   field_other old new off taken stays = second_of _ _ (n == k) (λ is. off (eqb-true n k is)) (ap kid_list stays, taken)
 
 -- ---- merging: what it does to nests, it does to messages
+
+-- it goes by payloads
+pub by_self : {K O X : Type 0} (keys : Keys K) (l : Layout O X) (k each : ℕ) → ByPayload (message_takes keys l k each) (kids_needed_at keys l k each) (map_nest_merged keys l k each) (map_nest_cost keys l k each)
+by_self keys l k each = by_payload (message_need_stays keys l k each) (message_merged_is keys l k each) (map_nest_cost_is keys l k each)
+
 module _ {N M K O X : Type 0} (keys : Keys K) (l : Layout O X) (k each : ℕ) (key : N → K) (nest : M → MapNest N O) (whole : M → MapNest K X) (so : (t : M) → whole t ≡ map_nest_means key l.meaning (nest t)) (d : ℕ) (old new : M) where
   abbrev Nests : Type 0
   Nests = MapNest K X
@@ -125,12 +131,6 @@ module _ {N M K O X : Type 0} (keys : Keys K) (l : Layout O X) (k each : ℕ) (k
 
   ends : (map_nest_means key l.meaning (nest old), map_nest_means key l.meaning (nest new)) ≡ (let p : Nests × Nests = (whole old, whole new) in p)
   ends = λ i. (sym (so old) i, sym (so new) i)
-
-  pub as_named : (b : List ℕ) (before after : BudgetLeft) (r : Result (Unit {0}) DecodeError) → IsMerged (merged_of members.takes d (members.meaning (nest old)) b) (cost_of members.need d b) before r (members.meaning (nest new)) after →
-      MergesBytes (map_nest_merged keys l k each) (map_nest_cost keys l k each) d (whole old) b before r (whole new) after
-  as_named b before after r h =
-      subst (λ (z : Nests × Nests). MergesBytes (map_nest_merged keys l k each) (map_nest_cost keys l k each) d z.0 b before r z.1 after) ends
-      (as_map_nest keys l k each key d (nest old) (nest new) b before after r h)
 
   module _ (n : ℕ) (w : WireType) (bs rest : List ℕ) (before after : BudgetLeft) (r : Result (Unit {0}) DecodeError) (taken : members.Taken d (nest old) n w bs before r (nest new) after rest) where
     pub named_merged : IsFieldMerged (map_nest_merged keys l k each) (map_nest_cost keys l k each) d (whole old) n w bs before r (whole new) after rest

@@ -34,7 +34,7 @@ use crate::held_map::{MapInside, MapNest};
 use crate::member::Member;
 use crate::ordered_key::OrderedKey;
 use buffa_map::map_codec::MapCodec;
-use buffa_wire::{Blank, MessageSpec, WireType};
+use buffa_wire::{Blank, Formed, MessageForm, MessageSpec, WireType};
 use std::collections::BTreeMap;
 
 /// A map of themselves (`MapInside<KC, K, O>`) is a map of messages of the type `MapNest<KC, K, O>`, in the order of its
@@ -211,3 +211,13 @@ pub fn members_are_parts<KC: MapCodec<Value = K>, K: OrderedKey, O: Holds>(
 {
     (&message.own, &message.inside)
 }
+
+/// A message that holds a map of itself is read and written as a struct with such a map under a name of its own is
+/// ([`Held`](crate::holds_map::Held)): its size pass may run out of memory only where a message inside has a slot, and
+/// its members say what becomes of a field that it takes.
+pub fn map_nests_are_formed<KC: MapCodec<Value = K>, K: OrderedKey, O: Holds>()
+    ensures sure { (v : _) → ⟦<<MapNest<KC, K, O> as Formed>::Form as MessageForm<MapNest<KC, K, O>>>⟧.sure v
+        ↔ (⟦<MapNest<KC, K, O> as Fields>⟧.layout.slots (map_parts_of v) ≡ []) }
+    ensures taken { TakeAlike ⟦<<MapNest<KC, K, O> as Formed>::Form as MessageForm<MapNest<KC, K, O>>>⟧.Taken
+        ⟦<MapNest<KC, K, O> as Fields>⟧.layout.Taken }
+{}

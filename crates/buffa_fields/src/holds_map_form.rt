@@ -5,13 +5,14 @@
 //! message. What a message is read and written as is what its nest is: the words of [`MapNest`](crate::held_map::MapNest), at
 //! the other members of the struct.
 
-ghost use Rattle.std.specs.Prelude.{◌≡◌, ◌≢◌, ◌+◌, IfErr, IsOk, OnErr, []};
+ghost use Rattle.std.specs.Prelude.{◌≡◌, ◌≢◌, ◌+◌, IfErr, IsOk, OnErr, OnOk, []};
 ghost use Rattle.std.specs.BTreeMap.{insert_entry};
 ghost use Rattle.std.proofs.Common.{ap, sym, ◌∙◌};
 ghost use Rattle.buffa_bytes.specs.Gives.{FullOnlyIf};
 ghost use Rattle.buffa_bytes.specs.Number.{IsNumber};
+ghost use Rattle.buffa_bytes.specs.Unread.{IsTailOf};
 ghost use Rattle.buffa_wire.specs.BudgetLeft.{budget_left};
-ghost use Rattle.buffa_wire.specs.Message.{MergesBytes, MergesField, TakesMessageField};
+ghost use Rattle.buffa_wire.specs.Message.{BeginsField, MergesBytes, MergesField, Stands, TakesMessageField};
 ghost use Rattle.buffa_wire.specs.Passes.{IsNext, IsSized, IsWritten};
 ghost use Rattle.buffa_wire.specs.Takes.{IsTaken};
 ghost use Rattle.buffa_map.specs.Message.{message_reading};
@@ -247,7 +248,7 @@ pub(crate) fn take_field<M: HoldingMap>(
     }
 }
 
-// Merges all the fields that the bytes are.
+// Merges all the fields that the bytes are, of the outermost message too.
 #[cycle(named_merges)]
 fn merge_self<M: HoldingMap>(
     alloc: Global,
@@ -256,9 +257,15 @@ fn merge_self<M: HoldingMap>(
     depth: u32,
     budget: &mut Budget,
 ) -> Result<(), DecodeError>
-    ensures { let keys = keys_by M.KeyCodec.reading M.KeyCodec.writing M.KeyCodec.COST M.Key.order M.KeyCodec.fits M.KeyCodec.normal in
+    ensures merged { let keys = keys_by M.KeyCodec.reading M.KeyCodec.writing M.KeyCodec.COST M.Key.order M.KeyCodec.fits M.KeyCodec.normal in
         MergesBytes (map_nest_merged keys M.own M.NUMBER M.HoldsMap.COST) (map_nest_cost keys M.own M.NUMBER M.HoldsMap.COST)
         depth (M.meaning message.old) bytes.now budget.old result (M.meaning message.new) budget.new }
+    ensures stands { let keys = keys_by M.KeyCodec.reading M.KeyCodec.writing M.KeyCodec.COST M.Key.order M.KeyCodec.fits M.KeyCodec.normal in
+        IfErr result (λ e. Stands (map_nest_merged keys M.own M.NUMBER M.HoldsMap.COST)
+        (map_nest_cost keys M.own M.NUMBER M.HoldsMap.COST)
+        (message_refused keys M.own M.NUMBER M.HoldsMap.COST M.Key.meaning) depth (M.meaning message.old) bytes.now budget.old
+        e (M.meaning message.new)) }
+    ensures full { FullOnlyIf result (BeginsField bytes.now) }
 {
     let mut rest = bytes;
     'fields: while rest.remaining() > 0 {
@@ -275,7 +282,7 @@ impl<M: HoldingMap> MessageForm<M> for Held {
 
     ghost Taken = { nest_taken M.nest (map_nest_layout (keys_by M.KeyCodec.reading M.KeyCodec.writing M.KeyCodec.COST M.Key.order M.KeyCodec.fits M.KeyCodec.normal) M.own M.NUMBER M.HoldsMap.COST M.Key.meaning).Taken };
 
-    /// The size pass, which runs out of memory only where there is a message inside.
+    /// The size pass, which runs out of memory only where a message inside has a slot: one in the map, or in another member.
     fn compute_size(message: &M, cache: &mut SizeCache) -> Result<u32, EncodeError>
         ensures sized { let keys = keys_by M.KeyCodec.reading M.KeyCodec.writing M.KeyCodec.COST M.Key.order M.KeyCodec.fits M.KeyCodec.normal in
             IsSized (map_nest_encoding keys M.own M.NUMBER M.HoldsMap.COST (M.meaning message.now))
@@ -318,5 +325,31 @@ impl<M: HoldingMap> MessageForm<M> for Held {
     {
         let DecodeContext { depth, budget } = ctx;
         take_field(alloc, message, tag, buf, depth, budget)
+    }
+
+    /// By the loop that merges the messages inside.
+    fn merge(
+        message: &mut M,
+        alloc: Global,
+        buf: &mut &[u8],
+        ctx: DecodeContext<'_>,
+    ) -> Result<(), DecodeError>
+        ensures merged { let keys = keys_by M.KeyCodec.reading M.KeyCodec.writing M.KeyCodec.COST M.Key.order M.KeyCodec.fits M.KeyCodec.normal in
+            MergesBytes (map_nest_merged keys M.own M.NUMBER M.HoldsMap.COST)
+            (map_nest_cost keys M.own M.NUMBER M.HoldsMap.COST) ctx.entry.depth (M.meaning message.old) buf.old.now
+            ctx.entry.budget.now result (M.meaning message.new) (budget_left ctx.exit) }
+        ensures stands { let keys = keys_by M.KeyCodec.reading M.KeyCodec.writing M.KeyCodec.COST M.Key.order M.KeyCodec.fits M.KeyCodec.normal in
+            IfErr result (λ e. Stands (map_nest_merged keys M.own M.NUMBER M.HoldsMap.COST)
+            (map_nest_cost keys M.own M.NUMBER M.HoldsMap.COST)
+            (message_refused keys M.own M.NUMBER M.HoldsMap.COST M.Key.meaning) ctx.entry.depth (M.meaning message.old)
+            buf.old.now ctx.entry.budget.now e (M.meaning message.new)) }
+        ensures full { FullOnlyIf result (BeginsField buf.old.now) }
+        ensures read { OnOk result (buf.new.now ≡ []) }
+        ensures tail { IsTailOf buf.new.now buf.old.now }
+    {
+        let DecodeContext { depth, budget } = ctx;
+        merge_self(alloc, message, &buf[..], depth, budget)?;
+        *buf = &[];
+        Ok(())
     }
 }

@@ -3,7 +3,7 @@
 ghost use Rattle.std.specs.Prelude.{◌≡◌, [], IfErr, OnOk};
 ghost use Rattle.buffa_bytes.specs.Gives.{FullOnlyIf};
 ghost use Rattle.buffa_bytes.specs.Unread.{IsTailOf};
-ghost use Rattle.buffa_wire.specs.Message.{Stands};
+ghost use Rattle.buffa_wire.specs.Message.{BeginsField, Stands};
 ghost use Rattle.buffa_wire.specs.Takes.{cost_of, merged_of};
 ghost use Rattle.buffa_fields.specs.Calls.{MergesAll};
 ghost use Rattle.buffa_fields.specs.Stands.{IsMemberRefused, MergingTakesMemory};
@@ -16,7 +16,8 @@ use std::alloc::Global;
 ///
 /// # Errors
 /// The same. The fields before the refused one stay merged, and of the others no member is changed but that of the
-/// refused field's number; the error is what that member tells. Memory runs out only at a field that may ask for it.
+/// refused field's number; the error is what that member tells. Memory runs out only at a field that may ask for it, and
+/// never where no tag but an end tag begins the bytes.
 ///
 /// ```ignore
 /// merge_fields(&mut message, alloc, &mut bytes, ctx)?;
@@ -34,6 +35,7 @@ pub fn merge_fields<M: Fields>(
         (M.layout.meaning message.new)) }
     ensures full { FullOnlyIf result (MergingTakesMemory M.layout.takes M.layout.asks ctx.entry.depth
         (M.layout.meaning message.old) buf.old.now ctx.entry.budget.now.unknown) }
+    ensures begun { FullOnlyIf result (BeginsField buf.old.now) }
     ensures read { OnOk result (buf.new.now ≡ []) }
     ensures tail { IsTailOf buf.new.now buf.old.now }
 {

@@ -12,6 +12,7 @@ ghost use Rattle.buffa_wire.specs.Takes.{cost_of, merged_of};
 
 use crate::fields::Fields;
 use crate::member::Member;
+use crate::merge::merge_fields;
 use crate::sizer::Sizer;
 use crate::visitor::Visitor;
 use crate::writer::Writer;
@@ -197,6 +198,16 @@ impl<M: Listing> MessageForm<M> for Listed {
         ensures taken { MemberTakes tag ctx.entry ctx.exit message.old message.new buf.old buf.new result M.layout }
     {
         merge(message, alloc, tag, buf, ctx)
+    }
+
+    #[inline(always)]
+    fn merge(
+        message: &mut M,
+        alloc: Global,
+        buf: &mut &[u8],
+        ctx: DecodeContext<'_>,
+    ) -> Result<(), DecodeError> {
+        merge_fields(message, alloc, buf, ctx)
     }
 }
 

@@ -1,62 +1,74 @@
 use Rattle.std.proofs.Common.{◌∙◌, Ok, Err, ap, arith, sym}
 use Rattle.std.proofs.lemmas.Result.{err_from_is_err_and}
-use Rattle.buffa_wire.proofs.MergeLoopLemmas.{begins, ended, goes_on, no_tag, refused_next, shorter}
-use Rattle.buffa_fields.proofs.StandsLemmas.{by_members}
-use Rattle.buffa_fields.specs.LayoutFacts.{merges}
-use Rattle.buffa_fields.proofs.NamedMapLemmas.{as_named, field_other, field_put}
-use Rattle.buffa_fields.specs.HeldMap.{keys_by, map_nest_layout}
+use Rattle.buffa_bytes.proofs.FullLemmas.{tag_no_full}
+use Rattle.buffa_wire.proofs.MergeLoopLemmas.{begins, ended, goes_on, no_tag, reached, refused_next, shorter, stands_refused, stands_untagged}
+use Rattle.buffa_fields.proofs.NamedMapLemmas.{by_self, field_other, field_put, named_merged, named_refused}
+use Rattle.buffa_fields.specs.HeldMap.{keys_by, message_refused}
+use Rattle.buffa_fields.specs.HeldMessageFacts.{field_full}
 use Rattle.buffa_fields.proofs.holds_map_form.+named_merges.Goals as goal
 
 -- ---- all fields
 pub merge_self-fields-init : goal.merge_self-fields-init
 merge_self-fields-init g t c =
     let keys = keys_by g.M.KeyCodec.MapValueDecode.reading g.M.KeyCodec.MapCodec.writing g.M.KeyCodec.MapValueDecode.COST g.M.Key.OrderedKey.order g.M.KeyCodec.MapCodec.fits g.M.KeyCodec.MapCodec.normal in
-    let nest = g.M-HoldsMap.nest in
-    let l = map_nest_layout keys g.M-HoldsMap.own g.M-HoldsMap.NUMBER g.M-HoldsMap.COST g.M.Key.Blank.meaning in
-    begins (by_members l) c.args.depth (l.meaning (nest c.args.message.now)) c.args.bytes.now c.args.budget.now
+    begins (by_self keys g.M-HoldsMap.own g.M-HoldsMap.NUMBER g.M-HoldsMap.COST) c.args.depth (g.M.Blank.meaning c.args.message.now) c.args.bytes.now c.args.budget.now
 
 pub merge_self-fields-smaller : goal.merge_self-fields-smaller
 merge_self-fields-smaller g t c =
     let keys = keys_by g.M.KeyCodec.MapValueDecode.reading g.M.KeyCodec.MapCodec.writing g.M.KeyCodec.MapValueDecode.COST g.M.Key.OrderedKey.order g.M.KeyCodec.MapCodec.fits g.M.KeyCodec.MapCodec.normal in
-    let nest = g.M-HoldsMap.nest in
-    let l = map_nest_layout keys g.M-HoldsMap.own g.M-HoldsMap.NUMBER g.M-HoldsMap.COST g.M.Key.Blank.meaning in
-    shorter (by_members l) c.fields.invariant c.in_ok-tag.tag.number c.in_ok-tag.tag.wire_type c.decode.new.buf.now c.in_ok-tag.ensures.reads (l.meaning (nest c.take_field.new.message)) c.take_field.new.buf.now _
-    (merges l c.args.depth (nest c.fields.message) (nest c.take_field.new.message) c.in_ok-tag.tag.number c.in_ok-tag.tag.wire_type c.decode.new.buf.now c.take_field.new.buf.now c.fields.budget _ (Ok tt) c.in_ok-take_field.ensures)
+    shorter (by_self keys g.M-HoldsMap.own g.M-HoldsMap.NUMBER g.M-HoldsMap.COST) c.fields.invariant c.in_ok-tag.tag.number c.in_ok-tag.tag.wire_type c.decode.new.buf.now c.in_ok-tag.ensures.reads (g.M.Blank.meaning c.take_field.new.message) c.take_field.new.buf.now _
+    (named_merged keys g.M-HoldsMap.own g.M-HoldsMap.NUMBER g.M-HoldsMap.COST g.M.Key.Blank.meaning g.M-HoldsMap.nest g.M.Blank.meaning g.met.M.HoldingMap.means c.args.depth c.fields.message c.take_field.new.message c.in_ok-tag.tag.number c.in_ok-tag.tag.wire_type c.decode.new.buf.now c.take_field.new.buf.now c.fields.budget _ (Ok tt) c.in_ok-take_field.ensures)
 
 pub merge_self-fields-preserved : goal.merge_self-fields-preserved
 merge_self-fields-preserved g t c =
     let keys = keys_by g.M.KeyCodec.MapValueDecode.reading g.M.KeyCodec.MapCodec.writing g.M.KeyCodec.MapValueDecode.COST g.M.Key.OrderedKey.order g.M.KeyCodec.MapCodec.fits g.M.KeyCodec.MapCodec.normal in
-    let nest = g.M-HoldsMap.nest in
-    let l = map_nest_layout keys g.M-HoldsMap.own g.M-HoldsMap.NUMBER g.M-HoldsMap.COST g.M.Key.Blank.meaning in
-    goes_on (by_members l) c.fields.invariant c.in_ok-tag.tag.number c.in_ok-tag.tag.wire_type c.decode.new.buf.now c.in_ok-tag.ensures.reads (l.meaning (nest c.take_field.new.message)) c.take_field.new.buf.now _
-    (merges l c.args.depth (nest c.fields.message) (nest c.take_field.new.message) c.in_ok-tag.tag.number c.in_ok-tag.tag.wire_type c.decode.new.buf.now c.take_field.new.buf.now c.fields.budget _ (Ok tt) c.in_ok-take_field.ensures)
+    goes_on (by_self keys g.M-HoldsMap.own g.M-HoldsMap.NUMBER g.M-HoldsMap.COST) c.fields.invariant c.in_ok-tag.tag.number c.in_ok-tag.tag.wire_type c.decode.new.buf.now c.in_ok-tag.ensures.reads (g.M.Blank.meaning c.take_field.new.message) c.take_field.new.buf.now _
+    (named_merged keys g.M-HoldsMap.own g.M-HoldsMap.NUMBER g.M-HoldsMap.COST g.M.Key.Blank.meaning g.M-HoldsMap.nest g.M.Blank.meaning g.met.M.HoldingMap.means c.args.depth c.fields.message c.take_field.new.message c.in_ok-tag.tag.number c.in_ok-tag.tag.wire_type c.decode.new.buf.now c.take_field.new.buf.now c.fields.budget _ (Ok tt) c.in_ok-take_field.ensures)
 
-pub merge_self-returns-in_err-tag : goal.merge_self-returns-in_err-tag
-merge_self-returns-in_err-tag g t c =
+pub merge_self-returns-in_err-tag-clause-merged : goal.merge_self-returns-in_err-tag-clause-merged
+merge_self-returns-in_err-tag-clause-merged g t c =
     let keys = keys_by g.M.KeyCodec.MapValueDecode.reading g.M.KeyCodec.MapCodec.writing g.M.KeyCodec.MapValueDecode.COST g.M.Key.OrderedKey.order g.M.KeyCodec.MapCodec.fits g.M.KeyCodec.MapCodec.normal in
-    let nest = g.M-HoldsMap.nest in
-    let l = map_nest_layout keys g.M-HoldsMap.own g.M-HoldsMap.NUMBER g.M-HoldsMap.COST g.M.Key.Blank.meaning in
     let p = err_from_is_err_and c.from_residual.result c.from_residual.ensures.1 in
-    rw (p.1, p.2) (as_named keys g.M-HoldsMap.own g.M-HoldsMap.NUMBER g.M-HoldsMap.COST g.M.Key.Blank.meaning nest g.M.Blank.meaning g.met.M.HoldingMap.means c.args.depth c.args.message.now c.fields.message c.args.bytes.now c.args.budget.now c.fields.budget (Err c.in_err-tag.field-0.0)
-    (no_tag (by_members l) c.fields.invariant c.in_err-tag.field-0.0 (omega (arith, c.remaining.ensures, c.fields-test.true)) c.in_err-tag.ensures.reads))
+    rw (p.1, p.2) (no_tag (by_self keys g.M-HoldsMap.own g.M-HoldsMap.NUMBER g.M-HoldsMap.COST) c.fields.invariant c.in_err-tag.field-0.0 (omega (arith, c.remaining.ensures, c.fields-test.true)) c.in_err-tag.ensures.reads)
 
-pub merge_self-returns-in_err-take_field : goal.merge_self-returns-in_err-take_field
-merge_self-returns-in_err-take_field g t c =
+pub merge_self-returns-in_err-tag-clause-stands : goal.merge_self-returns-in_err-tag-clause-stands
+merge_self-returns-in_err-tag-clause-stands g t c =
     let keys = keys_by g.M.KeyCodec.MapValueDecode.reading g.M.KeyCodec.MapCodec.writing g.M.KeyCodec.MapValueDecode.COST g.M.Key.OrderedKey.order g.M.KeyCodec.MapCodec.fits g.M.KeyCodec.MapCodec.normal in
-    let nest = g.M-HoldsMap.nest in
-    let l = map_nest_layout keys g.M-HoldsMap.own g.M-HoldsMap.NUMBER g.M-HoldsMap.COST g.M.Key.Blank.meaning in
+    let p = err_from_is_err_and c.from_residual.result c.from_residual.ensures.1 in
+    rw (p.1, p.2) (stands_untagged (by_self keys g.M-HoldsMap.own g.M-HoldsMap.NUMBER g.M-HoldsMap.COST) c.fields.invariant (message_refused keys g.M-HoldsMap.own g.M-HoldsMap.NUMBER g.M-HoldsMap.COST g.M.Key.Blank.meaning) c.in_err-tag.field-0.0 (omega (arith, c.remaining.ensures, c.fields-test.true)) c.in_err-tag.ensures.reads)
+
+pub merge_self-returns-in_err-tag-clause-full : goal.merge_self-returns-in_err-tag-clause-full
+merge_self-returns-in_err-tag-clause-full g t c =
+    let p = err_from_is_err_and c.from_residual.result c.from_residual.ensures.1 in
+    rw (p.1, p.2) (tag_no_full c.fields.rest.now c.in_err-tag.field-0.0 c.in_err-tag.ensures.reads)
+
+pub merge_self-returns-in_err-take_field-clause-merged : goal.merge_self-returns-in_err-take_field-clause-merged
+merge_self-returns-in_err-take_field-clause-merged g t c =
+    let keys = keys_by g.M.KeyCodec.MapValueDecode.reading g.M.KeyCodec.MapCodec.writing g.M.KeyCodec.MapValueDecode.COST g.M.Key.OrderedKey.order g.M.KeyCodec.MapCodec.fits g.M.KeyCodec.MapCodec.normal in
     let p = err_from_is_err_and c.from_residual-in_err-take_field.result c.from_residual-in_err-take_field.ensures.1 in
-    rw (p.1, p.2) (as_named keys g.M-HoldsMap.own g.M-HoldsMap.NUMBER g.M-HoldsMap.COST g.M.Key.Blank.meaning nest g.M.Blank.meaning g.met.M.HoldingMap.means c.args.depth c.args.message.now c.take_field.new.message c.args.bytes.now c.args.budget.now _ (Err c.in_err-take_field.field-0.0)
-    (refused_next (by_members l) c.fields.invariant c.in_ok-tag.tag.number c.in_ok-tag.tag.wire_type c.decode.new.buf.now c.in_ok-tag.ensures.reads c.in_err-take_field.field-0.0 (l.meaning (nest c.take_field.new.message)) c.take_field.new.buf.now _
-    (merges l c.args.depth (nest c.fields.message) (nest c.take_field.new.message) c.in_ok-tag.tag.number c.in_ok-tag.tag.wire_type c.decode.new.buf.now c.take_field.new.buf.now c.fields.budget _ (Err c.in_err-take_field.field-0.0) c.in_err-take_field.ensures)))
+    rw (p.1, p.2) (refused_next (by_self keys g.M-HoldsMap.own g.M-HoldsMap.NUMBER g.M-HoldsMap.COST) c.fields.invariant c.in_ok-tag.tag.number c.in_ok-tag.tag.wire_type c.decode.new.buf.now c.in_ok-tag.ensures.reads c.in_err-take_field.field-0.0 (g.M.Blank.meaning c.take_field.new.message) c.take_field.new.buf.now _
+    (named_merged keys g.M-HoldsMap.own g.M-HoldsMap.NUMBER g.M-HoldsMap.COST g.M.Key.Blank.meaning g.M-HoldsMap.nest g.M.Blank.meaning g.met.M.HoldingMap.means c.args.depth c.fields.message c.take_field.new.message c.in_ok-tag.tag.number c.in_ok-tag.tag.wire_type c.decode.new.buf.now c.take_field.new.buf.now c.fields.budget _ (Err c.in_err-take_field.field-0.0) c.in_err-take_field.ensures))
 
-pub merge_self-returns : goal.merge_self-returns
-merge_self-returns g t c =
+pub merge_self-returns-in_err-take_field-clause-stands : goal.merge_self-returns-in_err-take_field-clause-stands
+merge_self-returns-in_err-take_field-clause-stands g t c =
     let keys = keys_by g.M.KeyCodec.MapValueDecode.reading g.M.KeyCodec.MapCodec.writing g.M.KeyCodec.MapValueDecode.COST g.M.Key.OrderedKey.order g.M.KeyCodec.MapCodec.fits g.M.KeyCodec.MapCodec.normal in
-    let nest = g.M-HoldsMap.nest in
-    let l = map_nest_layout keys g.M-HoldsMap.own g.M-HoldsMap.NUMBER g.M-HoldsMap.COST g.M.Key.Blank.meaning in
-    as_named keys g.M-HoldsMap.own g.M-HoldsMap.NUMBER g.M-HoldsMap.COST g.M.Key.Blank.meaning nest g.M.Blank.meaning g.met.M.HoldingMap.means c.args.depth c.args.message.now c.fields.message c.args.bytes.now c.args.budget.now c.fields.budget (Ok tt)
-    (ended (by_members l) c.fields.invariant (omega (arith, c.remaining.ensures, c.fields-test.false)))
+    let p = err_from_is_err_and c.from_residual-in_err-take_field.result c.from_residual-in_err-take_field.ensures.1 in
+    rw (p.1, p.2) (stands_refused (by_self keys g.M-HoldsMap.own g.M-HoldsMap.NUMBER g.M-HoldsMap.COST) c.fields.invariant c.in_ok-tag.tag.number c.in_ok-tag.tag.wire_type c.decode.new.buf.now c.in_ok-tag.ensures.reads (message_refused keys g.M-HoldsMap.own g.M-HoldsMap.NUMBER g.M-HoldsMap.COST g.M.Key.Blank.meaning) c.in_err-take_field.field-0.0 (g.M.Blank.meaning c.take_field.new.message) c.take_field.new.buf.now _
+    (named_merged keys g.M-HoldsMap.own g.M-HoldsMap.NUMBER g.M-HoldsMap.COST g.M.Key.Blank.meaning g.M-HoldsMap.nest g.M.Blank.meaning g.met.M.HoldingMap.means c.args.depth c.fields.message c.take_field.new.message c.in_ok-tag.tag.number c.in_ok-tag.tag.wire_type c.decode.new.buf.now c.take_field.new.buf.now c.fields.budget _ (Err c.in_err-take_field.field-0.0) c.in_err-take_field.ensures)
+    (named_refused keys g.M-HoldsMap.own g.M-HoldsMap.NUMBER g.M-HoldsMap.COST g.M.Key.Blank.meaning g.M-HoldsMap.nest g.M.Blank.meaning g.met.M.HoldingMap.means c.args.depth c.fields.message c.take_field.new.message c.in_ok-tag.tag.number c.in_ok-tag.tag.wire_type c.decode.new.buf.now c.take_field.new.buf.now c.fields.budget _ (Err c.in_err-take_field.field-0.0) c.in_err-take_field.ensures)
+    (field_full keys g.M-HoldsMap.own g.M-HoldsMap.NUMBER g.M-HoldsMap.COST g.M.Key.Blank.meaning c.args.depth (g.M-HoldsMap.nest c.fields.message) (g.M-HoldsMap.nest c.take_field.new.message) c.in_ok-tag.tag.number c.in_ok-tag.tag.wire_type c.decode.new.buf.now c.take_field.new.buf.now c.fields.budget _ (Err c.in_err-take_field.field-0.0) c.in_err-take_field.ensures))
+
+pub merge_self-returns-in_err-take_field-clause-full : goal.merge_self-returns-in_err-take_field-clause-full
+merge_self-returns-in_err-take_field-clause-full g t c =
+    let keys = keys_by g.M.KeyCodec.MapValueDecode.reading g.M.KeyCodec.MapCodec.writing g.M.KeyCodec.MapValueDecode.COST g.M.Key.OrderedKey.order g.M.KeyCodec.MapCodec.fits g.M.KeyCodec.MapCodec.normal in
+    let p = err_from_is_err_and c.from_residual-in_err-take_field.result c.from_residual-in_err-take_field.ensures.1 in
+    rw (p.1, p.2) (λ h. reached (by_self keys g.M-HoldsMap.own g.M-HoldsMap.NUMBER g.M-HoldsMap.COST) c.fields.invariant c.in_ok-tag.tag.number c.in_ok-tag.tag.wire_type c.decode.new.buf.now c.in_ok-tag.ensures.reads
+    (field_full keys g.M-HoldsMap.own g.M-HoldsMap.NUMBER g.M-HoldsMap.COST g.M.Key.Blank.meaning c.args.depth (g.M-HoldsMap.nest c.fields.message) (g.M-HoldsMap.nest c.take_field.new.message) c.in_ok-tag.tag.number c.in_ok-tag.tag.wire_type c.decode.new.buf.now c.take_field.new.buf.now c.fields.budget _ (Err c.in_err-take_field.field-0.0) c.in_err-take_field.ensures h))
+
+pub merge_self-returns-clause-merged : goal.merge_self-returns-clause-merged
+merge_self-returns-clause-merged g t c =
+    let keys = keys_by g.M.KeyCodec.MapValueDecode.reading g.M.KeyCodec.MapCodec.writing g.M.KeyCodec.MapValueDecode.COST g.M.Key.OrderedKey.order g.M.KeyCodec.MapCodec.fits g.M.KeyCodec.MapCodec.normal in
+    ended (by_self keys g.M-HoldsMap.own g.M-HoldsMap.NUMBER g.M-HoldsMap.COST) c.fields.invariant (omega (arith, c.remaining.ensures, c.fields-test.false))
 
 -- ---- one field
 pub take_field-returns-then-field_number-NUMBER : goal.take_field-returns-then-field_number-NUMBER

@@ -1,7 +1,6 @@
 use Rattle.std.proofs.Common.{◌+◌, ◌*◌, length}
-use Rattle.buffa_wire.specs.Takes.{cost_of, merged_of}
 use Rattle.buffa_wire.proofs.MergeLoopLemmas.{CameTo}
-use Rattle.buffa_fields.specs.HeldMap.{keys_by, map_nest_layout}
+use Rattle.buffa_fields.specs.HeldMap.{keys_by, map_nest_cost, map_nest_merged}
 use Rattle.buffa_fields.proofs.holds_map_form.+named_merges.Given as goal
 
 -- a level holds the function that is passed on, the loop over the fields, one field, and the entry
@@ -21,8 +20,8 @@ decreases-take_entry g l = 4 * l.depth
 abbrev pub invariant-merge_self-fields : goal.invariant-merge_self-fields
 invariant-merge_self-fields g l =
     let keys = keys_by g.M.KeyCodec.MapValueDecode.reading g.M.KeyCodec.MapCodec.writing g.M.KeyCodec.MapValueDecode.COST g.M.Key.OrderedKey.order g.M.KeyCodec.MapCodec.fits g.M.KeyCodec.MapCodec.normal in
-    let layout = map_nest_layout keys g.M-HoldsMap.own g.M-HoldsMap.NUMBER g.M-HoldsMap.COST g.M.Key.Blank.meaning in
-    CameTo (merged_of layout.takes) (cost_of layout.need) l.depth (layout.meaning (g.M-HoldsMap.nest l.fn.message)) l.fn.bytes l.fn.budget (layout.meaning (g.M-HoldsMap.nest l.message)) l.rest l.budget
+    CameTo (map_nest_merged keys g.M-HoldsMap.own g.M-HoldsMap.NUMBER g.M-HoldsMap.COST) (map_nest_cost keys g.M-HoldsMap.own g.M-HoldsMap.NUMBER g.M-HoldsMap.COST) l.depth (g.M.Blank.meaning l.fn.message) l.fn.bytes l.fn.budget
+    (g.M.Blank.meaning l.message) l.rest l.budget
 
 abbrev pub decreases-merge_self-fields : goal.decreases-merge_self-fields
 decreases-merge_self-fields g l = length l.rest

@@ -1,7 +1,7 @@
 use Rattle.std.proofs.Common.{Ok, Err, arith}
 use Rattle.std.proofs.lemmas.Result.{err_from_is_err_and}
 use Rattle.buffa_bytes.proofs.FullLemmas.{tag_no_full}
-use Rattle.buffa_wire.proofs.MergeLoopLemmas.{begins, ended, goes_on, no_tag, refused_next, shorter, stands_refused, stands_untagged, tail}
+use Rattle.buffa_wire.proofs.MergeLoopLemmas.{begins, ended, goes_on, no_tag, reached, refused_next, shorter, stands_refused, stands_untagged, tail}
 use Rattle.buffa_fields.proofs.StandsLemmas.{asked, by_members}
 use Rattle.buffa_fields.specs.LayoutFacts.{full_of, merges, refused_of}
 use Rattle.buffa_fields.specs.Stands.{IsMemberRefused}
@@ -48,6 +48,18 @@ pub returns-in_err-take-clause-full : goal.returns-in_err-take-clause-full
 returns-in_err-take-clause-full g c =
     let p = err_from_is_err_and c.from_residual-in_err-take.result c.from_residual-in_err-take.ensures.1 in
     rw (p.1, p.2) (asked g.M.Fields.layout c.fields.message c.fields.invariant c.take.new.self c.in_ok-tag.tag.number c.in_ok-tag.tag.wire_type c.decode.new.buf.now c.in_ok-tag.ensures.reads c.take.new.buf.now _ c.in_err-take.field-0.0 c.in_err-take.ensures)
+
+pub returns-in_err-tag-clause-begun : goal.returns-in_err-tag-clause-begun
+returns-in_err-tag-clause-begun g c =
+    let p = err_from_is_err_and c.from_residual.result c.from_residual.ensures.1 in
+    rw (p.1, p.2) (tag_no_full c.fields.rest.now c.in_err-tag.field-0.0 c.in_err-tag.ensures.reads)
+
+pub returns-in_err-take-clause-begun : goal.returns-in_err-take-clause-begun
+returns-in_err-take-clause-begun g c =
+    let l = g.M.Fields.layout in
+    let p = err_from_is_err_and c.from_residual-in_err-take.result c.from_residual-in_err-take.ensures.1 in
+    rw (p.1, p.2) (λ h. reached (by_members l) c.fields.invariant c.in_ok-tag.tag.number c.in_ok-tag.tag.wire_type c.decode.new.buf.now c.in_ok-tag.ensures.reads
+    (full_of l c.args.ctx.depth c.fields.message c.take.new.self c.in_ok-tag.tag.number c.in_ok-tag.tag.wire_type c.decode.new.buf.now c.take.new.buf.now c.fields.budget _ (Err c.in_err-take.field-0.0) c.in_err-take.ensures h))
 
 pub returns-in_err-tag-clause-merged : goal.returns-in_err-tag-clause-merged
 returns-in_err-tag-clause-merged g c =
