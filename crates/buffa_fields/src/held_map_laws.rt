@@ -212,9 +212,9 @@ pub fn members_are_parts<KC: MapCodec<Value = K>, K: OrderedKey, O: Holds>(
     (&message.own, &message.inside)
 }
 
-/// A message that holds a map of itself is read and written as a struct with such a map under a name of its own is
-/// ([`Held`](crate::holds_map::Held)): its size pass may run out of memory only where a message inside has a slot, and
-/// its members say what becomes of a field that it takes.
+/// The form of a message that holds a map of itself ([`Held`](crate::holds_map::Held)) says two things besides. The size
+/// pass is sure of its memory exactly where the message has no slots. What becomes of a field that is taken is what the
+/// members of the message say of it.
 pub fn map_nests_are_formed<KC: MapCodec<Value = K>, K: OrderedKey, O: Holds>()
     ensures sure { (v : _) → ⟦<<MapNest<KC, K, O> as Formed>::Form as MessageForm<MapNest<KC, K, O>>>⟧.sure v
         ↔ (⟦<MapNest<KC, K, O> as Fields>⟧.layout.slots (map_parts_of v) ≡ []) }

@@ -1,10 +1,10 @@
 //! Messages that hold a map of themselves in a member with a name of its own.
 //!
-//! The author writes a plain struct and five impls for it. `Model` says which value it is in contracts, and `Blank` what it
-//! means and what its default is. [`HoldsMap`] says which member the map is and what the others are, [`HoldingMap`] that this
-//! agrees with what the struct means, and `Formed` that the struct is a message in the form [`Held`]. `holds_map_form.rt` has
-//! the form, and the passes that size, write and merge such a message. What it means is a map nest, as that of a
-//! [`MapNest`](crate::held_map::MapNest).
+//! The author writes a plain struct, five impls for it, a second struct for contracts and a short proof file. `Model` says
+//! which value the struct is in contracts, and `Blank` what it means and what its default is. [`HoldsMap`] says which member
+//! the map is and what the others are, [`HoldingMap`] that this agrees with what the struct means, and `Formed` that it is a
+//! message in the form [`Held`]. `holds_map_form.rt` has the form, and the passes that size, write and merge such a message.
+//! The struct means a map nest, as a [`MapNest`](crate::held_map::MapNest) does.
 
 ghost use Rattle.std.specs.Prelude.{◌≡◌, ◌<◌, ◌&&◌, ℕ, List, not, true};
 ghost use Rattle.std.specs.Borrow.{Lends, sem};

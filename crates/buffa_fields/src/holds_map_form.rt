@@ -248,7 +248,7 @@ pub(crate) fn take_field<M: HoldingMap>(
     }
 }
 
-// Merges all the fields that the bytes are, of the outermost message too.
+// Merges all the fields that the bytes are into a message: one that is inside another, or the outermost one.
 #[cycle(named_merges)]
 fn merge_self<M: HoldingMap>(
     alloc: Global,
@@ -282,7 +282,7 @@ impl<M: HoldingMap> MessageForm<M> for Held {
 
     ghost Taken = { nest_taken M.nest (map_nest_layout (keys_by M.KeyCodec.reading M.KeyCodec.writing M.KeyCodec.COST M.Key.order M.KeyCodec.fits M.KeyCodec.normal) M.own M.NUMBER M.HoldsMap.COST M.Key.meaning).Taken };
 
-    /// The size pass, which runs out of memory only where a message inside has a slot: one in the map, or in another member.
+    /// The size pass, which runs out of memory only where there is a message inside, in the map or in another member.
     fn compute_size(message: &M, cache: &mut SizeCache) -> Result<u32, EncodeError>
         ensures sized { let keys = keys_by M.KeyCodec.reading M.KeyCodec.writing M.KeyCodec.COST M.Key.order M.KeyCodec.fits M.KeyCodec.normal in
             IsSized (map_nest_encoding keys M.own M.NUMBER M.HoldsMap.COST (M.meaning message.now))
@@ -327,7 +327,7 @@ impl<M: HoldingMap> MessageForm<M> for Held {
         take_field(alloc, message, tag, buf, depth, budget)
     }
 
-    /// By the loop that merges the messages inside.
+    /// The loop that merges the messages inside merges this one, too.
     fn merge(
         message: &mut M,
         alloc: Global,

@@ -16,8 +16,8 @@ use std::alloc::Global;
 ///
 /// # Errors
 /// The same. The fields before the refused one stay merged, and of the others no member is changed but that of the
-/// refused field's number; the error is what that member tells. Memory runs out only at a field that may ask for it, and
-/// never where no tag but an end tag begins the bytes.
+/// refused field's number; the error is what that member tells. Memory runs out only at a field that may ask for it. It
+/// never runs out where the bytes begin with an end tag, or with no tag.
 ///
 /// ```ignore
 /// merge_fields(&mut message, alloc, &mut bytes, ctx)?;

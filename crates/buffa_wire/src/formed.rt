@@ -75,7 +75,7 @@ pub trait MessageMeaning<M: Blank> {
         merged d M.blank_is (records_encoding (records v)) ≡ Some v };
 }
 
-/// How the messages of a type are read and written: all that [`Message`] asks.
+/// How the messages of a type are read and written: what [`Message`] asks for, and how all fields are merged.
 ///
 /// ```ignore
 /// impl<M: Listing> MessageForm<M> for Listed { .. }
@@ -128,8 +128,8 @@ pub trait MessageForm<M: Blank>: MessageMeaning<M> {
         ensures taken { TakesMessageField Taken ctx.entry message.old tag.number tag.wire_type buf.old.now result message.new
             (budget_left ctx.exit) buf.new.now };
 
-    /// Merges the fields that the bytes are, all of them. A form whose messages hold themselves has a loop of its own here,
-    /// the one that its inner messages are merged by.
+    /// Merges the fields that the bytes are, all of them: none is left. A form may have a loop of its own here. That of a
+    /// message with a map of itself merges the messages inside, too.
     ///
     /// # Errors
     /// Those of [`Message::merge`].

@@ -215,8 +215,8 @@ pub trait Message: MessageSpec {
     /// Where the bytes mean no value, any error but those of a budget, [`DecodeError::UnknownFieldLimitExceeded`] and
     /// [`DecodeError::ElementMemoryLimitExceeded`]; where what they cost isn't left, any error. And
     /// [`DecodeError::OutOfMemory`], only where a tag that is no end tag begins the bytes. The fields before the refused
-    /// one are merged then, and the error and the value are those of [`Message::merge_field`] of that one. What is
-    /// unread then is some end of the bytes.
+    /// one are merged then, and its type says of that one which error it is and what the value holds (`Refused`), as it
+    /// does for [`Message::merge_field`]. What is unread then is some end of the bytes.
     ///
     /// ```ignore
     /// info.merge(alloc, &mut rest, DecodeContext::new(20, &mut budget))?;
