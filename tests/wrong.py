@@ -1,20 +1,25 @@
 #!/usr/bin/env python3
-"""Tries wrong bodies, many of a crate in one check, and sees that each edited function is reported as not proved.
+"""Tries wrong bodies, many of a crate in one check, and sees that each is refused at the goal that it names.
 
     tests/wrong.py [CRATE..]   tries all, or those of some crates
     tests/wrong.py look        proves nothing, and sees in half a minute that each can still be tried
     tests/wrong.py today       tries some twenty of them, others each day, until all had their turn
+    tests/wrong.py gate FILE   proves nothing, and sees that `rt ci`, which wrote FILE, refused each must-fail edit at its goal
+    tests/wrong.py --name ..   writes the goal of each that is tried and names none
 
 A wrong body is an edit, tests/wrong/CRATE/FUNCTION-what_is_wrong.edit: a line 'file: src/x.rt', then pairs of lines
-'old: TEXT' and 'new: TEXT', each old text standing once in that file of the crate; '⏎' is the end of a line. FUNCTION is
+'old: TEXT' and 'new: TEXT', each old text standing once in that file of the crate; '⏎' is the end of a line. A line
+'goal: NAME' names the goal that has to be open, as the checker names it. FUNCTION is
 the plain name of the function that must not be proved then, or TYPE.FUNCTION. Those that `rt ci` tries too stand in
 crates/CRATE/must-fail. Edits of a crate that lie in different functions are applied together, to a copy of the
 repository, and checked in one go. An edit outside of functions, or of a crate below (a line 'file: ../CRATE/src/x.rt'),
 is tried alone, and only its function, a law, is checked then. A function may be reported for another one's sake (it
 calls one that is not proved, or the crate isn't read at all): then it is tried once more, alone.
 
-An edit passes where a goal of the function is not proved, or where its function is a law that the edit leaves as it is
-and the checker refuses nothing but that law's own text: it speaks of a type as what the type is no longer. It is
+An edit passes where the goal that it names is not proved. One that names none passes where any goal is open that isn't a
+precondition of a call: what a call asks says nothing of what is wrong. Where its function is a law that the edit leaves as it
+is, and the checker refuses nothing but that law's own text, the law speaks of a type as what the type is no longer: such an
+edit passes too, and names the goal 'text'. An edit is
 unclear, and fails, where the edited text is not read, or
 where only names that its proof file cites went away: change a value and keep the names. It is unclear too where only an
 answer of its proof file is refused, since a right body may trip that as well: add a path that is wrong, which has no
@@ -42,6 +47,8 @@ from wrong_look import look
 # what the checker says of a name in a proof file that isn't there
 VANISHED = re.compile(r"has no field|has no `|is not in scope|was not admitted|is no name")
 GOAL = re.compile(r"note: (?:\./)?(src/\S+?):(\d+):\d+: it is not proved that(?:.*?\(`([^`]+)`\))?")
+# a goal that is a precondition of a call
+PRECONDITION = re.compile(r"(^|-)requires(-|$)")
 PROOF_ERROR = re.compile(r"(?:\./)?proofs/(\S+)/\w+\.antt:\d+:\d+: error")
 SOURCE_ERROR = re.compile(r"(?:\./)?(src/\S+?):(\d+):\d+: error")
 
@@ -135,7 +142,7 @@ class Report:
     def verdict(self, edit, crate, texts, is_alone):
         """passed, failed or again, and what to say."""
         if not self.was_judged and not edit.target and self.is_of_law(edit, crate):
-            return "passed", "refused, by what its law speaks of"
+            return at_goal(edit, ["text"])
         if not self.was_judged:
             return "again", "the crate isn't read: " + next((it for it in self.text.split("\n") if ": error" in it), self.text[-200:])[:200]
         names = self.names(edit, crate)
@@ -150,7 +157,7 @@ class Report:
             goals = [it for it in goals if edit.target.key() in at_line(texts, *it[:2])]
         goals = [*goals, *[goal for it in inside for goal in self.goals[it]]]
         if goals:
-            return "passed", f"refused at {goals[0][2]}" + (f" and {len(goals) - 1} more" if goals[1:] else "")
+            return at_goal(edit, [it[2] for it in goals])
         if self.said[name] == "proved":
             return "failed", "LET THROUGH: it is still proved"
         if edit.target and edit.target.cycle and not is_alone:
@@ -161,6 +168,17 @@ class Report:
         if vanished:
             return "failed", "UNCLEAR: only names that its proof file cites went away"
         return "failed", "UNCLEAR: an answer of its proof file no longer fits, which may refuse a right body too"
+
+
+def at_goal(edit, goals):
+    """What is said of an edit by which these goals are open."""
+    if edit.goal:
+        said = f"refused at {edit.goal}" if edit.goal in goals else f"UNCLEAR: refused at {goals[0]}, and not at the goal that it names, {edit.goal}"
+        return "passed" if edit.goal in goals else "failed", said
+    edit.found = next((it for it in goals if not PRECONDITION.search(it)), None)
+    if not edit.found:
+        return "failed", f"UNCLEAR: only what a call asks is open: {goals[0]}"
+    return "passed", f"refused at {edit.found}, which it doesn't name"
 
 
 def batch_of(edits):
@@ -255,7 +273,7 @@ class Tries:
         self.crate, self.options, self.edits, self.passed, self.failed = crate, options, [], 0, []
         for path in paths:
             edit = Edit(path)
-            edit.alone = False
+            edit.alone, edit.found = False, None
             why = edit.locate(f"{TOP}/crates/{crate}")
             if why:
                 self.say(edit, "failed", f"BAD EDIT: {why}")
@@ -269,6 +287,9 @@ class Tries:
         print(line, flush=True)
         if verdict == "passed":
             self.passed += 1
+            if self.options.name and not edit.goal and edit.found:
+                with open(edit.path, "a", encoding="utf-8") as it:
+                    it.write(f"goal: {edit.found}\n")
         else:
             self.failed.append(line)
 
@@ -360,20 +381,38 @@ def chosen(crates, options):
     return {crate: [path for of, path in edits if of == crate] for crate, _ in edits}
 
 
+def gate(file):
+    """How many must-fail edits `rt ci` refused at the goals that they name, and what is said of the others. It tells the first goal that is
+    open, and cuts a long line."""
+    told = dict(re.findall(r"must-fail (\w+/\S+\.edit): (.*)", read(file)))
+    passed, failed = 0, []
+    for path in (it for crate in listed() for it in paths_of(crate) if "/must-fail/" in it):
+        goal, line = Edit(path).goal, told.get(f"{path.split('/')[-3]}/{os.path.basename(path)}", "it wasn't tried")
+        seen = re.search(r"\(`([^`]+)(`?)", line)
+        if goal and seen and (goal == seen[1] if seen[2] else goal.startswith(seen[1])):
+            passed += 1
+        else:
+            failed.append(f"wrong: {os.path.relpath(path, TOP)}: its goal is {goal}: {line}")
+    return passed, failed
+
+
 def main():
     words = argparse.ArgumentParser(description=__doc__, formatter_class=argparse.RawDescriptionHelpFormatter)
-    words.add_argument("crate", nargs="*", help="the crates to try, in place of all; or look, or today")
+    words.add_argument("crate", nargs="*", help="the crates to try, in place of all; or look, today, or gate and a file")
     words.add_argument("--jobs", type=int, help="jobs of one check, in place of what rt chooses")
     words.add_argument("--lanes", type=int, default=len(os.sched_getaffinity(0)), help="crates, or copies, side by side")
     words.add_argument("--rt", default="rt", help="the command in place of rt")
     words.add_argument("--edit", action="append", metavar="WORD", help="only the edits whose path has this word (may be repeated)")
+    words.add_argument("--name", action="store_true", help="write the goal of each edit that is tried and names none")
     words.add_argument("--keep", help="a folder in which what the checks say is kept")
     words.add_argument("--day", type=datetime.date.fromisoformat, default=datetime.date.today(), help="under today, another day, as 2026-11-27")
     options = words.parse_args()
-    modes = {"look", "today"} & {*options.crate}
-    crates = [it for it in options.crate if it not in modes] or [it for it in listed() if paths_of(it)]
+    modes = {"look", "today", "gate"} & {*options.crate}
+    crates = [it for it in options.crate if it not in modes and "gate" not in modes] or [it for it in listed() if paths_of(it)]
     options.today = options.day.toordinal() if "today" in modes else 0
-    if "look" in modes:
+    if "gate" in modes:
+        counts = [gate(options.crate[-1])]
+    elif "look" in modes:
         counts = [look(crates, options.lanes)]
     else:
         with ThreadPoolExecutor(options.lanes) as pool:

@@ -23,7 +23,8 @@ class Function:
 class Edit:
     def __init__(self, path):
         self.path, self.title, self.pairs, self.keys, self.target, self.is_wide = path, os.path.basename(path)[:-5], [], set(), None, False
-        file = old = None
+        # the goal that has to be open
+        self.goal = file = old = None
         with open(path, encoding="utf-8") as it:
             for line in it.read().split("\n"):
                 if line.startswith("file: "):
@@ -32,6 +33,8 @@ class Edit:
                     old = line[5:].replace("⏎", "\n")
                 elif line.startswith("new:"):
                     self.pairs.append((file, old, line[5:].replace("⏎", "\n")))
+                elif line.startswith("goal: "):
+                    self.goal = line[6:].strip()
         self.of, _, self.name = self.title.partition("-")[0].rpartition(".")
         # `rt ci` tries it, whatever its name says
         self.is_of_gate = "/must-fail/" in path

@@ -19,9 +19,9 @@ pub use buffa_message_set::message_set;
 pub use buffa_wire::message::MAX_MESSAGE_BYTES;
 pub use buffa_wire::{
     Adapted, Blank, Budget, Buf, DEFAULT_ELEMENT_MEMORY_LIMIT, DEFAULT_UNKNOWN_FIELD_LIMIT,
-    DecodeContext, DecodeError, EncodeError, EncodeSink, EnumValue, Enumeration, Form, Limited,
-    MAX_FIELD_NUMBER, MapKey, Message, MessageSetFault, MessageSpec, Pieces, PlainKey, ProtoBytes,
-    ProtoString, RECURSION_LIMIT, Scalar, SizeCache, Tag, UnknownField, UnknownFieldData,
-    UnknownFields, WireType, capped, check_wire_type, decode_unknown_field, decode_varint,
-    encode_varint, skip_field_depth, types, varint_len,
+    DecodeContext, DecodeError, DoubleBits, EncodeError, EncodeSink, EnumValue, Enumeration,
+    FloatBits, Form, Limited, MAX_FIELD_NUMBER, MapKey, Message, MessageSetFault, MessageSpec,
+    Pieces, PlainKey, ProtoBytes, ProtoString, RECURSION_LIMIT, Scalar, SizeCache, Tag,
+    UnknownField, UnknownFieldData, UnknownFields, WireType, capped, check_wire_type,
+    decode_unknown_field, decode_varint, encode_varint, skip_field_depth, types, varint_len,
 };

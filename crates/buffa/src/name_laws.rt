@@ -75,6 +75,10 @@ pub fn extension_codecs_are_these<E: Enumeration, M: Message, P: PackableCodec>(
         ≡ option_map sfixed32_of (fixed32_in d) }
     ensures sfixed64 { (n : ℕ) (b : BudgetLeft) (d : Datum) → ⟦<codecs::Sfixed64 as SingularCodec>⟧.one n b d
         ≡ option_map sfixed64_of (fixed64_in d) }
+    ensures float { (n : ℕ) (b : BudgetLeft) (d : Datum) → ⟦<codecs::Float as SingularCodec>⟧.one n b d
+        ≡ option_map fixed32_of (fixed32_in d) }
+    ensures double { (n : ℕ) (b : BudgetLeft) (d : Datum) → ⟦<codecs::Double as SingularCodec>⟧.one n b d
+        ≡ option_map fixed64_of (fixed64_in d) }
     ensures enums { (n : ℕ) (b : BudgetLeft) (d : Datum) → ⟦<codecs::EnumI32 as SingularCodec>⟧.one n b d
         ≡ option_map int32_of (varint_in d) }
     ensures open_enums { (n : ℕ) (b : BudgetLeft) (d : Datum) → ⟦<codecs::EnumCodec<E> as SingularCodec>⟧.one n b d
@@ -100,6 +104,8 @@ pub fn extension_codecs_are_these<E: Enumeration, M: Message, P: PackableCodec>(
     numbers_are_read::<codecs::Fixed64>();
     numbers_are_read::<codecs::Sfixed32>();
     numbers_are_read::<codecs::Sfixed64>();
+    numbers_are_read::<codecs::Float>();
+    numbers_are_read::<codecs::Double>();
     numbers_are_read::<codecs::EnumI32>();
     numbers_are_read::<codecs::EnumCodec<E>>();
     the_last_record_is_read::<codecs::StringCodec>();
@@ -119,6 +125,8 @@ pub fn map_codecs_are_these<E: Enumeration, M: Message, K: MapKey + Hash, V: Bla
     ensures fixed64 { ⟦<map_codec::Fixed64 as MapValueDecode>⟧.reading ≡ number_reading wire.Fixed64 0 (λ n. n) }
     ensures sfixed32 { ⟦<map_codec::Sfixed32 as MapValueDecode>⟧.reading ≡ number_reading wire.Fixed32 (pos 0) sfixed32_of }
     ensures sfixed64 { ⟦<map_codec::Sfixed64 as MapValueDecode>⟧.reading ≡ number_reading wire.Fixed64 (pos 0) sfixed64_of }
+    ensures float { ⟦<map_codec::Float as MapValueDecode>⟧.reading ≡ number_reading wire.Fixed32 0 (λ n. n) }
+    ensures double { ⟦<map_codec::Double as MapValueDecode>⟧.reading ≡ number_reading wire.Fixed64 0 (λ n. n) }
     ensures string { ⟦<map_codec::Str as MapValueDecode>⟧.reading ≡ string_reading [] (λ b. b) }
     ensures bytes { ⟦<map_codec::BytesVec as MapValueDecode>⟧.reading ≡ bytes_reading [] (λ b. b) }
     ensures closed { ⟦<map_codec::ClosedEnum<E> as MapValueDecode>⟧.reading ≡ closed_reading (numbers E.of_number E.blank_is) }

@@ -36,8 +36,8 @@ use crate::{
     Repeated, SingularCodec, StringCodec,
 };
 use buffa_wire::scalars::{
-    Bool as BoolScalar, Fixed32, Fixed64, Int32, Int64, Sfixed32, Sfixed64, Sint32, Sint64, Uint32,
-    Uint64,
+    Bool as BoolScalar, Double, Fixed32, Fixed64, Float, Int32, Int64, Sfixed32, Sfixed64, Sint32,
+    Sint64, Uint32, Uint64,
 };
 use buffa_wire::{Enumeration, Form, Scalar};
 
@@ -106,6 +106,8 @@ pub fn scalars_are_written()
     ensures fixed64 { (v : ℕ) → ⟦<Fixed64 as SingularCodec>⟧.datum v ≡ fixed64 v }
     ensures sfixed32 { (v : ℤ) → ⟦<Sfixed32 as SingularCodec>⟧.datum v ≡ fixed32 (cast_unsigned w32 v) }
     ensures sfixed64 { (v : ℤ) → ⟦<Sfixed64 as SingularCodec>⟧.datum v ≡ fixed64 (cast_unsigned w64 v) }
+    ensures float { (v : ℕ) → ⟦<Float as SingularCodec>⟧.datum v ≡ fixed32 v }
+    ensures double { (v : ℕ) → ⟦<Double as SingularCodec>⟧.datum v ≡ fixed64 v }
 {}
 
 /// A scalar is read back as it was, and each value of its type is one.
@@ -127,6 +129,8 @@ pub fn packed_scalars_are_written()
     ensures fixed64 { (v : ℕ) → ⟦<Fixed64 as PackableCodec>⟧.packed_encoding v ≡ fixed64_encoding v }
     ensures sfixed32 { (v : ℤ) → ⟦<Sfixed32 as PackableCodec>⟧.packed_encoding v ≡ sfixed32_encoding v }
     ensures sfixed64 { (v : ℤ) → ⟦<Sfixed64 as PackableCodec>⟧.packed_encoding v ≡ sfixed64_encoding v }
+    ensures float { (v : ℕ) → ⟦<Float as PackableCodec>⟧.packed_encoding v ≡ fixed32_encoding v }
+    ensures double { (v : ℕ) → ⟦<Double as PackableCodec>⟧.packed_encoding v ≡ fixed64_encoding v }
 {}
 
 /// The values of each scalar in a packed record.
@@ -146,6 +150,10 @@ pub fn packed_scalars_are_read()
         ≡ map sfixed32_of (numbers_in FourBytes bs) }
     ensures sfixed64 { (bs : List ℕ) → ⟦<Sfixed64 as SingularCodec>⟧.packed bs
         ≡ map sfixed64_of (numbers_in EightBytes bs) }
+    ensures float { (bs : List ℕ) → ⟦<Float as SingularCodec>⟧.packed bs
+        ≡ map fixed32_of (numbers_in FourBytes bs) }
+    ensures double { (bs : List ℕ) → ⟦<Double as SingularCodec>⟧.packed bs
+        ≡ map fixed64_of (numbers_in EightBytes bs) }
 {}
 
 /// The values of joined records are the joined values.
@@ -271,6 +279,10 @@ pub fn scalars_are_read()
         ≡ option_map sfixed32_of (fixed32_in d) }
     ensures sfixed64 { (n : ℕ) (b : BudgetLeft) (d : Datum) → ⟦<Sfixed64 as SingularCodec>⟧.one n b d
         ≡ option_map sfixed64_of (fixed64_in d) }
+    ensures float { (n : ℕ) (b : BudgetLeft) (d : Datum) → ⟦<Float as SingularCodec>⟧.one n b d
+        ≡ option_map fixed32_of (fixed32_in d) }
+    ensures double { (n : ℕ) (b : BudgetLeft) (d : Datum) → ⟦<Double as SingularCodec>⟧.one n b d
+        ≡ option_map fixed64_of (fixed64_in d) }
 {
     numbers_are_read::<BoolScalar>();
     numbers_are_read::<Int32>();
@@ -283,6 +295,8 @@ pub fn scalars_are_read()
     numbers_are_read::<Fixed64>();
     numbers_are_read::<Sfixed32>();
     numbers_are_read::<Sfixed64>();
+    numbers_are_read::<Float>();
+    numbers_are_read::<Double>();
 }
 
 /// Strings and bytes are read of the last record of bytes, strings where these are UTF-8; all of them are

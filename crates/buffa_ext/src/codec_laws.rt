@@ -11,9 +11,9 @@ ghost use Rattle.buffa_ext.specs.Messages.{ReadsMessages, group_held, group_of};
 ghost use Rattle.buffa_ext.specs.Names.{IsOf, enum_in};
 
 use crate::codecs::{
-    Bool, BytesCodec, EnumCodec, EnumI32, Fixed32, Fixed64, GroupCodec, Int32, Int64, MessageCodec,
-    PackableCodec, PackedRepeated, Repeated, Sfixed32, Sfixed64, SingularCodec, Sint32, Sint64,
-    StringCodec, Uint32, Uint64,
+    Bool, BytesCodec, Double, EnumCodec, EnumI32, Fixed32, Fixed64, Float, GroupCodec, Int32,
+    Int64, MessageCodec, PackableCodec, PackedRepeated, Repeated, Sfixed32, Sfixed64,
+    SingularCodec, Sint32, Sint64, StringCodec, Uint32, Uint64,
 };
 use crate::message::MessageIn;
 use crate::record::{Delimited, Grouped};
@@ -49,6 +49,10 @@ pub fn number_names_are_these()
         (λ d. option_map sfixed32_of (fixed32_in d)) (λ v. fixed32 (cast_unsigned w32 v)) }
     ensures sfixed64 { IsOf ⟦<Sfixed64 as SingularCodec>⟧.one ⟦<Sfixed64 as SingularCodec>⟧.datum
         (λ d. option_map sfixed64_of (fixed64_in d)) (λ v. fixed64 (cast_unsigned w64 v)) }
+    ensures float { IsOf ⟦<Float as SingularCodec>⟧.one ⟦<Float as SingularCodec>⟧.datum
+        (λ d. option_map fixed32_of (fixed32_in d)) fixed32 }
+    ensures double { IsOf ⟦<Double as SingularCodec>⟧.one ⟦<Double as SingularCodec>⟧.datum
+        (λ d. option_map fixed64_of (fixed64_in d)) fixed64 }
 {
     numbers_are_read::<Bool>();
     numbers_are_read::<Int32>();
@@ -62,6 +66,8 @@ pub fn number_names_are_these()
     numbers_are_read::<Fixed64>();
     numbers_are_read::<Sfixed32>();
     numbers_are_read::<Sfixed64>();
+    numbers_are_read::<Float>();
+    numbers_are_read::<Double>();
     are_one_type::<scalars::Bool>(PhantomData::<Bool>);
     are_one_type::<scalars::Int32>(PhantomData::<Int32>);
     are_one_type::<scalars::Int64>(PhantomData::<Int64>);
@@ -73,6 +79,8 @@ pub fn number_names_are_these()
     are_one_type::<scalars::Fixed64>(PhantomData::<Fixed64>);
     are_one_type::<scalars::Sfixed32>(PhantomData::<Sfixed32>);
     are_one_type::<scalars::Sfixed64>(PhantomData::<Sfixed64>);
+    are_one_type::<scalars::Float>(PhantomData::<Float>);
+    are_one_type::<scalars::Double>(PhantomData::<Double>);
     are_one_type::<scalars::Int32>(PhantomData::<EnumI32>);
 }
 

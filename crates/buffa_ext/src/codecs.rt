@@ -5,6 +5,6 @@ pub use crate::{
     SingularCodec, StringCodec,
 };
 pub use buffa_wire::scalars::{
-    Bool, Fixed32, Fixed64, Int32, Int32 as EnumI32, Int64, Sfixed32, Sfixed64, Sint32, Sint64,
-    Uint32, Uint64,
+    Bool, Double, Fixed32, Fixed64, Float, Int32, Int32 as EnumI32, Int64, Sfixed32, Sfixed64,
+    Sint32, Sint64, Uint32, Uint64,
 };

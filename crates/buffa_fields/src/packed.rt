@@ -20,8 +20,8 @@ use crate::member::Member;
 use crate::nested::{record_len, write_head};
 use crate::proto_type::ProtoType;
 use buffa_map::map_codec::{
-    Bool, ClosedEnum, Fixed32, Fixed64, Int32, Int64, MapCodec, MapValueDecode, OpenEnum, Sfixed32,
-    Sfixed64, Sint32, Sint64, Uint32, Uint64,
+    Bool, ClosedEnum, Double, Fixed32, Fixed64, Float, Int32, Int64, MapCodec, MapValueDecode,
+    OpenEnum, Sfixed32, Sfixed64, Sint32, Sint64, Uint32, Uint64,
 };
 use buffa_wire::{
     Blank, DecodeContext, DecodeError, EncodeError, EncodeSink, Enumeration, SizeCache, Tag,
@@ -76,6 +76,14 @@ impl Packable for Sfixed32 {
 }
 
 impl Packable for Sfixed64 {
+    ghost apart = { refl };
+}
+
+impl Packable for Float {
+    ghost apart = { refl };
+}
+
+impl Packable for Double {
     ghost apart = { refl };
 }
 

@@ -26,8 +26,8 @@ use crate::repeated::Repeated;
 use crate::repeated_group::RepeatedGroup;
 use crate::repeated_nested::RepeatedNested;
 use buffa_map::map_codec::{
-    Bool, BytesBuf, ClosedEnum, Fixed32, Fixed64, Int32, Int64, MapCodec, OpenEnum, ProtoBytesMap,
-    ProtoStringMap, Sfixed32, Sfixed64, Sint32, Sint64, Uint32, Uint64,
+    Bool, BytesBuf, ClosedEnum, Double, Fixed32, Fixed64, Float, Int32, Int64, MapCodec, OpenEnum,
+    ProtoBytesMap, ProtoStringMap, Sfixed32, Sfixed64, Sint32, Sint64, Uint32, Uint64,
 };
 use buffa_wire::{Enumeration, MapKey, Message, ProtoBytes, ProtoString, Scalar};
 use std::hash::Hash;
@@ -64,6 +64,10 @@ pub fn numbers_are_these()
         × (⟦<Sfixed32 as ProtoType>⟧.is_blank v ≡ is_zero v) }
     ensures sfixed64 { (v : ℤ) → (⟦<Sfixed64 as ProtoType>⟧.datum v ≡ fixed64 (⟦<Sfixed64 as Scalar>⟧.number_of v))
         × (⟦<Sfixed64 as ProtoType>⟧.is_blank v ≡ is_zero v) }
+    ensures float { (v : ℕ) → (⟦<Float as ProtoType>⟧.datum v ≡ fixed32 (⟦<Float as Scalar>⟧.number_of v))
+        × (⟦<Float as ProtoType>⟧.is_blank v ≡ is_nought v) }
+    ensures double { (v : ℕ) → (⟦<Double as ProtoType>⟧.datum v ≡ fixed64 (⟦<Double as Scalar>⟧.number_of v))
+        × (⟦<Double as ProtoType>⟧.is_blank v ≡ is_nought v) }
     ensures bool { (v : _) → (⟦<Bool as ProtoType>⟧.datum v ≡ varint (⟦<Bool as Scalar>⟧.number_of v))
         × (⟦<Bool as ProtoType>⟧.is_blank v ≡ not v) }
 {}

@@ -10,10 +10,10 @@ ghost use Rattle.std.specs.Prelude.{not};
 
 use crate::proto_type::ProtoType;
 use buffa_map::map_codec::{
-    Bool, BytesBuf, ClosedEnum, Fixed32, Fixed64, Int32, Int64, OpenEnum, ProtoBytesMap,
-    ProtoStringMap, Sfixed32, Sfixed64, Sint32, Sint64, Uint32, Uint64,
+    Bool, BytesBuf, ClosedEnum, Double, Fixed32, Fixed64, Float, Int32, Int64, OpenEnum,
+    ProtoBytesMap, ProtoStringMap, Sfixed32, Sfixed64, Sint32, Sint64, Uint32, Uint64,
 };
-use buffa_wire::{EnumValue, Enumeration, ProtoBytes, ProtoString, Scalar};
+use buffa_wire::{DoubleBits, EnumValue, Enumeration, FloatBits, ProtoBytes, ProtoString, Scalar};
 use bytes::Bytes;
 
 impl ProtoType for Int32 {
@@ -151,6 +151,34 @@ impl ProtoType for Fixed64 {
 
     fn is_blank(value: &u64) -> bool {
         *value == 0
+    }
+
+    ghost datum_encoding = { λ n v. refl };
+
+    ghost blank_only = { λ v _ h. nought_only v h };
+}
+
+impl ProtoType for Float {
+    ghost datum = { λ v. fixed32 (⟦<Float as Scalar>⟧.number_of v) };
+
+    ghost is_blank = { is_nought };
+
+    fn is_blank(value: &FloatBits) -> bool {
+        value.bits == 0
+    }
+
+    ghost datum_encoding = { λ n v. refl };
+
+    ghost blank_only = { λ v _ h. nought_only v h };
+}
+
+impl ProtoType for Double {
+    ghost datum = { λ v. fixed64 (⟦<Double as Scalar>⟧.number_of v) };
+
+    ghost is_blank = { is_nought };
+
+    fn is_blank(value: &DoubleBits) -> bool {
+        value.bits == 0
     }
 
     ghost datum_encoding = { λ n v. refl };

@@ -18,9 +18,9 @@ ghost use Rattle.buffa_bytes.specs.declared.wire_type.WireType.TheVariants as wi
 
 // By the public names, so that the laws say what a user's names stand for.
 use crate::map_codec::{
-    Bool, BytesBuf, BytesVec, ClosedEnum, Fixed32, Fixed64, Int32, Int64, MapCodec, MapValueDecode,
-    Msg, OpenEnum, ProtoBytesMap, ProtoStringMap, Sfixed32, Sfixed64, Sint32, Sint64, Str, Uint32,
-    Uint64,
+    Bool, BytesBuf, BytesVec, ClosedEnum, Double, Fixed32, Fixed64, Float, Int32, Int64, MapCodec,
+    MapValueDecode, Msg, OpenEnum, ProtoBytesMap, ProtoStringMap, Sfixed32, Sfixed64, Sint32,
+    Sint64, Str, Uint32, Uint64,
 };
 use buffa_wire::{Blank, Enumeration, MapKey, Message, ProtoBytes, ProtoString, Scalar};
 
@@ -101,6 +101,10 @@ pub fn scalars_are_these()
         × (⟦<Sfixed32 as MapCodec>⟧.writing ≡ four_writing (cast_unsigned w32)) }
     ensures sfixed64 { (⟦<Sfixed64 as MapValueDecode>⟧.reading ≡ number_reading wire.Fixed64 (pos 0) sfixed64_of)
         × (⟦<Sfixed64 as MapCodec>⟧.writing ≡ eight_writing (cast_unsigned w64)) }
+    ensures float { (⟦<Float as MapValueDecode>⟧.reading ≡ number_reading wire.Fixed32 0 (λ n. n))
+        × (⟦<Float as MapCodec>⟧.writing ≡ four_writing (λ n. n)) }
+    ensures double { (⟦<Double as MapValueDecode>⟧.reading ≡ number_reading wire.Fixed64 0 (λ n. n))
+        × (⟦<Double as MapCodec>⟧.writing ≡ eight_writing (λ n. n)) }
 {}
 
 /// How strings and bytes are read and written, what holds of those that a value may have, and what a value costs.
@@ -125,6 +129,8 @@ pub fn scalars_cost_so_much()
         × (⟦<Uint64 as MapValueDecode>⟧.COST ≡ 8) }
     ensures fixed { (⟦<Fixed32 as MapValueDecode>⟧.COST ≡ 4) × (⟦<Sfixed32 as MapValueDecode>⟧.COST ≡ 4)
         × (⟦<Fixed64 as MapValueDecode>⟧.COST ≡ 8) × (⟦<Sfixed64 as MapValueDecode>⟧.COST ≡ 8) }
+    ensures reals { (⟦<Float as MapValueDecode>⟧.COST ≡ 4) × (⟦<Double as MapValueDecode>⟧.COST ≡ 8)
+        × (⟦<Float as MapCodec>⟧.FIXED_LEN ≡ Some 4) × (⟦<Double as MapCodec>⟧.FIXED_LEN ≡ Some 8) }
     ensures lengths { (⟦<Bool as MapCodec>⟧.FIXED_LEN ≡ Some 1) × (⟦<Fixed32 as MapCodec>⟧.FIXED_LEN ≡ Some 4)
         × (⟦<Sfixed32 as MapCodec>⟧.FIXED_LEN ≡ Some 4) }
     ensures long_lengths { (⟦<Fixed64 as MapCodec>⟧.FIXED_LEN ≡ Some 8)

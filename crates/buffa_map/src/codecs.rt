@@ -12,7 +12,8 @@ mod enums;
 mod scalars;
 
 pub use buffa_wire::scalars::{
-    Bool, Fixed32, Fixed64, Int32, Int64, Sfixed32, Sfixed64, Sint32, Sint64, Uint32, Uint64,
+    Bool, Double, Fixed32, Fixed64, Float, Int32, Int64, Sfixed32, Sfixed64, Sint32, Sint64,
+    Uint32, Uint64,
 };
 pub use delimited::{BytesBuf, BytesVec, ProtoBytesMap, ProtoStringMap, Str};
 pub use enums::{ClosedEnum, OpenEnum};

@@ -10,8 +10,8 @@
 
 pub use crate::codec::{MapCodec, MapValueDecode, MapValueDecodeStatus};
 pub use crate::codecs::{
-    Bool, BytesBuf, BytesVec, ClosedEnum, Fixed32, Fixed64, Int32, Int64, OpenEnum, ProtoBytesMap,
-    ProtoStringMap, Sfixed32, Sfixed64, Sint32, Sint64, Str, Uint32, Uint64,
+    Bool, BytesBuf, BytesVec, ClosedEnum, Double, Fixed32, Fixed64, Float, Int32, Int64, OpenEnum,
+    ProtoBytesMap, ProtoStringMap, Sfixed32, Sfixed64, Sint32, Sint64, Str, Uint32, Uint64,
 };
 pub use crate::entry::{merge_entry, merge_entry_with_unknowns};
 pub use crate::indexed::Map;

@@ -1,6 +1,6 @@
 //! Which scalar each one is, in the words of the encoding guide: laws, as in [`records`](crate::laws::records).
 
-ghost use Rattle.std.specs.Prelude.{◌≡◌, ◌^◌, ℕ, None, Some};
+ghost use Rattle.std.specs.Prelude.{◌≡◌, ◌^◌, ◌↔◌, ℕ, None, Some, true};
 ghost use Rattle.buffa_bytes.specs.Scalars.{bool_of, bool_encoding, fixed32_of, fixed32_encoding, fixed64_of, fixed64_encoding};
 ghost use Rattle.buffa_bytes.specs.Scalars.{int64_of, int64_encoding, sfixed32_of, sfixed32_encoding, sfixed64_of};
 ghost use Rattle.buffa_bytes.specs.Scalars.{sfixed64_encoding, sint32_of, sint32_encoding, sint64_of, sint64_encoding};
@@ -9,15 +9,21 @@ ghost use Rattle.std.specs.Int.{to_le_bytes, w32, w64};
 ghost use Rattle.buffa_bytes.specs.Values.{int32_of, int32_encoding};
 ghost use Rattle.buffa_bytes.specs.Varint.{varint_encoding};
 ghost use Rattle.buffa_bytes.specs.declared.wire_type.WireType.TheVariants as wire;
+ghost use Rattle.buffa_bytes.specs.Pinned.{IsCopied, Means};
+ghost use Rattle.buffa_wire.specs.declared.reals.DoubleBits.{DoubleBits};
+ghost use Rattle.buffa_wire.specs.declared.reals.FloatBits.{FloatBits};
 ghost use Rattle.buffa_wire.specs.Found.{fixed32_in, fixed64_in, varint_in};
 ghost use Rattle.buffa_wire.specs.Pinned.{IsRecordedAs, IsSpelled, SpellsBelow};
 ghost use Rattle.buffa_wire.specs.Records.{fixed32, fixed64, varint};
 
 use crate::form::{EightBytes, Form, FourBytes, Varint};
+use crate::reals::{DoubleBits, FloatBits};
 use crate::scalar::Scalar;
 use crate::scalars::{
-    Bool, Fixed32, Fixed64, Int32, Int64, Sfixed32, Sfixed64, Sint32, Sint64, Uint32, Uint64,
+    Bool, Double, Fixed32, Fixed64, Float, Int32, Int64, Sfixed32, Sfixed64, Sint32, Sint64,
+    Uint32, Uint64,
 };
+use buffa_bytes::Blank;
 
 /// What is written of a value of each scalar. Nothing is left out.
 pub fn scalars_are_written()
@@ -32,6 +38,8 @@ pub fn scalars_are_written()
     ensures fixed64 { IsSpelled ⟦<Fixed64 as Scalar>⟧.number_of ⟦<<Fixed64 as Scalar>::Form as Form>⟧.encoding fixed64_encoding }
     ensures sfixed32 { IsSpelled ⟦<Sfixed32 as Scalar>⟧.number_of ⟦<<Sfixed32 as Scalar>::Form as Form>⟧.encoding sfixed32_encoding }
     ensures sfixed64 { IsSpelled ⟦<Sfixed64 as Scalar>⟧.number_of ⟦<<Sfixed64 as Scalar>::Form as Form>⟧.encoding sfixed64_encoding }
+    ensures float { IsSpelled ⟦<Float as Scalar>⟧.number_of ⟦<<Float as Scalar>::Form as Form>⟧.encoding fixed32_encoding }
+    ensures double { IsSpelled ⟦<Double as Scalar>⟧.number_of ⟦<<Double as Scalar>::Form as Form>⟧.encoding fixed64_encoding }
 {}
 
 /// What the number in an encoding of each scalar means. Nothing is left out.
@@ -47,6 +55,8 @@ pub fn scalars_are_read()
     ensures fixed64 { (n : ℕ) → ⟦<Fixed64 as Scalar>⟧.value_of n ≡ fixed64_of n }
     ensures sfixed32 { (n : ℕ) → ⟦<Sfixed32 as Scalar>⟧.value_of n ≡ sfixed32_of n }
     ensures sfixed64 { (n : ℕ) → ⟦<Sfixed64 as Scalar>⟧.value_of n ≡ sfixed64_of n }
+    ensures float { (n : ℕ) → ⟦<Float as Scalar>⟧.value_of n ≡ fixed32_of n }
+    ensures double { (n : ℕ) → ⟦<Double as Scalar>⟧.value_of n ≡ fixed64_of n }
 {}
 
 /// The wire type of each scalar's payloads. Nothing is left out.
@@ -62,6 +72,8 @@ pub fn scalars_have_wire_types()
     ensures fixed64 { ⟦<<Fixed64 as Scalar>::Form as Form>⟧.WIRE_TYPE ≡ wire.Fixed64 }
     ensures sfixed32 { ⟦<<Sfixed32 as Scalar>::Form as Form>⟧.WIRE_TYPE ≡ wire.Fixed32 }
     ensures sfixed64 { ⟦<<Sfixed64 as Scalar>::Form as Form>⟧.WIRE_TYPE ≡ wire.Fixed64 }
+    ensures float { ⟦<<Float as Scalar>::Form as Form>⟧.WIRE_TYPE ≡ wire.Fixed32 }
+    ensures double { ⟦<<Double as Scalar>::Form as Form>⟧.WIRE_TYPE ≡ wire.Fixed64 }
 {}
 
 /// What a value of each scalar costs where it is an element. Nothing is left out.
@@ -77,6 +89,8 @@ pub fn scalars_cost_so_much()
     ensures fixed64 { ⟦<Fixed64 as Scalar>⟧.COST ≡ 8 }
     ensures sfixed32 { ⟦<Sfixed32 as Scalar>⟧.COST ≡ 4 }
     ensures sfixed64 { ⟦<Sfixed64 as Scalar>⟧.COST ≡ 8 }
+    ensures float { ⟦<Float as Scalar>⟧.COST ≡ 4 }
+    ensures double { ⟦<Double as Scalar>⟧.COST ≡ 8 }
 {}
 
 /// The length of each scalar's encodings, where they have one. Nothing is left out.
@@ -92,6 +106,8 @@ pub fn scalars_have_lengths()
     ensures fixed64 { ⟦<Fixed64 as Scalar>⟧.FIXED_LEN ≡ Some 8 }
     ensures sfixed32 { ⟦<Sfixed32 as Scalar>⟧.FIXED_LEN ≡ Some 4 }
     ensures sfixed64 { ⟦<Sfixed64 as Scalar>⟧.FIXED_LEN ≡ Some 8 }
+    ensures float { ⟦<Float as Scalar>⟧.FIXED_LEN ≡ Some 4 }
+    ensures double { ⟦<Double as Scalar>⟧.FIXED_LEN ≡ Some 8 }
 {}
 
 /// How each form spells a number, which numbers it spells, and the record of one. Nothing is left out.
@@ -105,4 +121,15 @@ pub fn forms_are_these()
     ensures eight { SpellsBelow ⟦<EightBytes as Form>⟧.encoding ⟦<EightBytes as Form>⟧.spells (to_le_bytes w64) (2 ^ 64) }
     ensures eight_record { IsRecordedAs ⟦<EightBytes as Form>⟧.datum ⟦<EightBytes as Form>⟧.found fixed64 fixed64_in }
     ensures eight_wire { ⟦<EightBytes as Form>⟧.WIRE_TYPE ≡ wire.Fixed64 }
+{}
+
+/// A real number means its bits, and its default is that of which no bit is set. Two are equal exactly where their bits are,
+/// and `clone` makes the same again. Nothing is left out.
+pub fn reals_are_these()
+    ensures float { Means (λ v. v.bits) 0 ⟦<FloatBits as Blank>⟧.meaning ⟦<FloatBits as Blank>⟧.blank_is }
+    ensures double { Means (λ v. v.bits) 0 ⟦<DoubleBits as Blank>⟧.meaning ⟦<DoubleBits as Blank>⟧.blank_is }
+    ensures float_equal { (a b : FloatBits) → (⟦<FloatBits as PartialEq>⟧.eq a b ≡ true) ↔ (a.bits ≡ b.bits) }
+    ensures double_equal { (a b : DoubleBits) → (⟦<DoubleBits as PartialEq>⟧.eq a b ≡ true) ↔ (a.bits ≡ b.bits) }
+    ensures float_clone { IsCopied ⟦<FloatBits as Clone>⟧.is_clone ⟦<FloatBits as Clone>⟧.is_infallible }
+    ensures double_clone { IsCopied ⟦<DoubleBits as Clone>⟧.is_clone ⟦<DoubleBits as Clone>⟧.is_infallible }
 {}
