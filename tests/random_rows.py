@@ -24,13 +24,13 @@ PAIRS = (
     "word,int32 int32,old int32,new int32,open string,old word,old word,new int32,flat int32,two int32,keep int32,tree "
     "old,int32"
 ).split()
-NUMBERS = "int32 int64 uint32 uint64 sint32 sint64 bool fixed32 fixed64 sfixed32 sfixed64 number enum".split()
+NUMBERS = "int32 int64 uint32 uint64 sint32 sint64 bool fixed32 fixed64 sfixed32 sfixed64 float double number enum".split()
 OTHERS = "string bytes flat two count keep two-group count-group keep-group".split()
 CALLS = (
     "entry entry entry entry unlisted run run rewrite item skip unknown records varint merge merge get get one set steps "
     "merge-delimited payload decode decode tag equal"
 ).split()
-SCALARS = NUMBERS[:-2] + "string own-string word bytes own-bytes shared-bytes".split()
+SCALARS = NUMBERS[:-4] + "string own-string word bytes own-bytes shared-bytes".split()
 VALUES = {
     "bool": "true", "string": '"q"', "bytes": "x01", "own-bytes": "x01", "shared-bytes": "x01", "open": "?7", "flat": "4",
     "two": "4,5", "keep": "x0805", "old": "1", "new": "2", "int32": "6", "uint32": "6",

@@ -10,6 +10,7 @@ KINDS = {
     "int32": (VARINT, 4), "uint32": (VARINT, 4), "sint32": (VARINT, 4), "bool": (VARINT, 1), "old": (VARINT, 4),
     "new": (VARINT, 4), "open": (VARINT, 8), "int64": (VARINT, 8), "uint64": (VARINT, 8), "sint64": (VARINT, 8),
     "fixed32": (FOUR, 4), "sfixed32": (FOUR, 4), "fixed64": (EIGHT, 8), "sfixed64": (EIGHT, 8),
+    "float": (FOUR, 4), "double": (EIGHT, 8),
     "string": (DELIMITED, 24), "own-string": (DELIMITED, 24), "word": (DELIMITED, 24), "bytes": (DELIMITED, 24),
     "own-bytes": (DELIMITED, 24), "shared-bytes": (DELIMITED, 32), "flat": (DELIMITED, 4), "two": (DELIMITED, 32),
     "keep": (DELIMITED, 24), "tree": (DELIMITED, 32), "count": (DELIMITED, 8), "node": (DELIMITED, 96),

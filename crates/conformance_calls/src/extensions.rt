@@ -15,13 +15,14 @@ pub mod written;
 use crate::extensions::normal::Normal;
 use crate::extensions::told::Told;
 use buffa_ext::codecs::{
-    Bool, BytesCodec, EnumI32, Fixed32, Fixed64, Int32, Int64, PackedRepeated, Repeated, Sfixed32,
+    Bool, BytesCodec, Double, EnumI32, Fixed32, Fixed64, Float, Int32, Int64, PackedRepeated, Repeated, Sfixed32,
     Sfixed64, Sint32, Sint64, StringCodec, Uint32, Uint64,
 };
 use buffa_ext::{
     ExtensionCodec, MessageIn, MessageRecord, Numbered, SingularCodec, StrictCodec,
     StrictElementCodec,
 };
+use buffa_wire::{DoubleBits, FloatBits};
 use conformance_rows::case::Case;
 use conformance_rows::fault::Fault;
 use conformance_rows::mark::Mark;
@@ -144,6 +145,7 @@ fn of_longs<By>(alloc: Global, case: &Case<'_>, mark: &mut Mark) -> Result<Outco
         "sint64" => packable::<By, i64, Sint64>(alloc, case, mark),
         "fixed64" => packable::<By, u64, Fixed64>(alloc, case, mark),
         "sfixed64" => packable::<By, i64, Sfixed64>(alloc, case, mark),
+        "double" => packable::<By, DoubleBits, Double>(alloc, case, mark),
         "bool" => packable::<By, bool, Bool>(alloc, case, mark),
         "string" => string::<By>(alloc, case, mark),
         "bytes" => bytes::<By>(alloc, case, mark),
@@ -159,6 +161,7 @@ pub fn extension<By>(alloc: Global, case: &Case<'_>, mark: &mut Mark) -> Result<
         "sint32" => packable::<By, i32, Sint32>(alloc, case, mark),
         "fixed32" => packable::<By, u32, Fixed32>(alloc, case, mark),
         "sfixed32" => packable::<By, i32, Sfixed32>(alloc, case, mark),
+        "float" => packable::<By, FloatBits, Float>(alloc, case, mark),
         "number" => packable::<By, i32, EnumI32>(alloc, case, mark),
         "-" if case.call == "steps" => steps::steps(alloc, case, mark),
         "-" if case.call == "replace" => steps::replaced(alloc, case, mark),

@@ -5,7 +5,7 @@ ghost use Rattle.buffa_bytes.specs.Number.{IsNumber};
 use crate::sizes::{put_text, tag_len_of};
 use crate::store::{len_in, told as pairs_told};
 use buffa_map::map_codec::{
-    Bool, BytesVec, Fixed32, Fixed64, Int32, Int64, Map, MapCodec, MapStorage, Sfixed32, Sfixed64,
+    Bool, BytesVec, Double, Fixed32, Fixed64, Float, Int32, Int64, Map, MapCodec, MapStorage, Sfixed32, Sfixed64,
     Sint32, Sint64, Str, Uint32, Uint64, read_map_field,
 };
 use buffa_wire::{Budget, DecodeContext, DecodeError, EncodeError, MapKey};
@@ -128,6 +128,8 @@ where
         "fixed64" => in_a_map::<By, KC, Fixed64>(alloc, case, mark, bytes),
         "sfixed32" => in_a_map::<By, KC, Sfixed32>(alloc, case, mark, bytes),
         "sfixed64" => in_a_map::<By, KC, Sfixed64>(alloc, case, mark, bytes),
+        "float" => in_a_map::<By, KC, Float>(alloc, case, mark, bytes),
+        "double" => in_a_map::<By, KC, Double>(alloc, case, mark, bytes),
         "string" => in_a_map::<By, KC, Str>(alloc, case, mark, bytes),
         "bytes" => in_a_map::<By, KC, BytesVec>(alloc, case, mark, bytes),
         _ => Err(Fault::Form),

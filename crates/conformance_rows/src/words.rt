@@ -6,7 +6,7 @@ pub use crate::tables::words::{
     bytes_word, copied, joined, push_word, text_word, word_bytes, word_text,
 };
 use buffa_wire::{
-    Blank, Budget, DEFAULT_UNKNOWN_FIELD_LIMIT, DecodeContext, DecodeError, RECURSION_LIMIT, Tag,
+    Blank, Budget, DEFAULT_UNKNOWN_FIELD_LIMIT, DecodeContext, DecodeError, DoubleBits, FloatBits, RECURSION_LIMIT, Tag,
     UnknownField, UnknownFields, decode_unknown_field,
 };
 use bytes::Bytes;
@@ -65,6 +65,27 @@ impl<By> Worded<By> for u64 {
 
     fn of_word(_alloc: Global, word: &str) -> Result<u64, Fault> {
         Ok(word.parse::<u64>()?)
+    }
+}
+
+// The number that the bits are.
+impl<By> Worded<By> for FloatBits {
+    fn word(&self, alloc: Global) -> Result<String, Fault> {
+        in_words(alloc, &self.bits)
+    }
+
+    fn of_word(_alloc: Global, word: &str) -> Result<FloatBits, Fault> {
+        Ok(FloatBits { bits: word.parse::<u32>()? })
+    }
+}
+
+impl<By> Worded<By> for DoubleBits {
+    fn word(&self, alloc: Global) -> Result<String, Fault> {
+        in_words(alloc, &self.bits)
+    }
+
+    fn of_word(_alloc: Global, word: &str) -> Result<DoubleBits, Fault> {
+        Ok(DoubleBits { bits: word.parse::<u64>()? })
     }
 }
 

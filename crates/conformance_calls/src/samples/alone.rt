@@ -1,7 +1,7 @@
 // Payloads of values by themselves: read into a value, and written.
 
 use buffa_map::map_codec::{
-    Bool, BytesBuf, BytesVec, Fixed32, Fixed64, Int32, Int64, MapCodec, MapValueDecode,
+    Bool, BytesBuf, BytesVec, Double, Fixed32, Fixed64, Float, Int32, Int64, MapCodec, MapValueDecode,
     MapValueDecodeStatus, ProtoBytesMap, ProtoStringMap, Sfixed32, Sfixed64, Sint32, Sint64, Str,
     Uint32, Uint64,
 };
@@ -204,6 +204,8 @@ pub fn payloads<By, O: OnCodec<By>>(
         "fixed64" => call.on_codec::<Fixed64>(alloc, case, mark),
         "sfixed32" => call.on_codec::<Sfixed32>(alloc, case, mark),
         "sfixed64" => call.on_codec::<Sfixed64>(alloc, case, mark),
+        "float" => call.on_codec::<Float>(alloc, case, mark),
+        "double" => call.on_codec::<Double>(alloc, case, mark),
         "string" => call.on_codec::<Str>(alloc, case, mark),
         "bytes" => call.on_codec::<BytesVec>(alloc, case, mark),
         "shared-bytes" => call.on_codec::<BytesBuf>(alloc, case, mark),
