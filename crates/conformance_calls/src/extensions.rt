@@ -15,8 +15,8 @@ pub mod written;
 use crate::extensions::normal::Normal;
 use crate::extensions::told::Told;
 use buffa_ext::codecs::{
-    Bool, BytesCodec, Double, EnumI32, Fixed32, Fixed64, Float, Int32, Int64, PackedRepeated, Repeated, Sfixed32,
-    Sfixed64, Sint32, Sint64, StringCodec, Uint32, Uint64,
+    Bool, BytesCodec, Double, EnumI32, Fixed32, Fixed64, Float, Int32, Int64, PackedRepeated,
+    Repeated, Sfixed32, Sfixed64, Sint32, Sint64, StringCodec, Uint32, Uint64,
 };
 use buffa_ext::{
     ExtensionCodec, MessageIn, MessageRecord, Numbered, SingularCodec, StrictCodec,

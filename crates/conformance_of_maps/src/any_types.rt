@@ -5,8 +5,8 @@ ghost use Rattle.buffa_bytes.specs.Number.{IsNumber};
 use crate::sizes::{put_text, tag_len_of};
 use crate::store::{len_in, told as pairs_told};
 use buffa_map::map_codec::{
-    Bool, BytesVec, Double, Fixed32, Fixed64, Float, Int32, Int64, Map, MapCodec, MapStorage, Sfixed32, Sfixed64,
-    Sint32, Sint64, Str, Uint32, Uint64, read_map_field,
+    Bool, BytesVec, Double, Fixed32, Fixed64, Float, Int32, Int64, Map, MapCodec, MapStorage,
+    Sfixed32, Sfixed64, Sint32, Sint64, Str, Uint32, Uint64, read_map_field,
 };
 use buffa_wire::{Budget, DecodeContext, DecodeError, EncodeError, MapKey};
 use conformance_rows::case::Case;

@@ -6,8 +6,8 @@ pub use crate::tables::words::{
     bytes_word, copied, joined, push_word, text_word, word_bytes, word_text,
 };
 use buffa_wire::{
-    Blank, Budget, DEFAULT_UNKNOWN_FIELD_LIMIT, DecodeContext, DecodeError, DoubleBits, FloatBits, RECURSION_LIMIT, Tag,
-    UnknownField, UnknownFields, decode_unknown_field,
+    Blank, Budget, DEFAULT_UNKNOWN_FIELD_LIMIT, DecodeContext, DecodeError, DoubleBits, FloatBits,
+    RECURSION_LIMIT, Tag, UnknownField, UnknownFields, decode_unknown_field,
 };
 use bytes::Bytes;
 use std::alloc::Global;
@@ -75,7 +75,9 @@ impl<By> Worded<By> for FloatBits {
     }
 
     fn of_word(_alloc: Global, word: &str) -> Result<FloatBits, Fault> {
-        Ok(FloatBits { bits: word.parse::<u32>()? })
+        Ok(FloatBits {
+            bits: word.parse::<u32>()?,
+        })
     }
 }
 
@@ -85,7 +87,9 @@ impl<By> Worded<By> for DoubleBits {
     }
 
     fn of_word(_alloc: Global, word: &str) -> Result<DoubleBits, Fault> {
-        Ok(DoubleBits { bits: word.parse::<u64>()? })
+        Ok(DoubleBits {
+            bits: word.parse::<u64>()?,
+        })
     }
 }
 

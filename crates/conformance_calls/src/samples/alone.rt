@@ -1,9 +1,9 @@
 // Payloads of values by themselves: read into a value, and written.
 
 use buffa_map::map_codec::{
-    Bool, BytesBuf, BytesVec, Double, Fixed32, Fixed64, Float, Int32, Int64, MapCodec, MapValueDecode,
-    MapValueDecodeStatus, ProtoBytesMap, ProtoStringMap, Sfixed32, Sfixed64, Sint32, Sint64, Str,
-    Uint32, Uint64,
+    Bool, BytesBuf, BytesVec, Double, Fixed32, Fixed64, Float, Int32, Int64, MapCodec,
+    MapValueDecode, MapValueDecodeStatus, ProtoBytesMap, ProtoStringMap, Sfixed32, Sfixed64,
+    Sint32, Sint64, Str, Uint32, Uint64,
 };
 use buffa_wire::{Budget, Buf, DecodeContext, DecodeError, EncodeError};
 use conformance_rows::case::Case;
