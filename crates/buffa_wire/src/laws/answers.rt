@@ -2,7 +2,7 @@
 //! a function with nothing to do, whose contract is the law.
 
 ghost use Rattle.std.specs.Prelude.{◌≡◌, ◌≢◌, ◌<◌, ◌≤◌, ◌⊎◌, ◌^◌, ◌+◌, ◌-◌, ◌↔◌, ℕ, suc, List, [], ◌∷◌, ◌++◌, length, take, drop};
-ghost use Rattle.std.specs.Prelude.{Some, None, Result, Ok, Err, IsOk};
+ghost use Rattle.std.specs.Prelude.{Bool, true, false, Some, None, Result, Ok, Err, IsOk};
 ghost use Rattle.std.specs.Borrow.{Bor};
 ghost use Rattle.buffa_bytes.specs.declared.error.DecodeError.{DecodeError};
 ghost use Rattle.buffa_bytes.specs.declared.error.DecodeError.TheVariants as decoding;
@@ -23,11 +23,15 @@ ghost use Rattle.buffa_wire.specs.BudgetLeft.{defaults, minus, need_by, nothing,
 ghost use Rattle.buffa_wire.specs.Cache.{Cache, advanced, appended};
 ghost use Rattle.buffa_wire.specs.Kept.{more_left};
 ghost use Rattle.buffa_wire.specs.Message.{BeginsField, IsFieldMerged, IsJudged, IsLimit, IsMerged, IsMergedAlone, MergeFault};
+ghost use Rattle.buffa_wire.specs.Message.{MergesBytes, MergesField, MergesInside, Unchanged};
 ghost use Rattle.buffa_wire.specs.Message.{IsInside, MessageFault, Stands, StandsInside, cost_in, cost_of_payload, merged_in};
 ghost use Rattle.buffa_wire.specs.Parse.{FieldFault, GroupRecordsFault, RecordsFault, TakesRecords};
 ghost use Rattle.buffa_wire.specs.Passes.{Begins, Consumes, IsNext, IsSized, IsSmall, IsWritten, cap};
-ghost use Rattle.buffa_wire.specs.RecordReading.{ListTakesMemory, RecordTakesMemory, field_at};
+ghost use Rattle.buffa_wire.specs.RecordReading.{ListTakesMemory, RecordTakesMemory, field_at, field_in};
 ghost use Rattle.buffa_wire.specs.Records.{Datum, Records};
+ghost use Rattle.buffa_wire.specs.Encoding.{write_outcome};
+ghost use Rattle.buffa_wire.specs.Takes.{IsTaken, Leads, Piece, ReadsBack, Stays, Untaken, costs_nothing, joined_fields};
+ghost use Rattle.buffa_wire.specs.declared.context.DecodeContext.{DecodeContext};
 
 use crate::message::{Message, MessageSpec};
 
@@ -69,6 +73,7 @@ pub fn writes_are_these<T>()
     ensures not_written { (e : EncodeError) (old encoded new : List ℕ) → Writes {T = T} (Err e) old encoded new
         ↔ ((e ≡ encoding.OutOfMemory) × (front : List ℕ) × (rest : List ℕ) × (encoded ≡ front ++ rest)
         × (new ≡ old ++ front) × (0 < length rest)) }
+    ensures outcome { (write_outcome true ≡ Ok tt) × (write_outcome false ≡ Err encoding.OutOfMemory) }
     ensures fits { (x : T) (room left : ℕ) (encoded : List ℕ) → UsesRoom (Ok x) room encoded left
         ↔ (room ≤ left + length encoded) }
     ensures no_room { (e : EncodeError) (room left : ℕ) (encoded : List ℕ) → UsesRoom {T = T} (Err e) room encoded left
@@ -192,6 +197,8 @@ pub fn merges_are_these<M: Message>()
     ensures not_alone { (d : ℕ) (v new : M.Meaning) (bs : List ℕ) (need : BudgetLeft) (e : DecodeError) →
         IsMergedAlone {T = Unit {0}} (M.merged d v bs) need (Err e) new
         ↔ (e ≢ decoding.OutOfMemory → MergeFault (M.merged d v bs) need defaults e) }
+    ensures bytes { (d : ℕ) (v new : M.Meaning) (bs : List ℕ) (before after : BudgetLeft) (r : Result (Unit {0}) DecodeError) →
+        MergesBytes M.merged M.cost d v bs before r new after ↔ IsMerged (M.merged d v bs) (M.cost d bs) before r new after }
     ensures begins { (bs : List ℕ) → BeginsField bs ↔ ((n : ℕ) × (w : WireType) × (rest : List ℕ)
         × (tag_at bs ≡ Ok (n, w, rest)) × (w ≢ wire.EndGroup)) }
 {}
@@ -202,6 +209,39 @@ pub fn fields_mean_their_payloads<M: MessageSpec>()
         M.merged d v (t ++ p) ≡ M.takes d v n w p }
     ensures costs { (d n : ℕ) (w : WireType) (t p : List ℕ) → IsTag t n w → Payload d n w p → M.cost d (t ++ p)
         ≡ M.need d n w p }
+{}
+
+/// A field is taken by its payload: what the type makes of the payload is left, and what the field needs is spent. It is refused
+/// where the budget lacks that, or where no payload at the front is taken, and then by no limit; or memory ran out, and not at
+/// an end tag.
+pub fn fields_are_taken_so<M: MessageSpec>()
+    ensures taken { (d n : ℕ) (w : WireType) (v new : M.Meaning) (bs rest : List ℕ) (before after : BudgetLeft) (x : Unit {0}) →
+        IsTaken M.takes M.need d v n w bs before (Ok x) new after rest ↔ ((p : List ℕ) × Payload d n w p × (bs ≡ p ++ rest)
+        × (M.takes d v n w p ≡ Some new) × Pays before (M.need d n w bs) after) }
+    ensures refused { (d n : ℕ) (w : WireType) (v new : M.Meaning) (bs rest : List ℕ) (before after : BudgetLeft)
+        (e : DecodeError) → IsTaken {T = Unit {0}} M.takes M.need d v n w bs before (Err e) new after rest
+        ↔ (PaysAtMost before (M.need d n w bs) after
+        × (e ≢ decoding.OutOfMemory → Lacks before (M.need d n w bs)
+        ⊎ (Untaken M.takes d v n w bs × (IsLimit e → ⊥)))
+        × (e ≡ decoding.OutOfMemory → w ≢ wire.EndGroup)) }
+    ensures untaken { (d n : ℕ) (w : WireType) (v : M.Meaning) (bs : List ℕ) → Untaken M.takes d v n w bs
+        ↔ ((p rest : List ℕ) → Payload d n w p → bs ≡ p ++ rest → M.takes d v n w p ≡ None) }
+    ensures stays { Stays M.need ↔ ((d n : ℕ) (w : WireType) (p x : List ℕ) → Payload d n w p →
+        M.need d n w (p ++ x) ≡ M.need d n w p) }
+    ensures free { (d n : ℕ) (w : WireType) (bs : List ℕ) → costs_nothing d n w bs ≡ nothing }
+{}
+
+/// An encoding reads back as fields: each a tag and a payload, of a number of the message's own, which takes the value further.
+pub fn encodings_lead_so<M: MessageSpec>()
+    ensures fields { (own : ℕ → Bool) (d : ℕ) (s t : M.Meaning) (encoded : List ℕ) → ReadsBack M.takes own d s encoded t
+        ↔ ((fs : List Piece) × (encoded ≡ joined_fields fs) × Leads M.takes own d s fs t) }
+    ensures none { (own : ℕ → Bool) (d : ℕ) (s t : M.Meaning) → Leads M.takes own d s [] t ↔ (s ≡ t) }
+    ensures more { (own : ℕ → Bool) (d : ℕ) (s t : M.Meaning) (f : Piece) (fs : List Piece) →
+        Leads M.takes own d s (f ∷ fs) t ↔ ((own f.number ≡ true) × IsTag f.tag f.number f.wire
+        × Payload d f.number f.wire f.payload × (u : M.Meaning) × (M.takes d s f.number f.wire f.payload ≡ Some u)
+        × Leads M.takes own d u fs t) }
+    ensures none_joined { joined_fields [] ≡ [] }
+    ensures joined { (f : Piece) (fs : List Piece) → joined_fields (f ∷ fs) ≡ (f.tag ++ f.payload) ++ joined_fields fs }
 {}
 
 /// The same of a field after its tag, whose need is that of the tag and the payload. A refusal speaks of the payload at the
@@ -215,6 +255,11 @@ pub fn merges_of_fields_are_these<M: Message>()
         (e : DecodeError) → IsFieldMerged {T = Unit {0}} M.merged M.cost d v n w bs before (Err e) new after rest
         ↔ ((t p : List ℕ) → IsTag t n w → IsJudged d n w bs p → PaysAtMost before (M.cost d (t ++ p)) after
         × (e ≢ decoding.OutOfMemory → MergeFault (M.merged d v (t ++ p)) (M.cost d (t ++ p)) before e)) }
+    ensures in_context { (ctx : DecodeContext) (n : ℕ) (w : WireType) (v new : M.Meaning) (bs rest : List ℕ) (after : BudgetLeft)
+        (r : Result (Unit {0}) DecodeError) → MergesField M.merged M.cost ctx v n w bs r new after rest
+        ↔ IsFieldMerged M.merged M.cost ctx.depth v n w bs ctx.budget.now r new after rest }
+    ensures kept_in_context { (ctx : DecodeContext) (n : ℕ) (w : WireType) (bs : List ℕ) → field_in ctx n w bs
+        ≡ field_at ctx.depth ctx.budget.now.unknown n w bs }
     ensures judged { (d n : ℕ) (w : WireType) (bs p : List ℕ) → IsJudged d n w bs p
         ↔ (((rest : List ℕ) × Payload d n w p × (bs ≡ p ++ rest))
         ⊎ ((p ≡ bs) × ((rest : List ℕ) → TakesPayload d n w bs rest → ⊥))) }
@@ -232,6 +277,8 @@ pub fn refused_merges_leave_these<M: Message>()
         × (e ≡ decoding.OutOfMemory → w ≢ wire.EndGroup)
         × ((t p : List ℕ) → IsTag t n w → IsJudged d n w more p → e ≢ decoding.OutOfMemory →
         MergeFault (M.merged d mid (t ++ p)) (M.cost d (t ++ p)) left e)))) }
+    ensures unchanged { (d n : ℕ) (w : WireType) (old new : M.Meaning) (bs : List ℕ) (left : BudgetLeft) (e : DecodeError) →
+        Unchanged d old n w bs left e new ↔ (new ≡ old) }
     ensures inside { (d : ℕ) (old new : M.Meaning) (bs : List ℕ) (before : BudgetLeft) (e : DecodeError) →
         StandsInside M.merged M.cost M.Refused d old bs before e new ↔ ((c : ℕ) (b rest : List ℕ) → d ≡ suc c →
         delimited_at bs ≡ Ok (b, rest) → Stands M.merged M.cost M.Refused c old b before e new
@@ -249,6 +296,9 @@ pub fn merges_inside_are_these<M: Message>()
     ensures merged { (d : ℕ) (v new : M.Meaning) (bs rest : List ℕ) (before after : BudgetLeft) →
         IsInside M.merged M.cost d v bs before new after rest ↔ ((b : List ℕ) × (delimited_at bs ≡ Ok (b, rest))
         × (merged_in M.merged d v b ≡ Some new) × Pays before (cost_in M.cost d b) after) }
+    ensures in_context { (ctx : DecodeContext) (v new : M.Meaning) (bs rest : List ℕ) (after : BudgetLeft) →
+        MergesInside M.merged M.cost ctx v bs new after rest
+        ↔ IsInside M.merged M.cost ctx.depth v bs ctx.budget.now new after rest }
     ensures no_level { (v : M.Meaning) (bs : List ℕ) (left : BudgetLeft) (e : DecodeError) →
         MessageFault M.merged M.cost 0 v bs left e ↔ (e ≡ decoding.RecursionLimitExceeded) }
     ensures fault { (d : ℕ) (v : M.Meaning) (bs : List ℕ) (left : BudgetLeft) (e : DecodeError) →

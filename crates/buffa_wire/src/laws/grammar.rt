@@ -1,21 +1,21 @@
 //! What the words of the grammar mean, in the encoding guide's words: bytes, lists, lengths, sums and ranges. Each law is a
 //! function with nothing to do, whose contract is the law.
 
-ghost use Rattle.std.specs.Prelude.{◌≡◌, ◌≢◌, ◌<◌, ◌≤◌, ◌⊎◌, ◌^◌, ◌+◌, ◌-◌, ◌*◌, ◌%◌, ◌↔◌, ℕ, suc, List, [], ◌∷◌, ◌++◌};
+ghost use Rattle.std.specs.Prelude.{◌≡◌, ◌≢◌, ◌<◌, ◌≤◌, ◌⊎◌, ◌^◌, ◌+◌, ◌*◌, ◌%◌, ◌↔◌, ℕ, suc, List, [], ◌∷◌, ◌++◌};
 ghost use Rattle.std.specs.Prelude.{length};
 ghost use Rattle.std.specs.Int.{from_le_bytes, w32, w64};
 ghost use Rattle.buffa_bytes.specs.declared.error.DecodeError.{DecodeError};
 ghost use Rattle.buffa_bytes.specs.declared.error.DecodeError.TheVariants.{InvalidEndGroup, InvalidFieldNumber, InvalidWireType};
 ghost use Rattle.buffa_bytes.specs.declared.error.DecodeError.TheVariants.{RecursionLimitExceeded, UnexpectedEof};
-ghost use Rattle.buffa_bytes.specs.declared.error.DecodeError.TheVariants.{UnknownFieldLimitExceeded, VarintTooLong};
+ghost use Rattle.buffa_bytes.specs.declared.error.DecodeError.TheVariants.{VarintTooLong};
 ghost use Rattle.buffa_bytes.specs.declared.wire_type.WireType.{WireType};
 ghost use Rattle.buffa_bytes.specs.declared.wire_type.WireType.TheVariants as wire;
 ghost use Rattle.buffa_bytes.specs.Varint.{Continue, IsByte, IsVarint, TakesVarint, VarintFault, base128};
 ghost use Rattle.buffa_bytes.specs.Content.{Content, ContentFault, HasContent, TakesContent, bytes, number};
-ghost use Rattle.buffa_bytes.specs.Field.{BadTag, Field, FieldFaultOver, GroupFault, IsTag, LengthFault, Payload, PayloadFault};
+ghost use Rattle.buffa_bytes.specs.Field.{BadTag, Field, IsTag, LengthFault, Payload, PayloadFault};
 ghost use Rattle.buffa_bytes.specs.Field.{SomeField, TagFault, TakesBytes, TakesDelimited, TakesPayload, TakesTag};
 ghost use Rattle.buffa_bytes.specs.Join.{Join};
-ghost use Rattle.buffa_wire.specs.Parse.{FieldFault, GroupRecordsFault, IsPayload, NextFault, Parse, RecordsFault, TakesField};
+ghost use Rattle.buffa_wire.specs.Parse.{IsPayload, Parse, TakesField};
 ghost use Rattle.buffa_wire.specs.Parse.{TakesRecords, field_count, fields_inside};
 ghost use Rattle.buffa_wire.specs.Encoding.{wire_of};
 ghost use Rattle.buffa_wire.specs.Records as datum;

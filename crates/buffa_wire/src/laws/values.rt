@@ -4,6 +4,7 @@
 ghost use Rattle.std.specs.Prelude.{◌≡◌, ◌<◌, ◌^◌, ◌+◌, ◌*◌, ◌↔◌, ℕ, ℤ, Bool, true, false, pos, negsuc, suc, max, List, [], ◌∷◌, ◌++◌};
 ghost use Rattle.std.specs.Prelude.{length, codes, Some, is_some, Result, Ok, Err};
 ghost use Rattle.std.specs.Fmt.{decimal};
+ghost use Rattle.std.specs.Fn.{CalledAt};
 ghost use Rattle.std.specs.Int.{cast_unsigned, to_le_bytes, w32, w64};
 ghost use Rattle.std.specs.Str.{is_utf8};
 ghost use Rattle.buffa_bytes.specs.declared.error.DecodeError.{DecodeError};
@@ -32,7 +33,7 @@ ghost use Rattle.buffa_wire.specs.Parse.{InRange, field_count, fields_inside};
 ghost use Rattle.buffa_wire.specs.Records as datum;
 ghost use Rattle.buffa_wire.specs.Records.{Datum, IsEmpty, IsNumeric, Records, datum_height, height, records_height};
 ghost use Rattle.buffa_wire.specs.Records.{records_of};
-ghost use Rattle.buffa_wire.specs.View.{datum_of, record_of};
+ghost use Rattle.buffa_wire.specs.View.{AnswersRecords, CalledAtRecord, datum_of, record_of, records_in};
 ghost use Rattle.buffa_wire.specs.declared.unknown_fields.UnknownFieldData.TheVariants as held;
 
 use crate::enumeration::Enumeration;
@@ -128,9 +129,20 @@ pub fn records_of_fields_are_these()
     ensures fixed64 { (v : ℕ) → datum_of (held.Fixed64 v) ≡ datum.fixed64 v }
     ensures no_records { records_of [] ≡ datum.no_records }
     ensures more_records { (r : ℕ × Datum) (rs : List (ℕ × Datum)) → records_of (r ∷ rs) ≡ datum.one r.0 r.1 (records_of rs) }
+    ensures no_fields { records_in [] ≡ [] }
+    ensures more_fields { (f : UnknownField) (fs : List UnknownField) → records_in (f ∷ fs) ≡ record_of f ∷ records_in fs }
     ensures varint_found { (d : Datum) (v : ℕ) → (varint_in d ≡ Some v) ↔ (d ≡ datum.varint v) }
     ensures fixed32_found { (d : Datum) (v : ℕ) → (fixed32_in d ≡ Some v) ↔ (d ≡ datum.fixed32 v) }
     ensures fixed64_found { (d : Datum) (v : ℕ) → (fixed64_in d ≡ Some v) ↔ (d ≡ datum.fixed64 v) }
+{}
+
+/// A test of unknown fields is called at a record where it is called at a field of that record. It answers by records alone, as
+/// p does, where each of its answers is that of p at the field's record, and a call leaves it as it was.
+pub fn tests_of_records_are_these<F: FnMut(&UnknownField) -> bool>()
+    ensures called { (f g : F) (r : ℕ × Datum) (b : Bool) → CalledAtRecord (CalledAt F.FnMut) f r b g
+        ↔ ((x : UnknownField) × (record_of x ≡ r) × CalledAt F.FnMut f x b g) }
+    ensures answers { (f : F) (p : ℕ × Datum → Bool) → AnswersRecords (CalledAt F.FnMut) f p
+        ↔ ((x : UnknownField) (b : Bool) (g : F) → CalledAt F.FnMut f x b g → (b ≡ p (record_of x)) × (g ≡ f)) }
 {}
 
 /// Data for whose copy no memory is wanted: a number, no bytes, and a group of no records.
