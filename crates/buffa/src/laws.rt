@@ -55,6 +55,12 @@ pub use sample_node::laws as nodes;
 pub use sample_set_msg::laws as sets;
 /// Laws of records of unknown fields.
 pub use buffa_wire::laws::records;
+/// What the words of the grammar mean: varints, tags, payloads, fields, records.
+pub use buffa_wire::laws::grammar;
+/// What the words of values mean: scalars, encodings, enums, records, texts of errors.
+pub use buffa_wire::laws::values;
+/// What the words of answers mean: what a call gave, wrote, spent and left.
+pub use buffa_wire::laws::answers;
 
 /// Two runs of a map field, one after the other, are a run of the entries of both.
 ///

@@ -1,5 +1,5 @@
 -- Answers that contracts allow are one.
-use Rattle.std.proofs.Common.{◌≡◌, ◌≢◌, ◌⊎◌, inl, inr, ℕ, ℤ, true, zero, suc, ◌+◌, ◌-◌, List, [], ◌∷◌, ◌++◌, drop, length, slice_index, Option, Some, refl, sym, ap, subst, ◌∙◌, arith, append-nil}
+use Rattle.std.proofs.Common.{◌≡◌, ◌≢◌, ◌⊎◌, inl, inr, ℕ, ℤ, true, zero, suc, ◌+◌, ◌-◌, List, [], ◌∷◌, ◌++◌, drop, take, length, slice_index, Option, Some, refl, sym, ap, subst, ◌∙◌, arith, append-nil}
 use Rattle.buffa_bytes.proofs.FieldLemmas.{payload_complete}
 use Rattle.buffa_bytes.specs.declared.wire_type.WireType.{WireType}
 use Rattle.buffa_bytes.specs.declared.error.DecodeError.{DecodeError}
@@ -20,6 +20,7 @@ use Rattle.buffa_wire.proofs.LoopLemmas.{field_refused, field_taken, list_refuse
 use Rattle.buffa_wire.proofs.RecordLemmas.{list-records}
 use Rattle.buffa_bytes.proofs.SequenceLemmas.{ok_same}
 use Rattle.buffa_wire.proofs.SpentLemmas.{not_lacked, one_left}
+use Rattle.std.proofs.Math.Seq.{take-append_seam}
 use Rattle.std.proofs.lemmas.Bool.{cases_lt}
 use Rattle.std.proofs.lemmas.Option.{same_Some}
 
@@ -106,6 +107,7 @@ passes_are_pinned encoding slots old = record {
     h.1 ∙ ap (λ z. before ++ z) (h.2.1 small ∙ sym (k.2.1 small)) ∙ sym k.1,
     h.2.0 ∙ sym k.2.0,
   );
+  refused = λ e a (which, (more, is)). (ap (λ (z : Cache). take (length old.slots) z.slots) is ∙ take-append_seam old.slots more, ap (λ (z : Cache). z.next) is);
   consumed = λ a (n, few, is). (
     ap (λ (z : Cache). z.slots) is,
     omega (arith, ap (λ (z : Cache). z.next) is),

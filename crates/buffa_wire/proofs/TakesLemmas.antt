@@ -11,13 +11,13 @@ use Rattle.buffa_bytes.specs.declared.error.DecodeError.{DecodeError}
 use Rattle.buffa_bytes.specs.declared.error.DecodeError.TheVariants.{UnexpectedEof}
 use Rattle.buffa_wire.proofs.MessageLemmas.{NoLimit, payload_no_limit}
 use Rattle.buffa_wire.specs.BudgetLeft.{BudgetLeft, nothing, plus}
-use Rattle.buffa_bytes.specs.Field.{Payload, SomeField}
+use Rattle.buffa_bytes.specs.Field.{IsTag, Payload, SomeField}
 use Rattle.buffa_bytes.specs.Gives.{FullOnlyIf, Gives}
 use Rattle.buffa_bytes.specs.Join.{Join}
 use Rattle.buffa_wire.specs.Message.{IsFieldMerged}
 use Rattle.buffa_bytes.specs.Front.{skip_at}
-use Rattle.buffa_wire.proofs.CostLemmas.{IsPaid, cost_empty, cost_free, cost_next as costs_next, paid}
-use Rattle.buffa_wire.proofs.ByFieldLemmas.{IsSame, IsSound, Same, empty, fields, merged_alike, next, read}
+use Rattle.buffa_wire.proofs.CostLemmas.{IsPaid, cost_empty, cost_free, cost_next as costs_next, field_alone, paid}
+use Rattle.buffa_wire.proofs.ByFieldLemmas.{IsSame, IsSound, Same, empty, fields, merged_alike, next, read, read_last, refused}
 use Rattle.buffa_wire.specs.ByField.{FieldNeed, FieldReader, cost_by, merged_by, value_of}
 use Rattle.buffa_wire.specs.Takes.{IsTaken, Leads, Need, Piece, ReadsBack, Stays, Taker, Untaken, answer, cost_of, costs_nothing, framed, front_of, joined_fields, merged_of, taken_by}
 
@@ -62,6 +62,17 @@ module _ {X : Type 0} (takes : Taker X) (d : ℕ) where
   unfolding merged_of
   merged_of_next v f r h = next d (framed takes d) framed_sound framed_same v f r h
 
+  -- one field is what its payload makes of the value
+  one_of : (v : X) (n : ℕ) (w : WireType) (t p : List ℕ) → IsTag t n w → Payload d n w p → (o : Option X) → takes d v n w p ≡ o → merged_by (framed takes d) v (t ++ p) ≡ o
+  one_of v n w t p tag h (Some u) e = read_last d (framed takes d) framed_sound framed_same v n w t tag u p (framed_at v n w p [] h ∙ ap (answer []) e)
+  one_of v n w t p tag h None e =
+      ap (λ z. merged_by (framed takes d) v (t ++ z)) (sym (append-nil p))
+      ∙ refused d (framed takes d) framed_sound framed_same v n w t tag (p ++ []) UnexpectedEof (framed_at v n w p [] h ∙ ap (answer []) e)
+
+  pub merged_of_one : (v : X) (n : ℕ) (w : WireType) (t p : List ℕ) → IsTag t n w → Payload d n w p → merged_of takes d v (t ++ p) ≡ takes d v n w p
+  unfolding merged_of
+  merged_of_one v n w t p tag h = one_of v n w t p tag h (takes d v n w p) refl
+
   -- ---- what a call owes
   pub framed_err : (v : X) (n : ℕ) (w : WireType) (bs : List ℕ) (e : DecodeError) → NoLimit e → Untaken takes d v n w bs →
       (r : Result (List ℕ) DecodeError) → skip_at d n w bs ≡ r → (x : DecodeError) × (framed takes d v n w bs ≡ Err x) × NoLimit e
@@ -95,6 +106,10 @@ cost_of_none need d = cost_empty (need d) d
 pub cost_of_next : (need : Need) → Stays need → (d : ℕ) (f r : List ℕ) → SomeField d f → cost_of need d (f ++ r) ≡ plus (cost_of need d f) (cost_of need d r)
 unfolding cost_of
 cost_of_next need stays d f r h = costs_next (need d) d (stays d) f r h
+
+pub cost_of_one : (need : Need) → Stays need → (d n : ℕ) (w : WireType) (t p : List ℕ) → IsTag t n w → Payload d n w p → cost_of need d (t ++ p) ≡ need d n w p
+unfolding cost_of
+cost_of_one need stays d n w t p tag h = field_alone (need d) d (stays d) t p n w tag h
 
 -- fields that cost nothing each cost nothing together
 pub cost_of_free : (need : Need) (d : ℕ) → ((n : ℕ) (w : WireType) (bs : List ℕ) → need d n w bs ≡ nothing) → (bs : List ℕ) → cost_of need d bs ≡ nothing

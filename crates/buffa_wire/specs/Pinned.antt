@@ -1,5 +1,5 @@
 -- What contracts leave open: nothing, but for what is said beside the laws.
-use Rattle.std.specs.Prelude.{◌≡◌, ◌≢◌, ◌+◌, ◌<◌, ◌↔◌, ◌≤◌, ℕ, ◌⊎◌, List, length, Option, Result, Ok, Err}
+use Rattle.std.specs.Prelude.{◌≡◌, ◌≢◌, ◌+◌, ◌<◌, ◌↔◌, ◌≤◌, ℕ, ◌⊎◌, List, length, take, Option, Result, Ok, Err}
 use Rattle.buffa_bytes.specs.declared.wire_type.WireType.{WireType}
 use Rattle.buffa_bytes.specs.declared.error.DecodeError.{DecodeError}
 use Rattle.buffa_bytes.specs.declared.error.DecodeError.TheVariants.{OutOfMemory}
@@ -57,6 +57,8 @@ pub record PassesArePinned (encoding slots : List ℕ) (old : Cache) : Type 0 wh
   pub written : (before x y : List ℕ) (a b : Cache) → IsSmall encoding →
       (let r : Result (Unit {0}) EncodeError = done in IsWritten encoding slots old before r a x) →
       (let r : Result (Unit {0}) EncodeError = done in IsWritten encoding slots old before r b y) → (x ≡ y) × (a ≡ b)
+  -- where memory ran out before the value was sized, the old slots come first, and none was consumed
+  pub refused : (e : EncodeError) (a : Cache) → (let r : Result ℕ EncodeError = Err e in IsSized encoding slots old r a) → (take (length old.slots) a.slots ≡ old.slots) × (a.next ≡ old.next)
   -- where memory ran out, no slot but the value's own was consumed, and none was changed
   pub consumed : (a : Cache) → Consumes slots old a → (a.slots ≡ old.slots) × (old.next ≤ a.next) × (a.next ≤ old.next + length slots)
 

@@ -1,7 +1,7 @@
 //! Laws of `buffa_bytes`: what bytes say, field by field, and how values are written.
 
 ghost use Rattle.std.specs.Prelude.{◌≡◌, ◌≢◌, ◌<◌, ◌≤◌, ◌<ℤ◌, ◌^◌, ◌+◌, ◌↔◌, ℕ, ℤ, suc, pos, Bool, List, ◌++◌};
-ghost use Rattle.std.specs.Prelude.{length, drop, Ok, Err, FitsSigned, true, false, [], ◌-◌, Some, None, string_bytes};
+ghost use Rattle.std.specs.Prelude.{length, drop, Ok, Err, FitsSigned, true, false, [], ◌∷◌, ◌-◌, Some, None, string_bytes};
 ghost use Rattle.std.specs.Prelude.{vec_capacity, vec_len, Vec};
 ghost use Rattle.std.specs.Global.{Global};
 ghost use Rattle.std.specs.Int.{cast_unsigned, from_bool, w32, w64};
@@ -9,10 +9,10 @@ ghost use Rattle.std.specs.List.{All};
 ghost use Rattle.std.specs.Str.{is_utf8};
 ghost use Rattle.buffa_bytes.specs.declared.tag.Tag.{Tag};
 ghost use Rattle.buffa_bytes.specs.declared.wire_type.WireType.{WireType};
-ghost use Rattle.buffa_bytes.specs.declared.wire_type.WireType.TheVariants.{Fixed32, Fixed64, LengthDelimited};
-ghost use Rattle.buffa_bytes.specs.declared.wire_type.WireType.TheVariants.{Varint};
+ghost use Rattle.buffa_bytes.specs.declared.wire_type.WireType.TheVariants.{EndGroup, Fixed32, Fixed64, LengthDelimited};
+ghost use Rattle.buffa_bytes.specs.declared.wire_type.WireType.TheVariants.{StartGroup, Varint};
 ghost use Rattle.buffa_bytes.specs.declared.error.DecodeError.{DecodeError};
-ghost use Rattle.buffa_bytes.specs.declared.error.DecodeError.TheVariants.{OutOfMemory};
+ghost use Rattle.buffa_bytes.specs.declared.error.DecodeError.TheVariants.{OutOfMemory, WireTypeMismatch};
 ghost use Rattle.buffa_bytes.specs.declared.error.EncodeError.{EncodeError};
 ghost use Rattle.buffa_bytes.specs.declared.error.EncodeError.TheVariants as encoding;
 ghost use Rattle.buffa_bytes.specs.declared.error.MessageSetFault.{MessageSetFault};
@@ -361,6 +361,8 @@ pub fn fronts_let_go_stay<B: Buf + Drop>(buf: &mut B, limit: usize)
 pub fn adapted_buffers_are_these<B: bytes::Buf>()
     ensures inner { ShowsInner ⟦<Adapted<B> as Buf>⟧.unread ⟦<Adapted<B> as Buf>⟧.beyond (λ s. s.0) B.unread B.kept }
     ensures kept { (x y : List (List ℕ × ℕ)) → kept_beyond x ≡ kept_beyond y → x ≡ y }
+    ensures none_kept { kept_beyond [] ≡ [] }
+    ensures more_kept { (n : ℕ) (b : List ℕ) (x : List (List ℕ × ℕ)) → kept_beyond ((b, n) ∷ x) ≡ (n, b) ∷ kept_beyond x }
 {}
 
 /// What was written to a vector or to a `BytesMut`, and its spare capacity. It leaves nothing out.
@@ -419,10 +421,14 @@ pub fn errors_print_these()
         ≡ Some (message_set_fault_text e) }
 {}
 
-/// The number of a wire type is undone, and 6 and 7 are none. Two wire types are one exactly where they are equal.
+/// The number of each wire type. It is undone, and 6 and 7 are none. Two wire types are one exactly where they are equal.
+/// Source: the protobuf encoding guide, "Message Structure".
 pub fn wire_types_are_pinned()
+    ensures numbers { (wire_number Varint ≡ 0) × (wire_number Fixed64 ≡ 1) × (wire_number LengthDelimited ≡ 2)
+        × (wire_number StartGroup ≡ 3) × (wire_number EndGroup ≡ 4) × (wire_number Fixed32 ≡ 5) }
     ensures number { (w : WireType) → wire_kind (wire_number w) ≡ Some w }
     ensures kind { (n : ℕ) (w : WireType) → wire_kind n ≡ Some w → wire_number w ≡ n }
     ensures none { (n : ℕ) → 6 ≤ n → wire_kind n ≡ None }
     ensures same { (f : ℕ) (e a : WireType) → (check_wire f e a ≡ Ok tt) ↔ (e ≡ a) }
+    ensures other { (f : ℕ) (e a : WireType) → e ≢ a → check_wire f e a ≡ Err (WireTypeMismatch f e a) }
 {}
