@@ -29,3 +29,5 @@ pub mod PinEncodingLemmas
 pub mod InsertLemmas
 pub mod LowLemmas
 pub mod ReaderRules
+pub mod CodecWordLemmas
+pub mod EntryWordLemmas

@@ -116,6 +116,10 @@ module _ {K V : Type 0} (key : Reading K) (val : Reading V) (d : ℕ) where
   pub need_step : (s t : MapEntry K V) (bs x : List ℕ) → entry_field_at key val d s bs ≡ Ok (t, x) → need_at key val d s bs ≡ plus (field_need key val d bs) (need_at key val d t x)
   need_step s t bs x h = turn s bs (Ok (t, x)) h
 
+  -- a field that is refused is the last that counts
+  pub need_stop : (s : MapEntry K V) (bs : List ℕ) (f : DecodeError) → entry_field_at key val d s bs ≡ Err f → need_at key val d s bs ≡ field_need key val d bs
+  need_stop s bs f h = turn s bs (Err f) h
+
   front_by : (s : MapEntry K V) (bs : List ℕ) (r : Result (MapEntry K V × List ℕ) DecodeError) → entry_field_at key val d s bs ≡ r → ((field_need key val d bs).unknown ≤ (need_at key val d s bs).unknown) × ((field_need key val d bs).memory ≤ (need_at key val d s bs).memory)
   front_by s bs (Ok x) e = let q = turn s bs (Ok x) e in (omega (arith, ap (λ z. z.unknown) q), omega (arith, ap (λ z. z.memory) q))
   front_by s bs (Err f) e = let q = turn s bs (Err f) e in (omega (arith, ap (λ z. z.unknown) q), omega (arith, ap (λ z. z.memory) q))

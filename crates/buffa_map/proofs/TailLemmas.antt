@@ -16,7 +16,7 @@ use Rattle.buffa_bytes.specs.declared.wire_type.WireType.{WireType}
 use Rattle.buffa_bytes.specs.Field.{TakesDelimited}
 use Rattle.buffa_bytes.specs.Front.{taken, varint_at, delimited_at, tag_at}
 
-tail_behind : (front rest all : List ℕ) → all ≡ front ++ rest → IsTailOf rest all
+pub tail_behind : (front rest all : List ℕ) → all ≡ front ++ rest → IsTailOf rest all
 tail_behind front rest all e = tail_dropped (length front) all rest (sym (ap (drop (length front)) e ∙ drop-append_seam front rest))
 
 pub tag_tail : (bs rest : List ℕ) (n : ℕ) (w : WireType) → tag_at bs ≡ Ok (n, w, rest) → IsTailOf rest bs

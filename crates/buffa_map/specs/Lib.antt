@@ -21,3 +21,5 @@ pub mod Plain
 pub mod Laws
 pub mod Pinned
 pub mod PinnedEncodings
+pub mod CodecWords
+pub mod EntryWords

@@ -14,6 +14,7 @@ mod codec_laws;
 mod codecs;
 mod entry;
 mod entry_fields;
+mod guide_laws;
 mod hashed;
 mod indexed;
 mod keep;
