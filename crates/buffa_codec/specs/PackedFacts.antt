@@ -45,5 +45,8 @@ none_at : (w : WireType) (r : Result (Content × List ℕ) DecodeError) → cont
 none_at w (Ok c) e = absurd (omega (arith, content_less w [] c e))
 none_at w (Err f) e = numbers_end w [] f e
 
+pub numbers_in_none : (w : WireType) → numbers_in w [] ≡ []
+numbers_in_none w = none_at w (content_at w []) refl
+
 pub none_unpacked : {M : Type 0} (w : WireType) (of : ℕ → M) → map of (numbers_in w []) ≡ []
-none_unpacked w of = ap (map of) (none_at w (content_at w []) refl)
+none_unpacked w of = ap (map of) (numbers_in_none w)

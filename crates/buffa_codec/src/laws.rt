@@ -1,10 +1,12 @@
 //! What the definitions of readings say together: each law is a function with nothing to do, whose contract
 //! is the law.
 
-ghost use Rattle.std.specs.Prelude.{◌≡◌, ◌≢◌, ◌↔◌, ℕ, ℤ, List, [], ◌∷◌, map, Bool, Option, Some, None, option_map};
-ghost use Rattle.std.specs.List.{AllByRecursion};
+ghost use Rattle.std.specs.Prelude.{◌≡◌, ◌≢◌, ◌↔◌, ℕ, ℤ, List, [], ◌∷◌, ◌++◌, ◌⊎◌, map, Bool, Option, Some, None, option_map};
+ghost use Rattle.std.specs.List.{AllByRecursion, filter_map, last_or};
 ghost use Rattle.std.specs.Prelude.{FitsSigned, string_bytes, true};
 ghost use Rattle.std.specs.Str.{is_utf8};
+ghost use Rattle.buffa_bytes.specs.Content.{Content, ContentFault, TakesContent, number_in};
+ghost use Rattle.buffa_bytes.specs.declared.error.DecodeError.{DecodeError};
 ghost use Rattle.buffa_bytes.specs.declared.error.EncodeError.{EncodeError};
 ghost use Rattle.buffa_bytes.specs.declared.wire_type.WireType.TheVariants.{Fixed32 as FourBytes, Fixed64 as EightBytes, Varint};
 ghost use Rattle.buffa_bytes.specs.Scalars.{bool_of, fixed32_of, fixed64_of, int32_of, int64_of, sfixed32_of};
@@ -20,17 +22,22 @@ ghost use Rattle.buffa_wire.specs.Found.{fixed32_in, fixed64_in, varint_in};
 ghost use Rattle.buffa_wire.specs.Records.{Datum, bytes as held_bytes};
 ghost use Rattle.buffa_codec.specs.Costs.{StaysWithin};
 ghost use Rattle.buffa_codec.specs.Packed.{numbers_in};
-ghost use Rattle.buffa_codec.specs.Decoded.{AsksInList, Has, HasByte, HasLast};
+ghost use Rattle.buffa_codec.specs.Decoded.{HasByte};
 ghost use Rattle.std.specs.Int.{cast_unsigned, from_bool, w32, w64};
 ghost use Rattle.buffa_bytes.specs.Scalars.{zigzag};
 ghost use Rattle.buffa_wire.specs.Records.{varint, fixed32, fixed64};
 ghost use Rattle.buffa_codec.specs.Decoded.{LaterReadingsWin, ReadAlike, ReadingsJoin};
-ghost use Rattle.buffa_codec.specs.Decoded.{LastHasByte, bytes_held, last_read};
+ghost use Rattle.buffa_codec.specs.Decoded.{bytes_held, elements};
 ghost use Rattle.buffa_codec.specs.Decoded.{CoversAll, ReadsList, first_refusal, packed_record, string_held};
 ghost use Rattle.buffa_bytes.specs.declared.wire_type.WireType.{WireType};
 ghost use Rattle.buffa_codec.specs.PackedGrammar.{ArePacked};
 ghost use Rattle.buffa_codec.specs.Through.{ListsThrough, ReadsThrough, WritesThrough};
 
+pub use crate::word_laws::{
+    additions_are_these, bytes_of_a_record_are_these, elements_are_these,
+    faults_of_a_record_are_these, lists_are_written_so, records_of_a_number_are_these,
+    strict_refusals_are_these,
+};
 use crate::{
     BytesCodec, EnumCodec, ExtensionCodec, LastWins, Numbered, PackableCodec, PackedRepeated,
     Repeated, SingularCodec, StringCodec,
@@ -50,9 +57,11 @@ pub fn later_readings_win<C: LastWins>()
 /// One value is read of the last record that is read at all; and reading takes memory only for that one.
 pub fn the_last_record_is_read<C: LastWins>()
     ensures reads { (ds : List Datum) (o : Option C.Value.Meaning) → ⟦<C as ExtensionCodec>⟧.reads ds o
-        ↔ (o ≡ last_read (C.one 100 defaults) ds) }
+        ↔ (o ≡ last_or None (filter_map (C.one 100 defaults) ds)) }
     ensures records { (v : C.Value.Meaning) → ⟦<C as ExtensionCodec>⟧.recs v ≡ C.datum v ∷ [] }
-    ensures memory { (ds : List Datum) → ⟦<C as ExtensionCodec>⟧.asks ds ↔ HasLast C.asks (C.one 100 defaults) ds }
+    ensures memory { (ds : List Datum) → ⟦<C as ExtensionCodec>⟧.asks ds
+        ↔ ((front : List Datum) × (d : Datum) × (back : List Datum) × C.asks d
+        × (filter_map (C.one 100 defaults) back ≡ []) × (ds ≡ front ++ d ∷ back)) }
     ensures in_room { (v : C.Value.Meaning) → ⟦<C as ExtensionCodec>⟧.in_room v ↔ C.made_free v }
     ensures holds { (v : C.Value.Meaning) (o : Option C.Value.Meaning) → ⟦<C as ExtensionCodec>⟧.holds v o
         ↔ (o ≡ Some (C.back v)) }
@@ -180,9 +189,14 @@ pub fn lists_stay_within_a_budget<C: SingularCodec>()
 {}
 
 /// Packed bytes are read as the numbers of the payloads that begin them one after the other, up to where none
-/// begins what follows: those before a malformed one count, and no others.
+/// begins what follows: those before a malformed one count, and no others. Each number stands in front of those that are read
+/// of what follows it.
 pub fn packed_numbers_are_read()
-    ensures { (w : WireType) (bs ns : List ℕ) → (numbers_in w bs ≡ ns) ↔ ArePacked w ns bs }
+    ensures whole { (w : WireType) (bs ns : List ℕ) → (numbers_in w bs ≡ ns) ↔ ArePacked w ns bs }
+    ensures next { (w : WireType) (bs rest : List ℕ) (c : Content) → TakesContent w bs c rest →
+        numbers_in w bs ≡ number_in c ∷ numbers_in w rest }
+    ensures end { (w : WireType) (bs : List ℕ) (e : DecodeError) → ContentFault w bs e → numbers_in w bs ≡ [] }
+    ensures none { (w : WireType) → numbers_in w [] ≡ [] }
 {}
 
 /// Enums are read and written as `int32` is, each number as what it means; in lists too, packed or not. A
@@ -230,7 +244,7 @@ pub fn enum_records_are_read<E: Enumeration>()
 /// the bytes; all of them are written, and read back; and neither takes memory.
 pub fn numbers_are_read<N: Numbered>()
     ensures reads { (ds : List Datum) (o : Option N.Value.Meaning) → ⟦<N as ExtensionCodec>⟧.reads ds o
-        ↔ (o ≡ last_read (λ d. option_map N.value_of (N.Form.found d)) ds) }
+        ↔ (o ≡ last_or None (filter_map (λ d. option_map N.value_of (N.Form.found d)) ds)) }
     ensures packed { (bs : List ℕ) → ⟦<N as SingularCodec>⟧.packed bs
         ≡ map N.value_of (numbers_in N.Form.WIRE_TYPE bs) }
     ensures records { (v : N.Value.Meaning) → ⟦<N as ExtensionCodec>⟧.recs v ≡ N.Form.datum (N.number_of v) ∷ [] }
@@ -304,9 +318,9 @@ pub fn scalars_are_read()
 /// read, the last one alone, and an empty one is written in the list's spare capacity.
 pub fn strings_and_bytes_are_read()
     ensures strings { (ds : List Datum) (o : Option (List ℕ)) → ⟦<StringCodec as ExtensionCodec>⟧.reads ds o
-        ↔ (o ≡ last_read string_held ds) }
+        ↔ (o ≡ last_or None (filter_map string_held ds)) }
     ensures bytes { (ds : List Datum) (o : Option (List ℕ)) → ⟦<BytesCodec as ExtensionCodec>⟧.reads ds o
-        ↔ (o ≡ last_read bytes_held ds) }
+        ↔ (o ≡ last_or None (filter_map bytes_held ds)) }
     ensures string { (v : List ℕ) → ⟦<StringCodec as ExtensionCodec>⟧.recs v ≡ held_bytes v ∷ [] }
     ensures byte_string { (v : List ℕ) → ⟦<BytesCodec as ExtensionCodec>⟧.recs v ≡ held_bytes v ∷ [] }
     ensures written { (v : List ℕ) → (⟦<StringCodec as ExtensionCodec>⟧.refusal v ≡ None)
@@ -317,8 +331,12 @@ pub fn strings_and_bytes_are_read()
         × (⟦<BytesCodec as SingularCodec>⟧.packed bs ≡ []) }
     ensures memory { (d : Datum) → (⟦<StringCodec as SingularCodec>⟧.asks d ↔ HasByte (string_held d))
         × (⟦<BytesCodec as SingularCodec>⟧.asks d ↔ HasByte (bytes_held d)) }
-    ensures counts { (ds : List Datum) → (⟦<StringCodec as ExtensionCodec>⟧.asks ds ↔ LastHasByte string_held ds)
-        × (⟦<BytesCodec as ExtensionCodec>⟧.asks ds ↔ LastHasByte bytes_held ds) }
+    ensures counts { (ds : List Datum) → ⟦<StringCodec as ExtensionCodec>⟧.asks ds
+        ↔ ((front : List Datum) × (d : Datum) × (back : List Datum) × HasByte (string_held d)
+        × (filter_map string_held back ≡ []) × (ds ≡ front ++ d ∷ back)) }
+    ensures bytes_count { (ds : List Datum) → ⟦<BytesCodec as ExtensionCodec>⟧.asks ds
+        ↔ ((front : List Datum) × (d : Datum) × (back : List Datum) × HasByte (bytes_held d)
+        × (filter_map bytes_held back ≡ []) × (ds ≡ front ++ d ∷ back)) }
     ensures in_room { (v : List ℕ) → (⟦<StringCodec as ExtensionCodec>⟧.in_room v ↔ (v ≡ []))
         × (⟦<BytesCodec as ExtensionCodec>⟧.in_room v ↔ (v ≡ [])) }
     ensures holds { (v : List ℕ) (o : Option (List ℕ)) → (⟦<StringCodec as ExtensionCodec>⟧.holds v o ↔ (o ≡ Some v))
@@ -371,12 +389,14 @@ pub fn lists_are_read<C: SingularCodec, P: PackableCodec>()
     ensures in_room { (vs : List C.Value.Meaning) → ⟦<Repeated<C> as ExtensionCodec>⟧.in_room vs ↔ AllByRecursion C.made_free vs }
     ensures packed_in_room { (vs : List P.Value.Meaning) → ⟦<PackedRepeated<P> as ExtensionCodec>⟧.in_room vs → ⊥ }
     ensures memory { (ds : List Datum) → ⟦<Repeated<C> as ExtensionCodec>⟧.asks ds
-        ↔ Has (AsksInList C.asks (C.one 100) C.packed) ds }
+        ↔ ((front : List Datum) × (d : Datum) × (back : List Datum)
+        × (C.asks d ⊎ ((b : BudgetLeft) × (elements C.packed d (C.one 100 b d) ≢ []))) × (ds ≡ front ++ d ∷ back)) }
     ensures fits { (vs : List C.Value.Meaning) → ⟦<Repeated<C> as ExtensionCodec>⟧.fits vs ↔ AllByRecursion C.fits vs }
     ensures packed_fits { (vs : List P.Value.Meaning) → ⟦<PackedRepeated<P> as ExtensionCodec>⟧.fits vs
         ↔ AllByRecursion P.fits vs }
     ensures packed_memory { (ds : List Datum) → ⟦<PackedRepeated<P> as ExtensionCodec>⟧.asks ds
-        ↔ Has (AsksInList P.asks (P.one 100) P.packed) ds }
+        ↔ ((front : List Datum) × (d : Datum) × (back : List Datum)
+        × (P.asks d ⊎ ((b : BudgetLeft) × (elements P.packed d (P.one 100 b d) ≢ []))) × (ds ≡ front ++ d ∷ back)) }
 {}
 
 /// Records are read as one value or none, and in lists as one list, by codecs whose reading spends nothing.

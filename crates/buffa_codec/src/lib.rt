@@ -14,6 +14,7 @@ pub mod number;
 pub mod packed;
 pub mod repeated;
 pub mod strict;
+pub mod word_laws;
 
 pub use codec::{ExtensionCodec, PackableCodec, SingularCodec};
 pub use delimited::{BytesCodec, StringCodec};

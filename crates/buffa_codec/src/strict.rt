@@ -3,7 +3,7 @@
 ghost use Rattle.std.specs.Prelude.{◌≡◌, ℕ, List, None, Option, Some, IfErr, IfOk, OnErr, OnOk, refl};
 ghost use Rattle.std.proofs.Common.{ap, sym, ◌∙◌};
 ghost use Rattle.buffa_bytes.specs.declared.error.DecodeError.{DecodeError};
-ghost use Rattle.buffa_wire.specs.BudgetLeft.{BudgetLeft, defaults};
+ghost use Rattle.buffa_wire.specs.BudgetLeft.{BudgetLeft, PaysAtMost, defaults};
 ghost use Rattle.buffa_wire.specs.Records.{Datum};
 ghost use Rattle.buffa_wire.specs.View.{datum_of};
 ghost use Rattle.buffa_codec.specs.Decoded.{Has};
@@ -101,7 +101,7 @@ pub trait StrictElementCodec: SingularCodec {
     /// spends.
     ///
     /// # Errors
-    /// Why the record is neither; or out of memory.
+    /// Why the record is neither; or out of memory. What was spent stays spent, and is no more than the record may cost.
     ///
     /// ```ignore
     /// C::check_element(alloc, number, &field.payload, &mut budget)?;
@@ -114,6 +114,7 @@ pub trait StrictElementCodec: SingularCodec {
     ) -> Result<(), DecodeError>
         ensures element { OnOk result (IsElement number budget.old (datum_of payload.now)) }
         ensures leaves { OnOk result (Self.leaves 100 budget.old (datum_of payload.now) budget.new) }
+        ensures most { PaysAtMost budget.old (Self.most 100 (datum_of payload.now)) budget.new }
         ensures fault { IfErr result (IsFaultOrFull (ElementFault number budget.old (datum_of payload.now))
             (Self.asks (datum_of payload.now))) };
 

@@ -1,12 +1,12 @@
 -- The records of a number after steps.
-use Rattle.std.proofs.Common.{◌≡◌, ℕ, List, [], ◌∷◌, ◌++◌, Option, Some, None, true, false, cond, refl, sym, ap, subst, ◌∙◌, not, unwrap_or, ◌==◌}
+use Rattle.std.proofs.Common.{◌≡◌, ◌≢◌, ℕ, List, [], ◌∷◌, ◌++◌, Option, Some, None, true, false, cond, refl, sym, ap, subst, ◌∙◌, not, unwrap_or, ◌==◌}
 use Rattle.std.specs.List.{filter_map, last_or, cons_option}
 use Rattle.std.proofs.lemmas.Bool.{eqb-false, eqb-true}
 use Rattle.std.proofs.lemmas.List.{append-nil}
 use Rattle.buffa_wire.specs.Records.{Datum}
 use Rattle.buffa_codec.specs.Sub.{sub, without, tagged}
 use Rattle.std.proofs.lemmas.List.Elements.{filter-append}
-use Rattle.buffa_codec.proofs.FilteredLemmas.{sub-append, sub-cons, sub-without_same, sub-without_other, sub-tagged_same, sub-tagged_other, without-tagged, without-without}
+use Rattle.buffa_codec.proofs.FilteredLemmas.{sub-append, sub-set, sub-set_other, sub-cons, sub-without_same, sub-without_other, sub-tagged_same, sub-tagged_other, without-tagged, without-without}
 use Rattle.buffa_ext.specs.Steps.{NumberStep, set, clear, after_one, after, step_says, history, IsExactlySet, KeepsTheRest, ReadsHistory, StandsLast, TakesOut}
 
 pub last_or-some : {A : Type 0} (d : A) (o : Option A) (xs : List A) → unwrap_or (last_or o xs) d ≡ unwrap_or (last_or None xs) (unwrap_or o d)
@@ -33,6 +33,27 @@ last_or-cons_option d (Some y) xs = sym (last_or-some d (Some y) xs)
 pub sub-after : (n : ℕ) (rs : List (ℕ × Datum)) (cs : List NumberStep) → sub n (after rs cs) ≡ history n rs cs
 sub-after n rs [] = refl
 sub-after n rs (c ∷ cs) = sub-after n (after_one rs c) cs ∙ rw (sub-after_one n rs c) (last_or-cons_option (sub n rs) (step_says n c) (filter_map (step_says n) cs))
+
+-- ---- the last step
+
+after-append : (rs : List (ℕ × Datum)) (cs es : List NumberStep) → after rs (cs ++ es) ≡ after (after rs cs) es
+after-append rs [] es = refl
+after-append rs (c ∷ cs) es = after-append (after_one rs c) cs es
+
+history-last : (n : ℕ) (rs : List (ℕ × Datum)) (cs : List NumberStep) (c : NumberStep) → history n rs (cs ++ c ∷ []) ≡ sub n (after_one (after rs cs) c)
+history-last n rs cs c = sym (sub-after n rs (cs ++ c ∷ [])) ∙ ap (sub n) (after-append rs cs (c ∷ []))
+
+pub history-set : (n : ℕ) (rs : List (ℕ × Datum)) (cs : List NumberStep) (ds : List Datum) → history n rs (cs ++ set n ds ∷ []) ≡ ds
+history-set n rs cs ds = history-last n rs cs (set n ds) ∙ sub-set n (after rs cs) ds
+
+pub history-clear : (n : ℕ) (rs : List (ℕ × Datum)) (cs : List NumberStep) → history n rs (cs ++ clear n ∷ []) ≡ []
+history-clear n rs cs = history-last n rs cs (clear n) ∙ sub-without_same n (after rs cs)
+
+pub history-set_other : (n m : ℕ) (rs : List (ℕ × Datum)) (cs : List NumberStep) (ds : List Datum) → n ≢ m → history m rs (cs ++ set n ds ∷ []) ≡ history m rs cs
+history-set_other n m rs cs ds h = history-last m rs cs (set n ds) ∙ sub-set_other m n h (after rs cs) ds ∙ sub-after m rs cs
+
+pub history-clear_other : (n m : ℕ) (rs : List (ℕ × Datum)) (cs : List NumberStep) → n ≢ m → history m rs (cs ++ clear n ∷ []) ≡ history m rs cs
+history-clear_other n m rs cs h = history-last m rs cs (clear n) ∙ sub-without_other m n h (after rs cs) ∙ sub-after m rs cs
 
 -- ---- what a set and a clear leave, and nothing else
 

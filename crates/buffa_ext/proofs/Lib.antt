@@ -6,4 +6,5 @@ pub mod PinLemmas
 pub mod EqualStepLemmas
 pub mod StrictLemmas
 pub mod StrictPinLemmas
+mod MessageWordLemmas
 pub mod PackedFaultLemmas

@@ -1,7 +1,7 @@
 -- The fault of packed bytes is the one of their grammar.
 use Rattle.std.proofs.Common.{◌≡◌, ◌≢◌, ℕ, zero, suc, ◌<◌, ◌≤◌, List, [], ◌∷◌, length, Some, Result, Ok, Err, refl, sym, subst, ◌∙◌, arith}
 use Rattle.std.proofs.lemmas.Option.{same_Some}
-use Rattle.buffa_bytes.specs.Content.{Content, ContentFault, content_at}
+use Rattle.buffa_bytes.specs.Content.{Content, ContentFault, TakesContent, content_at}
 use Rattle.buffa_bytes.specs.declared.wire_type.WireType.{WireType}
 use Rattle.buffa_bytes.specs.declared.error.DecodeError.{DecodeError}
 use Rattle.buffa_bytes.proofs.StepLemmas.{agree_ok, agree_err}
@@ -15,7 +15,7 @@ not_empty : (bs : List ℕ) → 0 < length bs → bs ≢ []
 not_empty [] h k = absurd (omega (arith, h))
 not_empty (b ∷ bs) h k = cc
 
-some_bytes : (bs : List ℕ) → bs ≢ [] → 0 < length bs
+pub some_bytes : (bs : List ℕ) → bs ≢ [] → 0 < length bs
 some_bytes [] h = absurd (h refl)
 some_bytes (b ∷ bs) h = omega arith
 
@@ -41,11 +41,15 @@ fault_sound w bs e f = all_behind w (length bs) bs e (omega arith) f
 
 -- ---- what lies behind whole payloads is told
 
+pub fault_next : (w : WireType) (bs rest : List ℕ) (c : Content) → TakesContent w bs c rest → packed_fault w bs ≡ packed_fault w rest
+fault_next w bs rest c t =
+    let same = content_taken w bs c rest t in
+    packed_passes w bs rest c (omega (arith, numbers_shorten w bs c rest same)) same
+
 behind_told : (w : WireType) (cs : List Content) (bs : List ℕ) (e : DecodeError) → FaultBehind w cs bs e → packed_fault w bs ≡ Some e
 behind_told w [] bs e h = packed_stops w bs e (some_bytes bs h.0) (content_faulty w bs e h.1)
 behind_told w (c ∷ cs) bs e (rest, t, more) =
-    let same = content_taken w bs c rest t in
-    packed_passes w bs rest c (omega (arith, numbers_shorten w bs c rest same)) same ∙ behind_told w cs rest e more
+    fault_next w bs rest c t ∙ behind_told w cs rest e more
 
 pub fault_complete : (w : WireType) (bs : List ℕ) (e : DecodeError) → (cs : List Content) × FaultBehind w cs bs e → packed_fault w bs ≡ Some e
 fault_complete w bs e (cs, h) = behind_told w cs bs e h

@@ -24,7 +24,7 @@ use Rattle.buffa_ext.specs.Messages.{LeavesOf, IsAllMerged, IsAnswer, IsEncoding
 pub left_yes : (b need : BudgetLeft) → Covers b need → is_left b need ≡ true
 left_yes b need h = rw (le-leb need.unknown b.unknown h.0, le-leb need.memory b.memory h.1) refl
 
-left_no : (b need : BudgetLeft) → Lacks b need → is_left b need ≡ false
+pub left_no : (b need : BudgetLeft) → Lacks b need → is_left b need ≡ false
 left_no b need (inl h) = rw (lt-leb need.unknown b.unknown h) refl
 left_no b need (inr h) = rw (lt-leb need.memory b.memory h) (and_right (nat_le need.unknown b.unknown) false refl)
 

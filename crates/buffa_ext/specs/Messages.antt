@@ -1,6 +1,6 @@
 -- Extensions that hold messages: the bytes of their records are merged in order.
 -- Source: the protobuf encoding guide, "Last One Wins".
-use Rattle.std.specs.Prelude.{◌≡◌, ◌≢◌, ◌↔◌, ◌≤◌, ℕ, ◌^◌, Bool, true, false, List, [], ◌∷◌, ◌++◌, ◌&&◌, nat_le, nat_lt, length, ◌⊎◌, Option, Some, None, Result, Ok, Err, IfSome, IsOk, MatchResult, if◌then◌else◌}
+use Rattle.std.specs.Prelude.{◌≡◌, ◌≢◌, ◌↔◌, ◌≤◌, ℕ, ◌^◌, Bool, true, false, List, [], ◌∷◌, ◌++◌, ◌&&◌, nat_le, nat_lt, length, ◌⊎◌, Option, Some, None, Result, Ok, Err, IsOk, MatchResult, if◌then◌else◌}
 use Rattle.std.specs.Option.{option_and_then}
 use Rattle.std.specs.List.{filter_map}
 use Rattle.buffa_bytes.specs.declared.error.DecodeError.{DecodeError}
@@ -132,8 +132,12 @@ IsAnswer (Ok false) v o = o ≡ None
 IsAnswer (Err e) v o = (o ≡ None) × (e ≢ OutOfMemory)
 
 -- an encoding is there, and a field begins it
+abbrev pub HasField : Option (List ℕ) → Type 0
+HasField None = ⊥
+HasField (Some t) = BeginsField t
+
 abbrev pub BeginsFieldIn : (Datum → Option (List ℕ)) → Datum → Type 0
-BeginsFieldIn held d = IfSome (held d) BeginsField
+BeginsFieldIn held d = HasField (held d)
 
 -- the records that bytes are, or none
 abbrev pub or_none : Result (List (ℕ × Datum)) DecodeError → List (ℕ × Datum)

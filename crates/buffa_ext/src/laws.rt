@@ -1,7 +1,7 @@
 //! What the definitions of sets and clears say together: each law is a function with nothing to do, whose
 //! contract is the law.
 
-ghost use Rattle.std.specs.Prelude.{◌≡◌, ◌≢◌, ◌↔◌, ◌<◌, ◌≤◌, ◌^◌, ℕ, List, [], ◌∷◌, Option, Some, None, Ok, Err, false, length, option_map};
+ghost use Rattle.std.specs.Prelude.{◌≡◌, ◌≢◌, ◌↔◌, ◌<◌, ◌≤◌, ◌^◌, ℕ, List, [], ◌∷◌, ◌++◌, Option, Some, None, Ok, Err, false, length, option_map};
 ghost use Rattle.std.specs.declared.alloc.Global.{Global as GlobalValue};
 ghost use Rattle.std.specs.declared.alloc.AllocError.{AllocError as AllocErrorValue};
 ghost use Rattle.buffa_ext.specs.declared.descriptor.Make.{Make};
@@ -10,7 +10,7 @@ ghost use Rattle.buffa_ext.specs.declared.steps.Step.TheVariants.{Set};
 ghost use Rattle.buffa_bytes.specs.Pinned.{IsCopied, SameIsOne};
 ghost use Rattle.buffa_bytes.specs.declared.error.EncodeError.TheVariants.{MessageTooLarge};
 ghost use Rattle.buffa_bytes.specs.declared.wire_type.WireType.TheVariants.{LengthDelimited, StartGroup};
-ghost use Rattle.buffa_wire.specs.BudgetLeft.{BudgetLeft, Covers, defaults};
+ghost use Rattle.buffa_wire.specs.BudgetLeft.{BudgetLeft, Covers, Pays, defaults};
 ghost use Rattle.buffa_wire.specs.Parse.{Fits};
 ghost use Rattle.buffa_wire.specs.Records.{Datum, bytes as held_bytes, records_of};
 ghost use Rattle.buffa_codec.specs.Pinned.{OneAnswer};
@@ -18,7 +18,7 @@ ghost use Rattle.buffa_codec.specs.Decoded.{HasByte, bytes_held};
 ghost use Rattle.buffa_codec.specs.Sub.{sub};
 ghost use Rattle.buffa_ext.specs.Steps.{SameIsOneStep};
 ghost use Rattle.buffa_ext.specs.Messages.{BeginsFieldIn, IsReadBack, LeavesOfRecord, MergingStaysWithin};
-ghost use Rattle.buffa_ext.specs.Messages.{ReachesRecord, ReadsMessages, cost_all, group_held, group_of};
+ghost use Rattle.buffa_ext.specs.Messages.{ReadsMessages, cost_all, group_held, group_of, merged_all};
 ghost use Rattle.buffa_ext.specs.Messages.{group_refusal, group_encodings, message_of, encoding_refusal, encodings_in};
 ghost use Rattle.buffa_ext.specs.Pinned.{ClearIsPinned, DefaultIsPinned, ListIsExact, MergingIsPinned};
 ghost use Rattle.buffa_ext.specs.Pinned.{RecordMergeIsPinned, SetIsPinned};
@@ -33,6 +33,10 @@ use crate::steps::{ReplayFault, Step};
 pub use crate::strict_laws::{
     packed_faults_are_these, record_faults_are_these, strict_lists_are_pinned,
     strict_messages_are_pinned, strict_number_lists_are_pinned, strict_values_are_pinned,
+};
+pub use crate::word_laws::{
+    answers_with_a_default_are_these, groups_are_these, histories_are_these,
+    merged_messages_are_these, replays_are_refused_so, steps_are_these,
 };
 use buffa_codec::{ExtensionCodec, LastWins, Repeated, SingularCodec};
 use buffa_wire::{Message, MessageSpec};
@@ -121,17 +125,20 @@ pub fn messages_are_read<M: Message>()
     ensures group_holds { (v : M.Meaning) (o : Option M.Meaning) → ⟦<GroupCodec<M> as ExtensionCodec>⟧.holds v o
         ↔ (o ≡ Some v) }
     ensures asks { (ds : List Datum) → ⟦<MessageCodec<M> as ExtensionCodec>⟧.asks ds
-        ↔ ReachesRecord (M.merged 100) (M.cost 100) M.blank_is bytes_held (BeginsFieldIn bytes_held) ds }
+        ↔ ((front : List Datum) × (d : Datum) × (back : List Datum) × (mid : M.Meaning) × (left : BudgetLeft)
+        × (ds ≡ front ++ d ∷ back) × ((merged_all (M.merged 100) M.blank_is (encodings_in bytes_held front) ≡ Some mid)
+        × Pays defaults (cost_all (M.cost 100) (encodings_in bytes_held front)) left) × BeginsFieldIn bytes_held d) }
     ensures group_asks { (ds : List Datum) → ⟦<GroupCodec<M> as ExtensionCodec>⟧.asks ds
-        ↔ ReachesRecord (M.merged 100) (M.cost 100) M.blank_is group_held (λ d. HasByte (group_held d)) ds }
+        ↔ ((front : List Datum) × (d : Datum) × (back : List Datum) × (mid : M.Meaning) × (left : BudgetLeft)
+        × (ds ≡ front ++ d ∷ back) × ((merged_all (M.merged 100) M.blank_is (encodings_in group_held front) ≡ Some mid)
+        × Pays defaults (cost_all (M.cost 100) (encodings_in group_held front)) left) × HasByte (group_held d)) }
     ensures too_large { (v : M.Meaning) → 2 ^ 31 ≤ length (M.encoding v) → ⟦<MessageCodec<M> as ExtensionCodec>⟧.refusal v
         ≡ Some MessageTooLarge }
     ensures group_too_large { (v : M.Meaning) → 2 ^ 31 ≤ length (M.encoding v) →
         ⟦<GroupCodec<M> as ExtensionCodec>⟧.refusal v ≡ Some MessageTooLarge }
-    ensures fits { (v : M.Meaning) → ⟦<MessageCodec<M> as ExtensionCodec>⟧.fits v
-        ↔ (encoding_refusal (λ t. None) (M.encoding v) ≡ None) }
+    ensures fits { (v : M.Meaning) → ⟦<MessageCodec<M> as ExtensionCodec>⟧.fits v ↔ (length (M.encoding v) < 2 ^ 31) }
     ensures group_fits { (v : M.Meaning) → ⟦<GroupCodec<M> as ExtensionCodec>⟧.fits v
-        ↔ (encoding_refusal group_refusal (M.encoding v) ≡ None) }
+        ↔ ((length (M.encoding v) < 2 ^ 31) × (group_refusal (M.encoding v) ≡ None)) }
     ensures written { (v : M.Meaning) → length (M.encoding v) < 2 ^ 31 →
         ⟦<MessageCodec<M> as ExtensionCodec>⟧.refusal v ≡ None }
     ensures group_written { (v : M.Meaning) → length (M.encoding v) < 2 ^ 31 →

@@ -13,6 +13,7 @@ pub mod stage;
 pub mod steps;
 pub mod strict;
 pub mod strict_laws;
+pub mod word_laws;
 
 pub use back::set_then_read;
 pub use buffa_codec::{

@@ -1,11 +1,11 @@
 //! Strict readings of messages: a record of another kind is an error, and so is a refused encoding.
 
 ghost use Rattle.std.specs.Prelude.{◌≡◌, ◌∷◌, [], None, Ok, Some, IfErr, IfOk, OnOk, option_map, true};
-ghost use Rattle.buffa_wire.specs.BudgetLeft.{defaults};
+ghost use Rattle.buffa_wire.specs.BudgetLeft.{PaysAtMost, defaults};
 ghost use Rattle.buffa_wire.specs.View.{datum_of};
 ghost use Rattle.buffa_codec.specs.Strict.{Faultless, IsFaultOrFull};
 ghost use Rattle.buffa_codec.specs.Sub.{sub};
-ghost use Rattle.buffa_ext.specs.Messages.{IsAllMerged, IsAnswer, encodings_in, message_of};
+ghost use Rattle.buffa_ext.specs.Messages.{IsAllMerged, IsAnswer, StandsInRecord, cost_all, encodings_in, message_of};
 ghost use Rattle.buffa_ext.specs.Strict.{AreMessages, FirstRecordFault, ReachesStrictly, MessageRecordFault, kind_fault};
 ghost use Rattle.buffa_ext.specs.StrictFacts.{no_fault, no_first_fault, one_left};
 
@@ -30,8 +30,12 @@ fn merge_one<K: MessageRecord, M: Message>(
         (encodings_in K.held (datum_of payload.now ∷ [])) (M.meaning message.old) budget.old (Ok true)
         (M.meaning message.new) budget.new) }
     ensures kind { OnOk result (kind_fault K.held K.WIRE_TYPE number (datum_of payload.now) ≡ None) }
+    ensures most { PaysAtMost budget.old (cost_all (M.cost 100) (encodings_in K.held (datum_of payload.now ∷ []))) budget.new }
     ensures fault { IfErr result (IsFaultOrFull (MessageRecordFault (M.merged 100) (M.cost 100) K.held K.WIRE_TYPE number
         (datum_of payload.now) (M.meaning message.old) budget.old) (K.asks 100 (datum_of payload.now))) }
+    ensures stands { IfErr result (λ e. kind_fault K.held K.WIRE_TYPE number (datum_of payload.now) ≡ None →
+        StandsInRecord M.merged M.cost M.Refused K.held 100 (datum_of payload.now) (M.meaning message.old) budget.old e
+        (M.meaning message.new)) }
 {
     let lent = DecodeContext {
         depth: RECURSION_LIMIT,
@@ -63,6 +67,9 @@ fn merge_each<K: MessageRecord, M: Message>(
     ensures fault { IfErr result (λ e. ReachesStrictly (M.merged 100) (M.cost 100) K.held K.WIRE_TYPE number
         (λ d mid left. IsFaultOrFull (MessageRecordFault (M.merged 100) (M.cost 100) K.held K.WIRE_TYPE number d mid left)
         (K.asks 100 d) e) (M.meaning message.old) budget.old (sub number fields.now.records)) }
+    ensures stands { IfErr result (λ e. ReachesStrictly (M.merged 100) (M.cost 100) K.held K.WIRE_TYPE number
+        (λ d mid left. kind_fault K.held K.WIRE_TYPE number d ≡ None → StandsInRecord M.merged M.cost M.Refused K.held 100 d
+        mid left e (M.meaning message.new)) (M.meaning message.old) budget.old (sub number fields.now.records)) }
 {
     let mut found = false;
     for field in fields.iter().as_slice() {

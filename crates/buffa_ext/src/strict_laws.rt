@@ -1,17 +1,19 @@
 //! What strict readings are, and what their contracts leave open: each law is a function with nothing to do, whose contract
 //! is the law.
 
-ghost use Rattle.std.specs.Prelude.{◌≡◌, ◌↔◌, ℕ, List, [], ◌∷◌, None, Some};
-ghost use Rattle.buffa_bytes.specs.Content.{Content};
+ghost use Rattle.std.specs.Prelude.{◌≡◌, ◌≢◌, ◌↔◌, ◌⊎◌, ℕ, List, [], ◌∷◌, ◌++◌, None, Some};
+ghost use Rattle.std.specs.List.{AllByRecursion};
+ghost use Rattle.buffa_bytes.specs.Content.{Content, ContentFault, TakesContent};
 ghost use Rattle.buffa_bytes.specs.declared.error.DecodeError.{DecodeError};
+ghost use Rattle.buffa_bytes.specs.declared.error.DecodeError.TheVariants.{OutOfMemory};
 ghost use Rattle.buffa_bytes.specs.declared.wire_type.WireType.{WireType};
-ghost use Rattle.buffa_wire.specs.BudgetLeft.{BudgetLeft, defaults};
+ghost use Rattle.buffa_wire.specs.BudgetLeft.{BudgetLeft, Pays, defaults};
+ghost use Rattle.buffa_wire.specs.Message.{MergeFault};
 ghost use Rattle.buffa_wire.specs.Records.{Datum};
-ghost use Rattle.buffa_codec.specs.Strict.{AreElements, FirstElementFault, FirstFault};
+ghost use Rattle.buffa_codec.specs.Strict.{AreElements};
 ghost use Rattle.buffa_codec.specs.Strict.{bytes_fault, number_list_fault, packed_fault, string_fault, unless_found};
-ghost use Rattle.buffa_ext.specs.Messages.{encodings_in, message_of};
-ghost use Rattle.buffa_ext.specs.Strict.{AreMessages, FaultBehind, FaultlessOrFault, FirstRecordFault};
-ghost use Rattle.buffa_ext.specs.Strict.{MessageRecordFault, NoneIsAbsent, OneFault};
+ghost use Rattle.buffa_ext.specs.Messages.{cost_all, encodings_in, merged_all, message_of};
+ghost use Rattle.buffa_ext.specs.Strict.{FaultBehind, FaultlessOrFault, NoneIsAbsent, OneFault};
 
 use crate::message::MessageIn;
 use crate::record::MessageRecord;
@@ -29,8 +31,11 @@ pub fn strict_values_are_pinned<C: LastWins + StrictSingularCodec>()
     ensures either { FaultlessOrFault ⟦<C as StrictCodec>⟧.IsFaultless ⟦<C as StrictCodec>⟧.HasFault }
     ensures told { OneFault ⟦<C as StrictCodec>⟧.HasFault }
     ensures absent { NoneIsAbsent ⟦<C as StrictCodec>⟧.IsFaultless ⟦<C as ExtensionCodec>⟧.reads }
+    ensures whole { (n : ℕ) (ds : List Datum) → ⟦<C as StrictCodec>⟧.IsFaultless n ds
+        ↔ AllByRecursion (λ d. C.fault n d ≡ None) ds }
     ensures first { (n : ℕ) (ds : List Datum) (e : DecodeError) → ⟦<C as StrictCodec>⟧.HasFault n ds e
-        ↔ FirstFault (C.fault n) ds e }
+        ↔ ((front : List Datum) × (d : Datum) × (back : List Datum) × (ds ≡ front ++ d ∷ back)
+        × AllByRecursion (λ d. C.fault n d ≡ None) front × (C.fault n d ≡ Some e)) }
 {}
 
 /// A strict reading of a message reads records of the kind whose encodings are merged in order, and none only where
@@ -42,10 +47,17 @@ pub fn strict_messages_are_pinned<K: MessageRecord, M: Message>()
     ensures either { FaultlessOrFault ⟦<MessageIn<K, M> as StrictCodec>⟧.IsFaultless
         ⟦<MessageIn<K, M> as StrictCodec>⟧.HasFault }
     ensures whole { (n : ℕ) (ds : List Datum) → ⟦<MessageIn<K, M> as StrictCodec>⟧.IsFaultless n ds
-        ↔ AreMessages (M.merged 100) (M.cost 100) K.held K.WIRE_TYPE n M.blank_is defaults ds }
+        ↔ (AllByRecursion (λ d. unless_found (K.held d) K.WIRE_TYPE n d ≡ None) ds × (new : M.Meaning) × (left : BudgetLeft)
+        × (merged_all (M.merged 100) M.blank_is (encodings_in K.held ds) ≡ Some new)
+        × Pays defaults (cost_all (M.cost 100) (encodings_in K.held ds)) left) }
     ensures absent { NoneIsAbsent ⟦<MessageIn<K, M> as StrictCodec>⟧.IsFaultless ⟦<MessageIn<K, M> as ExtensionCodec>⟧.reads }
     ensures first { (n : ℕ) (ds : List Datum) (e : DecodeError) → ⟦<MessageIn<K, M> as StrictCodec>⟧.HasFault n ds e
-        ↔ FirstRecordFault (M.merged 100) (M.cost 100) K.held K.WIRE_TYPE n M.blank_is defaults ds e }
+        ↔ ((front : List Datum) × (d : Datum) × (back : List Datum) × (mid : M.Meaning) × (left : BudgetLeft)
+        × (ds ≡ front ++ d ∷ back) × AllByRecursion (λ d. unless_found (K.held d) K.WIRE_TYPE n d ≡ None) front
+        × ((merged_all (M.merged 100) M.blank_is (encodings_in K.held front) ≡ Some mid)
+        × Pays defaults (cost_all (M.cost 100) (encodings_in K.held front)) left)
+        × ((unless_found (K.held d) K.WIRE_TYPE n d ≡ Some e) ⊎ ((e ≢ OutOfMemory) × (t : List ℕ) × (K.held d ≡ Some t)
+        × MergeFault (M.merged 100 mid t) (M.cost 100 t) left e))) }
 {}
 
 /// A strict reading of a list, packed or not, reads records that are elements, or packed ones, each by what those before
@@ -54,12 +66,14 @@ pub fn strict_lists_are_pinned<C: StrictElementCodec, P: PackableCodec + StrictE
     ensures whole { (n : ℕ) (ds : List Datum) → ⟦<Repeated<C> as StrictCodec>⟧.IsFaultless n ds
         ↔ ((left : BudgetLeft) × AreElements (C.IsElement n) (C.leaves 100) defaults ds left) }
     ensures first { (n : ℕ) (ds : List Datum) (e : DecodeError) → ⟦<Repeated<C> as StrictCodec>⟧.HasFault n ds e
-        ↔ FirstElementFault (C.IsElement n) (C.ElementFault n) (C.leaves 100) defaults ds e }
+        ↔ ((front : List Datum) × (d : Datum) × (back : List Datum) × (mid : BudgetLeft) × (ds ≡ front ++ d ∷ back)
+        × AreElements (C.IsElement n) (C.leaves 100) defaults front mid × C.ElementFault n mid d e) }
     ensures packed_whole { (n : ℕ) (ds : List Datum) → ⟦<PackedRepeated<P> as StrictCodec>⟧.IsFaultless n ds
         ↔ ((left : BudgetLeft) × AreElements (P.IsElement n) (P.leaves 100) defaults ds left) }
     ensures packed_first { (n : ℕ) (ds : List Datum) (e : DecodeError) →
         ⟦<PackedRepeated<P> as StrictCodec>⟧.HasFault n ds e
-        ↔ FirstElementFault (P.IsElement n) (P.ElementFault n) (P.leaves 100) defaults ds e }
+        ↔ ((front : List Datum) × (d : Datum) × (back : List Datum) × (mid : BudgetLeft) × (ds ≡ front ++ d ∷ back)
+        × AreElements (P.IsElement n) (P.leaves 100) defaults front mid × P.ElementFault n mid d e) }
 {}
 
 /// A strict reading of a list of numbers, packed or not, reads each record of the number, or there is one fault.
@@ -94,7 +108,8 @@ pub fn record_faults_are_these<N: Numbered, K: MessageRecord, M: Message>()
         ⟦<BytesCodec as StrictElementCodec>⟧.IsElement n b d ↔ (bytes_fault n d ≡ None) }
     ensures message_listed { (n : ℕ) (b : BudgetLeft) (d : Datum) (e : DecodeError) →
         ⟦<MessageIn<K, M> as StrictElementCodec>⟧.ElementFault n b d e
-        ↔ MessageRecordFault (M.merged 100) (M.cost 100) K.held K.WIRE_TYPE n d M.blank_is b e }
+        ↔ ((unless_found (K.held d) K.WIRE_TYPE n d ≡ Some e) ⊎ ((e ≢ OutOfMemory) × (t : List ℕ) × (K.held d ≡ Some t)
+        × MergeFault (M.merged 100 M.blank_is t) (M.cost 100 t) b e)) }
     ensures message_element { (n : ℕ) (b : BudgetLeft) (d : Datum) →
         ⟦<MessageIn<K, M> as StrictElementCodec>⟧.IsElement n b d ↔ ((v : M.Meaning)
         × (message_of (M.merged 100) (M.cost 100) M.blank_is b (encodings_in K.held (d ∷ [])) ≡ Some v)) }
@@ -103,6 +118,11 @@ pub fn record_faults_are_these<N: Numbered, K: MessageRecord, M: Message>()
 /// The fault of packed bytes: whole payloads begin them, more follows these, and the fault is why no payload begins
 /// that.
 pub fn packed_faults_are_these()
-    ensures { (w : WireType) (bs : List ℕ) (e : DecodeError) → (packed_fault w bs ≡ Some e)
+    ensures whole { (w : WireType) (bs : List ℕ) (e : DecodeError) → (packed_fault w bs ≡ Some e)
         ↔ ((cs : List Content) × FaultBehind w cs bs e) }
+    ensures none { (w : WireType) → packed_fault w [] ≡ None }
+    ensures next { (w : WireType) (bs rest : List ℕ) (c : Content) → TakesContent w bs c rest →
+        packed_fault w bs ≡ packed_fault w rest }
+    ensures fault { (w : WireType) (bs : List ℕ) (e : DecodeError) → bs ≢ [] → ContentFault w bs e →
+        packed_fault w bs ≡ Some e }
 {}

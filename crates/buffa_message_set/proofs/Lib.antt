@@ -2,4 +2,5 @@
 pub mod ItemLemmas
 pub mod ItemEncodingLemmas
 pub mod GroupLemmas
+mod FrontLemmas
 mod PinLemmas

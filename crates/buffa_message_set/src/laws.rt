@@ -1,12 +1,17 @@
 //! What the definitions of Items say together: each law is a function with nothing to do, whose contract is the law.
 
-ghost use Rattle.std.specs.Prelude.{◌≡◌, ◌≢◌, ◌↔◌, [], ◌∷◌, ℕ, List, Ok, Err};
+ghost use Rattle.std.specs.Prelude.{◌≡◌, ◌≢◌, ◌↔◌, ◌<◌, ◌+◌, ◌^◌, ◌⊎◌, [], ◌∷◌, ◌++◌, ℕ, List, Ok, Err, length};
 ghost use Rattle.buffa_bytes.specs.declared.error.DecodeError.{DecodeError};
-ghost use Rattle.buffa_bytes.specs.declared.error.DecodeError.TheVariants.{OutOfMemory};
+ghost use Rattle.buffa_bytes.specs.declared.error.DecodeError.TheVariants.{OutOfMemory, UnknownFieldLimitExceeded};
 ghost use Rattle.buffa_bytes.specs.declared.wire_type.WireType.TheVariants.{EndGroup, LengthDelimited, StartGroup, Varint};
+ghost use Rattle.buffa_bytes.specs.Field.{Field, IsTag};
+ghost use Rattle.buffa_bytes.specs.Values.{delimited_encoding, tag_encoding};
+ghost use Rattle.buffa_bytes.specs.Varint.{IsVarint, varint_encoding};
+ghost use Rattle.buffa_bytes.specs.declared.wire_type.WireType.{WireType};
+ghost use Rattle.buffa_wire.specs.BudgetLeft.{BudgetLeft};
 ghost use Rattle.buffa_wire.specs.Message.{IsLimit};
-ghost use Rattle.buffa_bytes.specs.Values.{tag_encoding};
-ghost use Rattle.buffa_message_set.specs.Item.{GroupsAreReadAlike, IsTypeId, Item, ItemFault, ItemsAreGroups, NoOtherFront, OneItem, TakesItem, WrittenIsItem, body_encoding, item_at, item_encoding};
+ghost use Rattle.buffa_message_set.specs.Item.{GroupsAreReadAlike, IsTypeId, Item, ItemFault, ItemsAreGroups, NoOtherFront, OneItem, SpendsUnknown};
+ghost use Rattle.buffa_message_set.specs.Item.{TakesItem, WrittenIsItem, body_encoding, item_at, item_encoding, item_in};
 ghost use Rattle.buffa_message_set.specs.Pinned.{ItemIsPinned, WrittenItemIsPinned};
 
 use crate::message_set::{ITEM_END_TAG, ITEM_START_TAG, MESSAGE_TAG, TYPE_ID_TAG};
@@ -19,6 +24,37 @@ pub fn written_items_are_items()
     ensures start { (id : ℕ) (msg : List ℕ) → item_encoding id msg ≡ ITEM_START_TAG ∷ body_encoding id msg }
     ensures item { WrittenIsItem }
     ensures only { NoOtherFront }
+{}
+
+/// The grammar of Items, from the end tag to the front: an end tag of number 1 behind a type id is an Item of no message; and
+/// what stands in front of an Item makes another. A type id there changes nothing, since the last one counts; message bytes go
+/// before the Item's own; and a field of any other number or wire type changes nothing.
+///
+/// A type id is 1 to 2,147,483,647, and tags, varints and fields are as anywhere.
+pub fn items_are_these()
+    ensures type_id { (n : ℕ) → IsTypeId n ↔ ((0 < n) × (n < 2 ^ 31)) }
+    ensures least { (d n : ℕ) (tag p end : List ℕ) → IsTag tag 2 Varint → IsVarint p n → IsTypeId n → IsTag end 1 EndGroup →
+        Item d (tag ++ (p ++ end)) n [] }
+    ensures earlier_id { (d n id : ℕ) (tag p b msg : List ℕ) → IsTag tag 2 Varint → IsVarint p n → IsTypeId n →
+        Item d b id msg → Item d (tag ++ (p ++ b)) id msg }
+    ensures message { (d id : ℕ) (tag l m b msg : List ℕ) → IsTag tag 3 LengthDelimited → IsVarint l (length m) →
+        Item d b id msg → Item d (tag ++ (l ++ (m ++ b))) id (m ++ msg) }
+    ensures other { (d id n : ℕ) (w : WireType) (f b msg : List ℕ) → Field d n w f → (n ≡ 2 → w ≢ Varint) →
+        (n ≡ 3 → w ≢ LengthDelimited) → (n ≡ 1 → w ≢ EndGroup) → Item d b id msg → Item d (f ++ b) id msg }
+{}
+
+/// An Item is read where an unknown field is left, which is spent; where none is left nothing is. Its encoding is the start tag,
+/// the type id, the message, and the end tag, each with its own tag, all of them the shortest.
+pub fn item_words_are_these()
+    ensures none_left { (d : ℕ) (bs : List ℕ) → item_in d 0 bs ≡ Err UnknownFieldLimitExceeded }
+    ensures left { (d n : ℕ) (bs : List ℕ) → 0 < n → item_in d n bs ≡ item_at d bs }
+    ensures spent { (old new : BudgetLeft) → SpendsUnknown old new ↔ (((old.unknown ≡ 0) × (new ≡ old))
+        ⊎ ((new.unknown + 1 ≡ old.unknown) × (new.memory ≡ old.memory))) }
+    ensures encoding { (id : ℕ) (msg : List ℕ) → item_encoding id msg ≡ tag_encoding 1 StartGroup
+        ++ (tag_encoding 2 Varint ++ (varint_encoding id
+        ++ (tag_encoding 3 LengthDelimited ++ (delimited_encoding msg ++ tag_encoding 1 EndGroup)))) }
+    ensures taken { (d id : ℕ) (bs msg rest : List ℕ) → TakesItem d bs id msg rest
+        ↔ ((b : List ℕ) × Item d b id msg × (bs ≡ b ++ rest)) }
 {}
 
 /// An Item is read exactly where the grammar has one, and a fault is returned exactly where the grammar has it.

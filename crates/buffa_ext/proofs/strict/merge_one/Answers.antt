@@ -1,7 +1,8 @@
 use Rattle.std.proofs.Common.{sym, ◌∙◌}
+use Rattle.std.proofs.lemmas.Option.{none-some}
 use Rattle.std.proofs.lemmas.Result.{err_from_is_err_and}
 use Rattle.buffa_wire.specs.View.{datum_of}
-use Rattle.buffa_ext.specs.StrictFacts.{is_of_kind, refused_record, told_kind}
+use Rattle.buffa_ext.specs.StrictFacts.{is_of_another, is_of_kind, refused_record, told_kind}
 use Rattle.buffa_ext.proofs.strict.merge_one.Goals as goal
 
 pub returns-then-branch-clause-kind : goal.returns-then-branch-clause-kind
@@ -19,3 +20,7 @@ returns-in_err-merge_in-clause-fault g c =
     rw (p.1, p.2) (refused_record (g.M.MessageSpec.merged 100) (g.M.MessageSpec.cost 100) g.K.MessageRecord.held g.K.MessageRecord.WIRE_TYPE c.args.number (g.K.MessageRecord.asks 100)
     (datum_of c.args.payload.now) (g.M.Blank.meaning c.args.message.now) (g.M.Blank.meaning c.merge_in.new.message) c.args.budget.now c.merge_in.new.ctx.1.0 c.in_err-merge_in.field-0.0
     c.in_err-merge_in.ensures.encoding c.in_err-merge_in.ensures.full c.in_err-merge_in.ensures.merged)
+
+pub returns-clause-stands : goal.returns-clause-stands
+returns-clause-stands g c none =
+    absurd (none-some _ (sym none ∙ is_of_another g.K.MessageRecord.held g.K.MessageRecord.WIRE_TYPE c.args.number (datum_of c.args.payload.now) (sym c.if-branch.false ∙ c.in_ok-merge_in.ensures.merged.0)))
