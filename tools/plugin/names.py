@@ -11,6 +11,10 @@ ESCAPED = set(
     "data record module package open unfoldable abbrev axiom unfold unfolding ruleset mutual infix infixl infixr elim coe fcoe "
     "tcoe hcom com".split()
 )
+# Words that can't name an enum's value, beside an upper-case letter: of Rust, of contracts, and those that its file imports.
+VALUES = set("None Some Self Type".split())
+# Modules that a crate reads as its own libraries, or that contracts have.
+MODULES = set("std core buffa bytes anyhow hex indexmap thiserror lib prim".split())
 CODECS = set(
     "Bool BytesBuf BytesVec ClosedEnum Fixed32 Fixed64 Int32 Int64 Map OpenEnum Sfixed32 Sfixed64 Sint32 Sint64 Str Uint32 Uint64".split()
 )
@@ -57,20 +61,38 @@ BELOW = {
     "kept": "buffa_fields::kept",
 }
 # Names that a type of one's own can't have beside those.
-TAKEN = set(FACADE) | set("Option Result Vec Some None Ok Err Box Self V".split())
+TAKEN = set(FACADE) | set("Option Result Vec Some None Ok Err Box Self TheLinks V".split())
 
 
 def snake(name):
     """The name of a file: `ErrorInfo` is in error_info, `In` in in_."""
     name = re.sub(r"([A-Z]+)([A-Z][a-z])", r"\1_\2", name)
     name = re.sub(r"([a-z0-9])([A-Z])", r"\1_\2", name).lower()
-    return name + "_" if name in KEYWORDS | ESCAPED else name
+    return name + "_" if name in KEYWORDS | ESCAPED | MODULES else name
 
 
 def camel(name):
     """The name of a type or of a value: `OPEN_AIR` is OpenAir."""
     parts = [it for it in name.split("_") if it]
     return "".join(it[0].upper() + (it[1:].lower() if it.isupper() else it[1:]) for it in parts)
+
+
+def is_free_type(name, ending):
+    """The name of a type, with this ending where the form or the language has the name, or it isn't one of a type."""
+    return name + ending if name in TAKEN else name
+
+
+def variant(name, type_name):
+    """The name of an enum's value, with `Value` where the language has it, or where it isn't one."""
+    name = camel(name)
+    if name in VALUES or name == type_name:
+        return name + "Value"
+    return name if name[:1].isalpha() else "Value" + name
+
+
+def member(name):
+    """The name of a member: with `_` behind it where it is a word of the language, or that of the fields that are kept."""
+    return name + "_" if name in KEYWORDS | {"rest"} else name
 
 
 def ordered(names):

@@ -3,7 +3,9 @@ import re
 
 from google.protobuf.descriptor_pb2 import FieldDescriptorProto as Field
 
-from names import ESCAPED, KEYWORDS, TAKEN, camel, snake
+from files import Name, Refused, clean, quoted
+from names import ESCAPED, TAKEN, member, snake, variant
+from world import FIELD_KEYS, MESSAGES
 
 # What is written for a scalar: its codec, its Rust type, what it means, its bytes, and its default.
 SCALARS = {
@@ -21,142 +23,16 @@ SCALARS = {
     Field.TYPE_STRING: ("Str", "String", "[u8; 0]", 24, "String::new(alloc)"),
     Field.TYPE_BYTES: ("BytesVec", "Vec<u8>", "[u8; 0]", 24, "Vec::new(alloc)"),
 }
-# Parameters that are of a field.
-FIELD_KEYS = ("delimited", "encoded", "implicit", "optional", "ordered", "shared")
-MESSAGES = (Field.TYPE_MESSAGE, Field.TYPE_GROUP)
 # What a message that holds itself is, by the member type of the field in which it does.
 HOLDERS = {"RepeatedNested": "Nest", "MapOfNested": "MapNest", "OrderedMapOfNested": "MapNest", "Nested": "Chain"}
 REALS = {Field.TYPE_FLOAT: "float", Field.TYPE_DOUBLE: "double"}
-
-
-class Refused(Exception):
-    """What the form can't say."""
-
-
-def is_left(world, it):
-    return it.full in world.left or (it.outer is not None and is_left(world, it.outer))
-
-
-class Name:
-    """Something of a .proto with a full name, in its file, and what was said of it there."""
-
-    def __init__(self, file, path, full, it, outer=None):
-        self.file, self.path, self.full, self.it, self.outer = file, path, full, it, outer
-        place = file.places.get(path)
-        self.line = place.span[0] + 1 if place else 0
-        said = [place.leading_comments, place.trailing_comments] if place else []
-        lines = "".join(it for it in said).rstrip().split("\n")
-        self.said = [re.sub(r"^ ", "", it).rstrip() for it in lines] if any(lines) else []
-
-    def refuse(self, why):
-        raise Refused(f"{self.file.name}:{self.line}: {self.full}: {why}")
-
-
-class File:
-    """A .proto: its messages and enums with those inside others."""
-
-    def __init__(self, it):
-        self.it, self.name, self.is_closed = it, it.name, it.syntax != "proto3"
-        self.places = {tuple(p.path): p for p in it.source_code_info.location}
-        self.messages, self.enums, self.others = [], [], []
-        base = it.package + "." if it.package else ""
-        for at, each in enumerate(it.message_type):
-            self.add((4, at), base, each, None)
-        self.enums += [Name(self, (5, at), base + e.name, e) for at, e in enumerate(it.enum_type)]
-        self.others += [Name(self, (6, at), base + e.name, e) for at, e in enumerate(it.service)]
-        self.others += [Name(self, (7, at), base + e.name, e) for at, e in enumerate(it.extension)]
-
-    def add(self, path, base, it, outer):
-        if it.options.map_entry:
-            return
-        name = Name(self, path, base + it.name, it, outer)
-        self.messages.append(name)
-        for at, each in enumerate(it.nested_type):
-            self.add(path + (3, at), name.full + ".", each, name)
-        self.enums += [Name(self, path + (4, at), f"{name.full}.{e.name}", e, name) for at, e in enumerate(it.enum_type)]
-        self.others += [Name(self, path + (6, at), f"{name.full}.{e.name}", e, name) for at, e in enumerate(it.extension)]
-
-
-class World:
-    """All that a run is told: its files, its parameters, and the name of the Rust type of each message and enum."""
-
-    def __init__(self, request):
-        self.read_parameters(request.parameter)
-        files = [File(it) for it in request.proto_file]
-        self.asked = [it for it in files if it.name in request.file_to_generate]
-        self.found = {it.full: it for f in files for it in f.messages + f.enums}
-        self.entries = {}
-        for file in files:
-            base = "." + file.it.package if file.it.package else ""
-            for each in file.it.message_type:
-                self.add_entries(base + "." + each.name, each)
-        self.types = {}
-
-    def read_parameters(self, text):
-        self.crate, self.module, self.over, self.maps = "", "messages", "buffa", ""
-        self.left, self.dropping, self.opaque, self.costs = set(), set(), set(), {}
-        self.fields = {key: set() for key in FIELD_KEYS}
-        named = {"leave": self.left, "drop": self.dropping, "opaque": self.opaque, **self.fields}
-        for word in filter(None, text.split(",")):
-            key, _, value = word.partition("=")
-            cost = re.fullmatch(r"(.*):([1-9][0-9]*)", value)
-            if key in named:
-                named[key].add(value)
-            elif key == "cost" and cost:
-                self.costs[cost[1]] = int(cost[2])
-            elif key in ("crate", "module") or (key, value) in (("over", "buffa"), ("over", "buffa_fields"), ("maps", "ordered")):
-                setattr(self, key, value)
-            else:
-                raise Refused(f"no parameter is {word}")
-
-    def see_names(self):
-        """Refuses a parameter that names nothing of the files, or nothing of its kind."""
-        messages = {it.full for f in self.asked for it in f.messages}
-        fields = {f"{m.full}.{f.name}" for file in self.asked for m in file.messages for f in m.it.field}
-        known = messages | fields | {it.full for f in self.asked for it in f.enums + f.others}
-        for name in sorted(self.left - known):
-            raise Refused(f"nothing is called {name} in these files")
-        for name in sorted(set().union(*self.fields.values()) - fields):
-            raise Refused(f"no field is called {name} in these files")
-        for name in sorted((self.dropping | self.opaque | set(self.costs)) - messages):
-            raise Refused(f"no message is called {name} in these files")
-
-    def add_entries(self, full, it):
-        for each in it.nested_type:
-            if each.options.map_entry:
-                self.entries[f"{full}.{each.name}"] = each
-            self.add_entries(f"{full}.{each.name}", each)
-
-    def wanted(self):
-        """The messages and enums to be written, those that are left out apart."""
-        return [it for f in self.asked for it in f.messages + f.enums if not is_left(self, it)]
-
-    def name_types(self):
-        """Gives each its Rust name, and sees that no two have one."""
-        files = {}
-        for it in self.wanted():
-            names, at = [it.it.name], it.outer
-            while at:
-                names, at = [at.it.name] + names, at.outer
-            name = "".join(camel(n) for n in names)
-            if name in TAKEN:
-                name += "Enum" if hasattr(it.it, "value") else "Message"
-            if not self.module and snake(name) in ("lib", "main"):
-                it.refuse("its file would be the crate's root: say module=NAME")
-            other = files.setdefault(snake(name), it)
-            if other is not it:
-                it.refuse(f"the name of its file is that of {other.full}, too")
-            self.types[it.full] = name
-
-    def type_of(self, field, full):
-        """The Rust type of a message or an enum that a field names."""
-        full = full.lstrip(".")
-        if full in self.types:
-            return self.types[full]
-        if full in self.found and self.found[full].file in self.asked:
-            field.refuse(f"its type {full} is left out")
-        file = self.found[full].file.name
-        field.refuse(f"its type {full} is of {file}, which this run doesn't write: name that file, too")
+# Calls of a message, which a getter would hide.
+CALLS = set(
+    "blank clear compute_size extendee_name merge merge_field merge_from_slice merge_length_delimited take the_row try_encode_to_vec "
+    "unknown_fields unknown_fields_mut visit write_to TheLaws".split()
+)
+# As many members of one message are proved.
+MOST = 60
 
 
 class Member:
@@ -165,7 +41,9 @@ class Member:
     def __init__(self, world, field, message):
         self.field, self.it = field, field.it
         self.number = self.it.number
-        self.name = self.it.name + "_" if self.it.name in KEYWORDS | {"rest"} else self.it.name
+        self.name = world.renamed.get(field.full) or member(self.it.name)
+        if member(self.name) != self.name:
+            field.refuse(f"no member can be called {self.name}", "write another name behind its rename=")
         self.in_contract = f"«{self.name}»" if self.name in ESCAPED else self.name
         self.keeps, self.needs, self.inside, self.key, self.key_type = False, set(), [], None, None
         self.world = world
@@ -175,49 +53,60 @@ class Member:
         if self.it.HasField("oneof_index") and not self.it.proto3_optional:
             name = message.it.oneof_decl[self.it.oneof_index].name
             field.refuse(f"it is in the oneof {name}, of whose fields one alone may be there, which no list of members says")
-        self.see_presence()
         self.see_told(entry)
-        self.is_encoded = "encoded" in self.told
+        self.is_required = self.it.label == Field.LABEL_REQUIRED and "optional" not in self.told
+        self.is_encoded = "encoded" in self.told or field.full in world.encoded
         if self.is_encoded:
-            self.as_encodings()
+            self.as_encodings(entry)
         elif entry:
             self.as_map(entry)
         elif self.it.type in MESSAGES:
             self.as_message()
         else:
             self.as_value()
+        self.has_getter = self.see_default()
+        self.getter = self.name + "_" if self.name in CALLS else self.name
 
-    def see_presence(self):
-        """Refuses what a member that is optional doesn't do."""
-        if "optional" in self.told:
-            return
-        if self.it.label == Field.LABEL_REQUIRED:
-            self.field.refuse("it is required, and a message without it would be read")
-        if not self.it.default_value:
-            return
-        blank = "false" if self.it.type == Field.TYPE_BOOL else "0"
+    def see_default(self):
+        """Whether there is a getter, which says the declared default."""
+        said = self.it.default_value
+        if not self.it.HasField("default_value") or "optional" in self.told:
+            return False
+        if not self.is_default(said):
+            self.field.refuse(f"its default is none of its type ({clean(said)})")
+        if "implicit" in self.told and said not in ("0", "false", ""):
+            self.field.refuse(f"its default isn't that of its type ({self.default()})", "take implicit= away")
+        has = "implicit" not in self.told and "shared" not in self.told and not self.rust.startswith("Option<EnumValue<")
+        if not has and "implicit" not in self.told:
+            self.world.tell(f"{self.field.at()}: it has no getter for its default ({self.default()})")
+        return has
+
+    def is_default(self, said):
+        """Whether a declared default is of the field's type."""
         if self.it.type == Field.TYPE_ENUM:
-            full = self.it.type_name.lstrip(".")
-            blank = self.world.found[full].it.value[0].name
-        if self.it.default_value != blank:
-            self.field.refuse(f"where it isn't there its default stands for it ({self.it.default_value}), which no member says")
+            return any(said == it.name for it in self.world.found[self.it.type_name.lstrip(".")].it.value)
+        if self.it.type == Field.TYPE_BOOL:
+            return said in ("true", "false")
+        if self.it.type == Field.TYPE_BYTES:
+            return re.fullmatch(r"([ -\[\]-~]|\\([0-3][0-7]{2}|[nrt\"'\\]))*", said) is not None
+        return self.it.type == Field.TYPE_STRING or re.fullmatch(r"-?[0-9]+", said, re.ASCII) is not None
 
     def see_told(self, entry):
         """Refuses a parameter where it is for other fields."""
+        value = entry.field[1] if entry else self.it
         is_message = self.it.type in MESSAGES and not entry
         is_group = self.it.type == Field.TYPE_GROUP or "delimited" in self.told
         is_single = not self.is_list and self.it.type not in MESSAGES and "optional" not in self.told
-        value = entry.field[1] if entry else self.it
         others = {
             "delimited": None if is_message else "no message and no list of messages",
-            "encoded": None if is_message and self.is_list and not is_group else "no list of messages",
+            "encoded": None if value.type in MESSAGES and not is_group else "no message, and no list or map of messages",
             "implicit": None if is_single and self.field.file.is_closed else "no optional number, text or enum of proto2",
             "ordered": None if entry else "no map",
             "shared": None if value.type == Field.TYPE_BYTES else "of no bytes",
         }
         for key in sorted(self.told & set(others)):
             if others[key]:
-                self.field.refuse(f"it is {others[key]}, and {key}= is for these alone")
+                self.field.refuse(f"it is {others[key]}, and {key}= is for these alone", f"take {key}= away")
 
     def codec(self, it):
         """The codec of a field, its Rust type, what it means, its bytes and its default; of a closed enum also that it is one."""
@@ -253,7 +142,7 @@ class Member:
             self.be("Packed" if packed else "Repeated", codec, f"Vec<{rust}>", f"[{means}; 0]", 24, "Vec::new(alloc)")
         elif "implicit" in self.told:
             if is_closed:
-                self.field.refuse("its enum is closed, and implicit= is for those that aren't")
+                self.field.refuse("its enum is closed, and implicit= is for those that aren't", "take implicit= away")
             self.be("Plain", codec, rust, means, cost, blank)
         elif self.field.file.is_closed or self.it.proto3_optional:
             self.keeps = is_closed
@@ -271,10 +160,13 @@ class Member:
         else:
             self.be(member_type, name, f"Option<{name}>", f"Option<{means}>", None, "None")
 
-    def as_encodings(self):
-        """A list of messages, each as its bytes. Of a message that is no list two records are one message, which bytes aren't."""
+    def as_encodings(self, entry):
+        """Messages as their bytes. A message that is no list is the list of its records, which are read one after the other."""
         self.needs.add("BytesVec")
-        self.be("Repeated", "BytesVec", "Vec<Vec<u8>>", "[[u8; 0]; 0]", 24, "Vec::new(alloc)")
+        if entry:
+            self.as_map(entry)
+        else:
+            self.be("Repeated", "BytesVec", "Vec<Vec<u8>>", "[[u8; 0]; 0]", 24, "Vec::new(alloc)")
 
     def as_map(self, entry):
         key, value = entry.field
@@ -284,7 +176,9 @@ class Member:
         into, cost = ("BTreeMap", 24) if is_ordered else ("Map", 112)
         member_type = "OrderedMapOf" if is_ordered else "MapOf"
         self.needs |= {into, "And"}
-        if value.type in MESSAGES:
+        if self.is_encoded:
+            of, held, held_means = SCALARS[Field.TYPE_BYTES][:3]
+        elif value.type in MESSAGES:
             name = self.world.type_of(self.field, value.type_name)
             self.inside.append(value.type_name.lstrip("."))
             held, held_means, of = name, f"<{name} as Blank>::Meaning", name
@@ -292,6 +186,13 @@ class Member:
         else:
             of, held, held_means, _, _, self.keeps = self.codec(value)
         self.be(member_type, f"{codec}, {of}", f"{into}<{rust}, {held}>", f"[And<{means}, {held_means}>; 0]", cost, f"{into}::new(alloc)")
+
+    def default(self):
+        """The declared default as the .proto has it, on one line."""
+        said = self.it.default_value
+        if self.it.type == Field.TYPE_BYTES:
+            return f'"{clean(said)}"'
+        return quoted(said) if self.it.type == Field.TYPE_STRING else clean(said)
 
     def declared(self):
         """The field as the .proto has it."""
@@ -306,7 +207,7 @@ class Member:
         label = {Field.LABEL_REPEATED: "repeated ", Field.LABEL_REQUIRED: "required "}.get(self.it.label, "")
         if not label and (self.field.file.is_closed or self.it.proto3_optional):
             label = "optional "
-        options = [f"default = {self.it.default_value}"] if self.it.HasField("default_value") else []
+        options = [f"default = {self.default()}"] if self.it.HasField("default_value") else []
         if self.it.options.HasField("packed"):
             options.append(f"packed = {str(self.it.options.packed).lower()}")
         said = f" [{', '.join(options)}]" if options else ""
@@ -324,30 +225,31 @@ class Message:
             name.refuse("it is a MessageSet, which is written by hand, as SetMsg is")
         fields = [Name(name.file, name.path + (2, at), f"{name.full}.{f.name}", f) for at, f in enumerate(self.it.field)]
         self.left = sorted((f for f in fields if f.full in world.left), key=lambda f: f.it.number)
-        self.listed = sorted(self.read([f for f in fields if f.full not in world.left]), key=lambda k: k.number)
+        self.listed = [world.tries(Member, world, f, name) for f in fields if f.full not in world.left]
+        self.listed = sorted(filter(None, self.listed), key=lambda k: k.number)
         self.held, self.holder = self.member_of_itself()
         self.members = [k for k in self.listed if k is not self.held]
         self.own = self.rust + "Own" if self.held else self.rust
         self.is_keeping = name.full not in world.dropping
         self.is_opaque = name.full in world.opaque
-        self.see_own()
+        for see in (self.see_names, self.see_own, self.see_count, self.see_kept):
+            world.tries(see)
+
+    def see_names(self):
+        """Refuses two members of one name."""
         names = {}
         for member in self.members:
             other = names.setdefault(member.name, member)
             if other is not member:
-                member.field.refuse(f"the name of its member is that of {other.field.full}, too")
+                way = f"give it another by --buffa_opt=rename={member.field.full}:NAME"
+                member.field.refuse(f"the name of its member is that of {other.field.full}, too", way)
 
-    def read(self, fields):
-        """The members, or all that is refused of them."""
-        made, refused = [], []
-        for field in fields:
-            try:
-                made.append(Member(self.world, field, self.name))
-            except Refused as it:
-                refused.append(str(it))
-        if refused:
-            raise Refused("\n".join(refused))
-        return made
+    def see_count(self):
+        """Refuses more members than are proved."""
+        over = [k.field.full for k in self.members[MOST:]]
+        if over:
+            way = f"leave out those behind the {MOST}th, by --buffa_opt=" + ",".join(f"leave={name}" for name in over)
+            raise Refused(f"{self.name.at()}: it has {len(self.members)} fields, of which {MOST} are proved in one message: {way}", over)
 
     def member_of_itself(self):
         """The member in which the message holds itself, if it is one list, one map or one message, and what it makes of the message."""
@@ -356,28 +258,22 @@ class Message:
         return (found[0], holder) if holder else (None, None)
 
     def see_own(self):
-        """Refuses a name that another type has, and what would drop more than fields that aren't declared."""
-        if self.held and (self.own in self.world.types.values() or self.own in TAKEN):
-            self.name.refuse(f"what it has beside {self.held.it.name} is to be called {self.own}, as another type is")
-        if self.is_opaque:
-            self.see_opaque()
-        if self.is_keeping:
-            return
-        if self.it.extension_range:
-            self.name.refuse("its extensions are among the fields that aren't declared, which drop= leaves out")
-        for member in self.members:
-            if member.keeps:
-                member.field.refuse("what its closed enum doesn't declare is kept, which drop= leaves out")
+        """Refuses a name that another type has."""
+        way = f"give it another name by --buffa_opt=rename={self.name.full}:NAME"
+        taken = set(self.world.types.values()) | TAKEN
+        if self.held and self.own in taken:
+            self.name.refuse(f"what it has beside {self.held.it.name} is to be called {self.own}, as another type is", way)
+        if self.is_opaque and f"{self.rust}Meaning" in taken:
+            self.name.refuse(f"what it means is to be called {self.rust}Meaning, as another type is", way)
 
-    def see_opaque(self):
-        """Refuses a meaning with a name of its own where no such type can be written."""
-        if not self.held:
-            self.name.refuse("opaque= is for messages that hold one list, one map or one message of themselves")
-        if self.world.over == "buffa":
-            self.name.refuse("opaque= cites what the facade doesn't hand on: say over=buffa_fields")
-        name = f"{self.rust}Meaning"
-        if name in self.world.types.values() or name in TAKEN:
-            self.name.refuse(f"what it means is to be called {name}, as another type is")
+    def see_kept(self):
+        """Refuses what would drop more than fields that aren't declared."""
+        way = f"take drop={self.name.full} away"
+        if not self.is_keeping and self.it.extension_range:
+            self.name.refuse("its extensions are among the fields that aren't declared, which drop= leaves out", way)
+        for member in self.members:
+            if not self.is_keeping and member.keeps:
+                member.field.refuse("what its closed enum doesn't declare is kept, which drop= leaves out", way)
 
     def cost(self, messages):
         """What is told, or the bytes of the struct, by the rule at the head of the plugin."""
@@ -388,47 +284,32 @@ class Message:
         return sum(parts) + 24 * self.is_keeping + inside or 8
 
 
-def see_no_cycle(messages):
-    """A message that holds itself is no list of members, but for one list, one map or one message of itself."""
-    def walk(full, above):
-        if full in above:
-            path = " in ".join(reversed(above[above.index(full) :] + [full]))
-            why = f"it holds itself ({path}), other than as one list, one map or one message, and is written by hand, as Tree is"
-            messages[full].name.refuse(f"{why}, or a field is left out or encoded")
-        for member in messages[full].members:
-            for inner in member.inside:
-                if inner in messages and inner not in done:
-                    walk(inner, above + [full])
-        done.add(full)
-
-    done = set()
-    for full in messages:
-        if full not in done:
-            walk(full, [])
-
-
 class Variants:
     """The values of an enum: of each its Rust name, its number, and what was said of it."""
 
     def __init__(self, world, name):
         self.world, self.name, self.rust = world, name, world.types[name.full]
-        if not world.crate:
-            name.refuse("its file cites the crate that it stands in: say crate=NAME")
-        values = [Name(name.file, name.path + (2, at), v.name, v) for at, v in enumerate(name.it.value)]
+        if not world.crate and not world.is_mapped(name.full):
+            name.refuse("its file cites the crate that it stands in", "say crate=NAME")
+        values = [Name(name.file, name.path + (2, at), f"{name.full}.{v.name}", v) for at, v in enumerate(name.it.value)]
         start = snake(name.it.name).upper().rstrip("_") + "_"
         cut = all(v.it.name.startswith(start) and v.it.name[len(start) :][:1].isalpha() for v in values)
-        self.values, numbers, names = [], {}, {}
+        self.values, self.by_name, numbers, names = [], {}, {}, {}
         for value in values:
             if value.it.number in numbers:
                 numbers[value.it.number].said.append(f"Also called {value.it.name}.")
+                self.by_name[value.it.name] = self.by_name[numbers[value.it.number].it.name]
                 continue
             numbers[value.it.number] = value
-            rust = camel(value.it.name[len(start) :] if cut else value.it.name)
-            if rust in ("None", "Some", "Self", self.rust):
-                rust += "Value"
-            if rust[0].isdigit():
-                rust = "Value" + rust
-            if rust in names:
-                value.refuse(f"its name is that of {names[rust].it.name}, too")
-            names[rust] = value
+            rust = world.renamed.get(value.full) or variant(value.it.name[len(start) :] if cut else value.it.name, self.rust)
+            self.see_name(value, rust, names)
+            names[rust] = self.by_name[value.it.name] = value, rust
             self.values.append((rust, value.it.number, value))
+
+    def see_name(self, value, rust, names):
+        """Refuses a name that another value has, or that no value can have."""
+        if rust in names:
+            way = f"give it another by --buffa_opt=rename={value.full}:NAME"
+            value.refuse(f"its name is that of {names[rust][0].it.name}, too", way)
+        if variant(rust, self.rust) != rust:
+            value.refuse(f"no value of an enum can be called {rust}", "write another name behind its rename=")

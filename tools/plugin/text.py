@@ -1,7 +1,8 @@
 """The text of a file: a message from its fields, or an enum, laid out as rt fmt has it."""
 import re
 
-from names import BELOW, FACADE, ordered, path, snake
+from getters import declared, getters, variants_used, words
+from names import BELOW, FACADE, ordered, snake
 
 WIDTH = 100
 CALL_WIDTH = 60
@@ -10,15 +11,15 @@ LONGEST = 120
 
 
 def uses(world, names, own):
-    """The use lines of names and of one's own types."""
+    """The use lines of names and of types of the .proto's, which are given by their full names."""
     by_module = {}
     for name in names:
         by_module.setdefault((FACADE if world.over == "buffa" else BELOW)[name], set()).add(name)
     if "kept" in names and world.over != "buffa":
         by_module["buffa_fields::kept"] |= {"self"}
         by_module["buffa_fields::kept"].discard("kept")
-    for name in own:
-        by_module[path("::", "crate", world.module, snake(name))] = {name}
+    for full in own:
+        by_module[world.module_of(full)] = {world.types[full]}
     modules = sorted(by_module, key=lambda m: (not m.startswith("crate::"), [(1, p) for p in m.split("::")] + [(9, "")]))
     made = []
     for module in modules:
@@ -93,7 +94,11 @@ def remarks(message):
 
     where = "Left among the fields that aren't declared" if message.is_keeping else "Passed over"
     yield where, [f.it for f in message.left]
-    yield "Held as the encodings of its messages, which merge_from_slice reads", told("encoded")
+    yield "Read where it isn't there, too", [k.it for k in message.members if k.is_required]
+    held = [k for k in message.members if k.is_encoded]
+    yield "Held as the encodings of its messages, which merge_from_slice reads", [k.it for k in held if k.is_list]
+    one = "Held as the encodings of its records, which merge_from_slice reads one after the other into one message"
+    yield one, [k.it for k in held if not k.is_list]
     yield "Written as groups", told("delimited")
     yield "Written in the order of their keys", [k.it for k in message.members if k.member_type.startswith("Ordered")]
     yield "Not written where it is the default", told("implicit")
@@ -206,7 +211,7 @@ def outer(message):
     return {"Holds", message.holder} | ({key} if key else set()) | ({"String"} if key == "Str" else set())
 
 
-def head_of_message(world, message):
+def head_of_message(world, message, enums):
     members = message.members
     names = set("Visitor kept DecodeContext DecodeError Tag Global".split())
     names = names.union(*[k.needs for k in members])
@@ -224,13 +229,14 @@ def head_of_message(world, message):
         names = {it for it in names if it not in ("Blank", "KeptFields") and not re.fullmatch(r"And\d*", it)} | {"Model"}
     has_set = bool(message.it.extension_range)
     names |= {"ExtensionSet"} if has_set else set()
-    words = ["field"] * any(not k.keeps for k in members) + ["field_kept"] * any(k.keeps for k in members)
-    words += ["keep"] if message.is_keeping else ["skip"]
-    own = {world.types[i] for k in members for i in k.inside}
-    made = [f"//! {message.name.full}, made of {message.name.file.name} by protoc-gen-buffa.", ""]
+    layers = ["field"] * any(not k.keeps for k in members) + ["field_kept"] * any(k.keeps for k in members)
+    layers += ["keep"] if message.is_keeping else ["skip"]
+    own = {i for k in members for i in k.inside}
+    made = [f"//! {message.name.full}, made of {message.name.file.shown} by protoc-gen-buffa.", ""]
     made += ["ghost use Rattle.std.proofs.Common.{lit<, refl};"]
-    made += ["ghost use Rattle.std.specs.Prelude.{codes};"] * has_set
-    made += [f"ghost use Rattle.{world.over}.specs.Members.{{{', '.join(words)}}};", ""]
+    prelude = words(message, enums) | ({"codes"} if has_set else set())
+    made += [f"ghost use Rattle.std.specs.Prelude.{{{', '.join(sorted(prelude))}}};"] * bool(prelude)
+    made += [f"ghost use Rattle.{world.over}.specs.Members.{{{', '.join(layers)}}};", ""]
     return made + uses(world, names, own)
 
 
@@ -352,10 +358,11 @@ def listed_form(message, messages):
     return made + [f"impl Formed for {name} {{", "    type Form = Listed;", "}"]
 
 
-def write_message(world, message, messages):
-    made = head_of_message(world, message) + [""] + struct(message) + [""]
+def write_message(world, message, messages, enums):
+    made = head_of_message(world, message, enums) + [""] + struct(message) + [""]
     made += held_form(message, messages) if message.held else listed_form(message, messages)
-    return "\n".join(made + (extension_set(message) if message.it.extension_range else [])) + "\n"
+    made += extension_set(message) if message.it.extension_range else []
+    return "\n".join(made + getters(message, enums)) + "\n"
 
 
 def cases(head, parts):
@@ -389,9 +396,8 @@ def write_enum(world, enum):
     name, values = enum.rust, enum.values
     numbers = {n for _, n, _ in values}
     plain = ["None", "Some", "if◌then◌else◌"] + ["negsuc"] * any(n < 0 for n in numbers) + ["pos"] * any(n >= 0 for n in numbers)
-    declared = path(".", "Rattle", world.crate, "specs.declared", world.module, snake(name), name)
-    variants = f"{declared}.TheVariants.{{{', '.join(v for v, _, _ in values)}}}"
-    made = [f"//! {enum.name.full}, made of {enum.name.file.name} by protoc-gen-buffa.", ""]
+    variants = f"{declared(world, enum.name.full)}.{{{', '.join(v for v, _, _ in values)}}}"
+    made = [f"//! {enum.name.full}, made of {enum.name.file.shown} by protoc-gen-buffa.", ""]
     made += [f"ghost use Rattle.std.specs.Prelude.{{{', '.join(plain)}, refl}};", "ghost use Rattle.std.specs.Ordering.{int_eq};", ""]
     made += uses(world, {"Blank", "Enumeration", "Global"}, ()) + [""]
     listing = [f"enum {enum.name.it.name} {{"] + [f"    {v.name} = {v.number};" for v in enum.name.it.value] + ["}"]

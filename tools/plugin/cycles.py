@@ -1,0 +1,76 @@
+"""Messages that hold themselves, or one another: what is held as encodings, and what can't be."""
+from google.protobuf.descriptor_pb2 import FieldDescriptorProto as Field
+
+from files import Name
+from world import MESSAGES
+
+
+class Edge:
+    """A field by which a message holds another."""
+
+    def __init__(self, world, message, at):
+        self.it = message.it.field[at]
+        self.field = Name(message.file, message.path + (2, at), f"{message.full}.{self.it.name}", self.it)
+        entry = world.entries.get(self.it.type_name)
+        value = entry.field[1] if entry else self.it
+        is_in_oneof = self.it.HasField("oneof_index") and not self.it.proto3_optional
+        is_told = self.field.full in world.left | world.fields["encoded"]
+        self.to = None if is_told or is_in_oneof or value.type not in MESSAGES else world.target(self.it)
+        self.is_group = not entry and (self.it.type == Field.TYPE_GROUP or self.field.full in world.fields["delimited"])
+
+
+def hold_as_encodings(world):
+    """Finds the fields that messages can't have as messages, since they would hold themselves: these are held as encodings, and told.
+
+    A message that holds itself in one list, one map or one message alone has a form of its own. Where it does in several,
+    all of these are held as encodings. Of messages that hold one another, the field that comes last on the way around is.
+    """
+    messages = [it for it in world.order if not hasattr(it.it, "value")]
+    edges = {it.full: [Edge(world, it, at) for at in range(len(it.it.field))] for it in messages}
+    for full, out in edges.items():
+        own = [e for e in out if e.to == full]
+        edges[full] = [e for e in out if e.to and e.to != full]
+        if len(own) > 1:
+            encode(world, [e for e in own if not e.is_group])
+    done = set()
+
+    def walk(full, above):
+        for edge in edges[full]:
+            if edge.to in above + [full] and not edge.is_group:
+                encode(world, [edge])
+            elif edge.to not in done and edge.to not in above + [full]:
+                walk(edge.to, above + [full])
+        done.add(full)
+
+    for message in messages:
+        if message.full not in done:
+            walk(message.full, [])
+
+
+def encode(world, edges):
+    """Holds what is behind these fields as encodings."""
+    for edge in edges:
+        world.encoded.add(edge.field.full)
+        if not world.is_mapped(edge.to):
+            world.tell(f"{edge.field.at()}: it is held as encodings, since {edge.to} would hold itself otherwise")
+
+
+def see_no_cycle(world, messages):
+    """Refuses what is left of messages that hold themselves: groups, which have no encodings of their own."""
+    done = set()
+
+    def walk(full, above):
+        if full in above:
+            path = " in ".join(reversed(above[above.index(full) :] + [full]))
+            why = f"it holds itself ({path}), other than as one list, one map or one message, and is written by hand, as Tree is"
+            messages[full].name.refuse(f"{why}, or a group in between is left out", "leave=NAME leaves out the field NAME")
+        for member in messages[full].members:
+            for inner in member.inside:
+                if inner in messages and inner not in done:
+                    walk(inner, above + [full])
+        done.add(full)
+
+    for full in messages:
+        if full not in done:
+            world.tries(walk, full, [])
+            done.add(full)

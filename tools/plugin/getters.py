@@ -1,0 +1,140 @@
+"""A getter for each member with a declared default: what the member holds, or the default where nothing is there."""
+from google.protobuf.descriptor_pb2 import FieldDescriptorProto as Field
+
+from files import clean
+
+ESCAPES = {"n": 10, "r": 13, "t": 9, '"': 34, "'": 39, "\\": 92}
+TEXTS = (Field.TYPE_STRING, Field.TYPE_BYTES)
+
+
+def unescaped(text):
+    """The bytes of a default of bytes, which a descriptor has with octal escapes."""
+    made, at = [], 0
+    while at < len(text):
+        if text[at] != "\\":
+            made += text[at].encode()
+            at += 1
+        elif text[at + 1 : at + 2] in ESCAPES:
+            made.append(ESCAPES[text[at + 1]])
+            at += 2
+        else:
+            made.append(int(text[at + 1 : at + 4], 8))
+            at += 4
+    return made
+
+
+def is_plain(codes):
+    """Whether bytes are text that a literal has as it is."""
+    return all(32 <= it < 127 for it in codes)
+
+
+def literal(codes, is_text):
+    """Bytes as a literal of the language."""
+    if is_text and not is_plain(codes):
+        parts = [it if it.isascii() and it.isprintable() else f"\\u{{{ord(it):x}}}" for it in bytes(codes).decode()]
+        return '"' + "".join("\\" + it if it in '"\\' else it for it in parts) + '"'
+    parts = [chr(it) if 32 <= it < 127 else f"\\x{it:02x}" for it in codes]
+    return ("" if is_text else "b") + '"' + "".join("\\" + it if it in '"\\' else it for it in parts) + '"'
+
+
+def in_contract(codes):
+    """Bytes as contracts write them, and the words in that."""
+    if not codes:
+        return "[]", {"[]"}
+    if is_plain(codes):
+        return "(codes " + '"' + "".join("\\" + chr(it) if chr(it) in '"\\' else chr(it) for it in codes) + '")', {"codes"}
+    return f"({' ∷ '.join(map(str, codes))} ∷ [])", {"[]", "◌∷◌"}
+
+
+def scalar(member):
+    """The default of a number or a bool: as the language has it, as contracts have it, and the words in that."""
+    said = member.it.default_value
+    if member.it.type == Field.TYPE_BOOL:
+        word = "true" if said == "true" else "false"
+        return word, word, {word}
+    number = int(said)
+    if not member.rust.startswith("Option<i"):
+        return str(number), str(number), set()
+    word = "pos" if number >= 0 else "negsuc"
+    return str(number), f"({word} {number if number >= 0 else -number - 1})", {word}
+
+
+def variant(member, enums):
+    """The default of an enum: its type, and the value."""
+    full = member.it.type_name.lstrip(".")
+    return member.world.types[full], enums[full].by_name[member.it.default_value][1]
+
+
+def with_getter(message):
+    return [k for k in message.members if k.has_getter]
+
+
+def variants_used(message, enums):
+    """By their enums, the values that are defaults."""
+    found = {}
+    for member in with_getter(message):
+        if member.it.type == Field.TYPE_ENUM:
+            found.setdefault(member.it.type_name.lstrip("."), set()).add(variant(member, enums)[1])
+    return found
+
+
+def declared(world, full):
+    """The module in which contracts find the values of an enum."""
+    parts = world.module_of(full).split("::")
+    crate = world.crate if parts[0] == "crate" else parts[0]
+    return ".".join(["Rattle", crate, "specs.declared", *parts[1:], world.types[full], "TheVariants"])
+
+
+def words(message, enums):
+    """The words of std that the clauses of the getters have."""
+    found = {"◌≡◌", "unwrap_or"} if with_getter(message) else set()
+    for member in with_getter(message):
+        if member.it.type in TEXTS:
+            found |= {"option_map"} | in_contract(codes_of(member))[1] | ({"string_bytes"} if member.it.type == Field.TYPE_STRING else set())
+        elif member.it.type != Field.TYPE_ENUM:
+            found |= scalar(member)[2]
+    return found
+
+
+def codes_of(member):
+    said = member.it.default_value
+    return unescaped(said) if member.it.type == Field.TYPE_BYTES else list(said.encode())
+
+
+def text_getter(member, name):
+    """A getter of text or bytes: its type, its clause, and the lines of its body."""
+    codes, is_text = codes_of(member), member.it.type == Field.TYPE_STRING
+    part = "string_bytes" if is_text else "(λ it. it.items)"
+    clause = f"result.now ≡ unwrap_or (option_map {part} self.now.{member.in_contract}) {in_contract(codes)[0]}"
+    call = "as_str" if is_text else "as_slice"
+    body = [f"match &self.{name} {{", f"    Some(it) => it.{call}(),", f"    None => {literal(codes, is_text)},", "}"]
+    return "&str" if is_text else "&[u8]", clause, body
+
+
+def getter(member, enums):
+    """The getter of one member."""
+    name = member.name
+    if member.it.type in TEXTS:
+        rust, clause, body = text_getter(member, name)
+    else:
+        rust = member.rust[len("Option<") : -1]
+        if member.it.type == Field.TYPE_ENUM:
+            value, means = f"{rust}::{variant(member, enums)[1]}", variant(member, enums)[1]
+        else:
+            value, means, _ = scalar(member)
+        clause, body = f"result ≡ unwrap_or self.now.{member.in_contract} {means}", [f"self.{name}.unwrap_or({value})"]
+    made = [f"    /// `{name}`, or its default where it isn't there: {clean(member.default())}.", f"    pub fn {member.getter}(&self) -> {rust}"]
+    return made + [f"        ensures is {{ {clause} }}", "    {"] + [f"        {it}" for it in body] + ["    }"]
+
+
+def getters(message, enums):
+    """An impl with the getters of a message, if it has any."""
+    members = with_getter(message)
+    if not members:
+        return []
+    made = ["", f"impl {message.own} {{"]
+    uses = sorted(f"    ghost use {declared(message.world, full)}.{{{', '.join(sorted(of))}}};" for full, of in variants_used(message, enums).items())
+    made += uses + [""] * bool(uses)
+    for at, member in enumerate(members):
+        made += [""] * bool(at) + getter(member, enums)
+    return made + ["}"]

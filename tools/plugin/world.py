@@ -1,0 +1,178 @@
+"""What a run is told, and what it is of: its parameters, its files, and the names of their types."""
+import os
+import re
+
+from google.protobuf.descriptor_pb2 import FieldDescriptorProto as Field
+
+from files import File, Refused, clean
+from names import camel, is_free_type, snake
+
+# Parameters that are of a field.
+FIELD_KEYS = ("delimited", "encoded", "implicit", "optional", "ordered", "shared")
+MESSAGES = (Field.TYPE_MESSAGE, Field.TYPE_GROUP)
+PATH = re.compile(r"[a-z_][a-z0-9_]*(::[a-z_][a-z0-9_]*)*")
+
+
+class World:
+    """All that a run is told: its files, its parameters, and the name of the Rust type of each message and enum."""
+
+    def __init__(self, request):
+        self.refused, self.notes, self.types, self.encoded = [], [], {}, set()
+        self.read_parameters(request.parameter)
+        files = [File(it) for it in request.proto_file]
+        self.by_name = {it.name: it for it in files}
+        self.asked = [it for it in files if it.name in request.file_to_generate]
+        self.found = {it.full: it for f in files for it in f.messages + f.enums}
+        self.entries = {name: entry for f in files for name, entry in f.entries.items()}
+        self.see_names()
+        if self.refused:
+            raise all_of(self.refused)
+        self.order = self.reached()
+
+    def tries(self, make, *args):
+        """What a step makes, or nothing where it refuses: all refusals of a run are told at once."""
+        try:
+            return make(*args)
+        except Refused as it:
+            self.refused.append(it)
+            return None
+
+    def tell(self, line):
+        """Says on standard error what is read or left in another way than the .proto has it."""
+        self.notes.append(f"protoc-gen-buffa: {line}\n")
+
+    def read_parameters(self, text):
+        self.crate, self.module, self.over, self.maps = folder_name(), "messages", "buffa", ""
+        self.left, self.dropping, self.opaque, self.costs, self.renamed, self.mapped = set(), set(), set(), {}, {}, {}
+        self.fields = {key: set() for key in FIELD_KEYS}
+        for word in filter(None, text.split(",")):
+            self.tries(self.read_parameter, word)
+
+    def read_parameter(self, word):
+        named = {"leave": self.left, "drop": self.dropping, "opaque": self.opaque, **self.fields}
+        key, _, value = word.partition("=")
+        cost = re.fullmatch(r"(.*):([1-9][0-9]*)", value)
+        renamed = re.fullmatch(r"([\w.]+):([A-Za-z_][A-Za-z0-9_]*)", value, re.ASCII)
+        file, _, path = value.rpartition("=")
+        if key in named:
+            named[key].add(value)
+        elif key == "cost" and cost:
+            self.costs[cost[1]] = int(cost[2])
+        elif key == "rename" and renamed:
+            self.renamed[renamed[1]] = renamed[2]
+        elif key == "M" and file and PATH.fullmatch(path):
+            self.mapped[file] = path
+        elif key in ("crate", "module") and re.fullmatch(r"[a-z_][a-z0-9_]*", value) or word == "module=":
+            setattr(self, key, value)
+        elif (key, value) in (("over", "buffa"), ("over", "buffa_fields"), ("maps", "ordered")):
+            setattr(self, key, value)
+        else:
+            raise Refused(f"no parameter is {clean(word)}: PLUGIN --help lists them all")
+
+    def see_names(self):
+        """Refuses a parameter that names nothing of the files, or nothing of its kind."""
+        messages = {it.full for f in self.by_name.values() for it in f.messages}
+        fields = {f"{full}.{f.name}" for full in messages for f in self.found[full].it.field}
+        enums = [it for f in self.by_name.values() for it in f.enums]
+        values = {f"{it.full}.{v.name}" for it in enums for v in it.it.value}
+        known = messages | fields | {it.full for it in enums} | {it.full for f in self.by_name.values() for it in f.others}
+        told = [("thing", name) for name in self.left - known] + [("file", name) for name in self.mapped if name not in self.by_name]
+        told += [("field", name) for name in set().union(*self.fields.values()) - fields]
+        told += [("message", name) for name in (self.dropping | self.opaque | set(self.costs)) - messages]
+        told += [("type, field or value", name) for name in set(self.renamed) - known - values]
+        for kind, name in sorted(told):
+            self.refused.append(Refused(f"no {kind} is called {clean(name)} in these files"))
+
+    def is_left(self, it):
+        return it.full in self.left or (it.outer is not None and self.is_left(it.outer))
+
+    def is_mapped(self, full):
+        """Whether a type is taken from a module that has it."""
+        return self.found[full].file.name in self.mapped
+
+    def target(self, field):
+        """The message or enum that a field holds, in a map too, where it isn't left out."""
+        entry = self.entries.get(field.type_name)
+        full = (entry.field[1] if entry else field).type_name.lstrip(".")
+        return full if full in self.found and not self.is_left(self.found[full]) else None
+
+    def reached(self):
+        """The messages and enums of the files asked for, and those that they use of imported files, what is left out apart."""
+        made = [it for f in self.asked for it in f.messages + f.enums if not self.is_left(it) and not self.is_mapped(it.full)]
+        seen, at = {it.full for it in made}, 0
+        while at < len(made):
+            message, at = made[at], at + 1
+            for field in getattr(message.it, "field", []):
+                name = f"{message.full}.{field.name}"
+                full = None if name in self.left | self.fields["encoded"] else self.target(field)
+                if full and full not in seen:
+                    seen.add(full)
+                    made.append(self.found[full])
+        return made
+
+    def wanted(self):
+        """The messages and enums to be written."""
+        return [it for it in self.order if not self.is_mapped(it.full)]
+
+    def name_types(self):
+        """Gives each its Rust name, those of other modules first, and sees that no two have one."""
+        files = {}
+        for it in sorted(self.order, key=lambda it: not self.is_mapped(it.full)):
+            self.tries(self.name_type, it, files)
+
+    def name_type(self, it, files):
+        names, at = [it.it.name], it.outer
+        while at:
+            names, at = [at.it.name] + names, at.outer
+        name = self.renamed.get(it.full) or "".join(camel(n) for n in names)
+        way = f"give it another name by --buffa_opt=rename={it.full}:NAME"
+        if it.full not in self.renamed:
+            name = is_free_type(name, "Enum" if hasattr(it.it, "value") else "Message")
+            if snake(name) in files and files[snake(name)].file.it.package != it.file.it.package:
+                other, name = files[snake(name)], camel(it.file.it.package.replace(".", "_")) + name
+                self.tell(f"{it.at()}: it is called {name}, since {other.full} has the shorter name")
+        elif is_free_type(name, "") != name or not name[0].isupper():
+            it.refuse(f"no type of one's own can be called {name}", "write another name behind its rename=, one in upper camel case")
+        if not self.module and snake(name) in ("lib", "main"):
+            it.refuse("its file would be the crate's root", f"say module=NAME, or {way}")
+        other = files.setdefault(snake(name), it)
+        if other is not it:
+            it.refuse(f"the name of its file is that of {other.full}, too", way)
+        self.types[it.full] = name
+
+    def type_of(self, field, full):
+        """The Rust type of a message or an enum that a field names."""
+        full = full.lstrip(".")
+        if full not in self.types:
+            field.refuse(f"its type {full} is left out")
+        return self.types[full]
+
+    def module_of(self, full):
+        """The module in which the type of a message or an enum is."""
+        file = snake(self.types[full])
+        if self.is_mapped(full):
+            return f"{self.mapped[self.found[full].file.name]}::{file}"
+        return "::".join(it for it in ("crate", self.module, file) if it)
+
+    def tell_passed(self):
+        """Says which services and extensions are passed over, but those that are left out by a parameter."""
+        for other in (it for f in self.asked for it in f.others if not self.is_left(it)):
+            if hasattr(other.it, "method"):
+                self.tell(f"{other.at()}: it is a service, and is passed over: messages and enums alone are written")
+            else:
+                self.tell(f"{other.at()}: it declares an extension, and is passed over: a program declares it by Extension::new")
+
+
+def folder_name():
+    """The crate's name where none is told: that of the folder in which the plugin runs, if it has a `src`."""
+    name = os.path.basename(os.getcwd())
+    return name if os.path.isdir("src") and re.fullmatch(r"[a-z_][a-z0-9_]*", name) else ""
+
+
+def all_of(refused):
+    """All refusals of a run as one, and at its end one parameter that leaves out all that can be left out."""
+    leave = sorted({name for it in refused for name in it.leave})
+    lines = list(dict.fromkeys(str(it) for it in refused))
+    if len(leave) > 1:
+        lines.append("All that can be left out is left out by --buffa_opt=" + ",".join(f"leave={name}" for name in leave))
+    return Refused("\n".join(lines))
