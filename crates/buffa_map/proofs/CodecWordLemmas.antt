@@ -17,7 +17,7 @@ use Rattle.buffa_wire.specs.Enums.{numbers, open_number}
 use Rattle.buffa_wire.specs.Message.{IsLimit, merged_in}
 use Rattle.buffa_wire.proofs.KeepLemmas.{content_no_limit}
 use Rattle.buffa_map.specs.Codec.{Reading, ValueFault, value_at}
-use Rattle.buffa_map.specs.CodecWords.{AtBytes, Never, Reader, ReadsAs, ReadsMessages, always, any_number, declared_number}
+use Rattle.buffa_map.specs.CodecWords.{AtBytes, Never, Reader, IsReadAs, MessagesAreReadAs, always, any_number, declared_number}
 use Rattle.buffa_map.specs.Enums.{closed_reading, open_reading}
 use Rattle.buffa_map.specs.Message.{meant, message_reading}
 use Rattle.buffa_map.specs.MessageFacts.{meant_no_limit}
@@ -34,7 +34,7 @@ module _ {V : Type 0} (blank : V) (w : WireType) (f : V → Content → Result (
   whole_if old (Err e) r h ok = rw (sym h) at ok
 
   plain_read : (at : Reader V) (Takes : List ℕ → Type 0) → ((old : V) (bs : List ℕ) → value_at (plain_reading blank w f undeclared memory) 0 old bs ≡ at old bs) →
-      ((bs : List ℕ) → memory ≡ true → IsOk (content_at w bs) → Takes bs) → ReadsAs (plain_reading blank w f undeclared memory) at Takes
+      ((bs : List ℕ) → memory ≡ true → IsOk (content_at w bs) → Takes bs) → IsReadAs (plain_reading blank w f undeclared memory) at Takes
   plain_read at Takes same takes = record {
     value = λ d old bs. same old bs;
     fault = λ d old bs left e. ((λ h. sym (same old bs) ∙ h), (λ h. same old bs ∙ h));
@@ -56,13 +56,13 @@ eight_value : {V : Type 0} (blank : V) (of : ℕ → V) (old : V) (bs : List ℕ
 eight_value blank of old bs (Ok p) h = rw h refl
 eight_value blank of old bs (Err e) h = rw h refl
 
-pub varints_read : {V : Type 0} (blank : V) (of : ℕ → V) → ReadsAs (number_reading Varint blank of) (always (varint_as of)) Never
+pub varints_read : {V : Type 0} (blank : V) (of : ℕ → V) → IsReadAs (number_reading Varint blank of) (always (varint_as of)) Never
 varints_read blank of = plain_read blank Varint (λ old c. Ok (of (number_in c), true)) false false (always (varint_as of)) Never (λ old bs. varint_value blank of old bs (varint_at bs) refl) (λ bs h. cc)
 
-pub fours_read : {V : Type 0} (blank : V) (of : ℕ → V) → ReadsAs (number_reading Fixed32 blank of) (always (four_as of)) Never
+pub fours_read : {V : Type 0} (blank : V) (of : ℕ → V) → IsReadAs (number_reading Fixed32 blank of) (always (four_as of)) Never
 fours_read blank of = plain_read blank Fixed32 (λ old c. Ok (of (number_in c), true)) false false (always (four_as of)) Never (λ old bs. four_value blank of old bs (taken 4 bs) refl) (λ bs h. cc)
 
-pub eights_read : {V : Type 0} (blank : V) (of : ℕ → V) → ReadsAs (number_reading Fixed64 blank of) (always (eight_as of)) Never
+pub eights_read : {V : Type 0} (blank : V) (of : ℕ → V) → IsReadAs (number_reading Fixed64 blank of) (always (eight_as of)) Never
 eights_read blank of = plain_read blank Fixed64 (λ old c. Ok (of (number_in c), true)) false false (always (eight_as of)) Never (λ old bs. eight_value blank of old bs (taken 8 bs) refl) (λ bs h. cc)
 
 -- ---- a length and so many bytes
@@ -95,13 +95,13 @@ bytes_there : (bs : List ℕ) (r : Result (List ℕ × List ℕ) DecodeError) �
 bytes_there bs (Ok p) h ok = rw h refl
 bytes_there bs (Err e) h ok = let none = rw h at ok in cc
 
-pub bytes_read : {V : Type 0} (blank : V) (of : List ℕ → V) → ReadsAs (bytes_reading blank of) (always (bytes_as of)) AtBytes
+pub bytes_read : {V : Type 0} (blank : V) (of : List ℕ → V) → IsReadAs (bytes_reading blank of) (always (bytes_as of)) AtBytes
 bytes_read blank of = plain_read blank LengthDelimited (λ old c. Ok (of (bytes_in c), true)) false true (always (bytes_as of)) AtBytes (λ old bs. bytes_value blank of old bs (delimited_at bs) refl) (λ bs h. bytes_there bs (delimited_at bs) refl)
 
-pub these_read : (blank : List ℕ) → ReadsAs (bytes_reading blank (λ b. b)) (always delimited_at) AtBytes
+pub these_read : (blank : List ℕ) → IsReadAs (bytes_reading blank (λ b. b)) (always delimited_at) AtBytes
 these_read blank = plain_read blank LengthDelimited (λ old c. Ok (bytes_in c, true)) false true (always delimited_at) AtBytes (λ old bs. these_value blank old bs (delimited_at bs) refl) (λ bs h. bytes_there bs (delimited_at bs) refl)
 
-pub strings_read : {V : Type 0} (blank : V) (of : List ℕ → V) → ReadsAs (string_reading blank of) (always (string_as of)) AtBytes
+pub strings_read : {V : Type 0} (blank : V) (of : List ℕ → V) → IsReadAs (string_reading blank of) (always (string_as of)) AtBytes
 strings_read blank of = plain_read blank LengthDelimited (λ old c. text_as of (bytes_in c) >>= known) false true (always (string_as of)) AtBytes (λ old bs. string_value blank of old bs (delimited_at bs) refl) (λ bs h. bytes_there bs (delimited_at bs) refl)
 
 -- ---- enums
@@ -109,14 +109,14 @@ closed_value : {E : Type 0} (of : ℤ → Option E) (blank old : ℤ) (bs : List
 closed_value of blank old bs (Ok n) h = rw h refl
 closed_value of blank old bs (Err e) h = rw h refl
 
-pub closed_read : {E : Type 0} (of : ℤ → Option E) (blank : ℤ) → ReadsAs (closed_reading (numbers of blank)) (declared_number of) Never
+pub closed_read : {E : Type 0} (of : ℤ → Option E) (blank : ℤ) → IsReadAs (closed_reading (numbers of blank)) (declared_number of) Never
 closed_read of blank = plain_read blank Varint (λ old c. Ok (cond (is_some (of (int32_of (number_in c)))) (int32_of (number_in c), true) (old, false))) true false (declared_number of) Never (λ old bs. closed_value of blank old bs (varint_at bs) refl) (λ bs h. cc)
 
 open_value : {E : Type 0} (of : ℤ → Option E) (old : Bool × ℤ) (bs : List ℕ) (r : Result (ℕ × List ℕ) DecodeError) → varint_at bs ≡ r → value_at (open_reading of) 0 old bs ≡ always (any_number of) old bs
 open_value of old bs (Ok n) h = rw h refl
 open_value of old bs (Err e) h = rw h refl
 
-pub open_read : {E : Type 0} (of : ℤ → Option E) → ReadsAs (open_reading of) (always (any_number of)) Never
+pub open_read : {E : Type 0} (of : ℤ → Option E) → IsReadAs (open_reading of) (always (any_number of)) Never
 open_read of = plain_read (open_number of (pos 0)) Varint (λ old c. Ok (open_number of (int32_of (number_in c)), true)) false false (always (any_number of)) Never (λ old bs. open_value of old bs (varint_at bs) refl) (λ bs h. cc)
 
 -- ---- messages
@@ -132,7 +132,7 @@ module _ {V : Type 0} (blank : V) (merged : ℕ → V → List ℕ → Option V)
   no_limit_in d old bs f (inr (inr (room, c, rest, x, t, h, inl same))) l = meant_no_limit (merged_in merged d old (bytes_in c)) x h (subst IsLimit same l)
   no_limit_in d old bs f (inr (inr (room, c, rest, x, t, h, inr other))) l = other l
 
-  pub messages_read : ReadsMessages (message_reading blank merged cost) merged cost
+  pub messages_read : MessagesAreReadAs (message_reading blank merged cost) merged cost
   messages_read = record {
     too_deep = λ old bs. refl;
     no_bytes = λ d old bs f h. rw h refl;

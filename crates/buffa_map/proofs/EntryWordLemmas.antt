@@ -29,7 +29,8 @@ use Rattle.buffa_wire.specs.Records.{Datum, bytes}
 use Rattle.buffa_map.specs.Codec.{Reading, value_at, value_need}
 use Rattle.buffa_map.specs.Entry.{FaultOf, IsEntry, IsEntryField, blanks, entry_field_at, field_need, need_at, need_of}
 use Rattle.buffa_map.specs.EntryWords.{EntriesAreFields, EntriesAreMerged, EntriesNeed, PairsAreLists, RefusedEntriesStay, RulesAreMet, RunsAreEntries}
-use Rattle.buffa_map.specs.Merge.{MergesEntry, ReadsRun, RefusesRun, Rules, State, kept_of_entry, kept_of_run, unknown_cost}
+use Rattle.buffa_map.specs.Fields.{EntryFieldTakesMemory}
+use Rattle.buffa_map.specs.Merge.{EntryTakesMemory, MergesEntry, ReadsRun, RefusesRun, Rules, State, kept_of_entry, kept_of_run, unknown_cost}
 use Rattle.buffa_map.specs.Pairs.{SamePairs, put}
 use Rattle.buffa_map.specs.Parts.{RefusesParts}
 use Rattle.buffa_map.specs.Run.{ArePaid, EntryRecord, IsRecord, fold_entries, step, undeclared}
@@ -211,6 +212,17 @@ module _ {K V : Type 0} (r : Rules K V) where
         not_kept r old.pairs old.records old.left bs e rest is s left (record { entry = h; pays = pays }) known old.records left UnknownFieldLimitExceeded refl (omega arith) (omega arith) refl (λ ne. (keeps, none, refl, refl)) (λ out. cc);
   }
 
+  no_field_takes : (rest : List ℕ) {P : Type 0} → r.key.takes_memory ≡ false → r.val.takes_memory ≡ false → EntryFieldTakesMemory r.key r.val r.depth rest → P
+  no_field_takes rest key val (inl (more, tag, (takes, room, whole))) = let no : false ≡ true = sym key ∙ takes in cc
+  no_field_takes rest key val (inr (more, tag, (takes, room, whole))) = let no : false ≡ true = sym val ∙ takes in cc
+
+  put_only : (left : BudgetLeft) (bs : List ℕ) → r.key.takes_memory ≡ false → r.val.takes_memory ≡ false → r.keeps_undeclared ≡ false → EntryTakesMemory r left bs OutOfMemory →
+      (e : List ℕ) × (rest : List ℕ) × (s : MapEntry K V) × (delimited_at bs ≡ Ok (e, rest)) × IsEntry r.key r.val r.depth e s × (s.known ≡ true)
+  put_only left bs key val drops (e, rest, is, inl (keeps, may, some)) = let no : false ≡ true = sym drops ∙ keeps in cc
+  put_only left bs key val drops (e, rest, is, inr (room, inl field)) = no_field_takes field.1 key val field.4
+  put_only left bs key val drops (e, rest, is, inr (room, inr (s, h, inl known))) = (e, rest, s, is, h, known)
+  put_only left bs key val drops (e, rest, is, inr (room, inr (s, h, inr (keeps, more)))) = let no : false ≡ true = sym drops ∙ keeps in cc
+
   refused_entries_stay : RefusedEntriesStay r
   refused_entries_stay = record {
     pairs = λ old new bs tail f h. h.pairs;
@@ -219,6 +231,7 @@ module _ {K V : Type 0} (r : Rules K V) where
     unread = λ old new bs e rest tail f h ne is. let t = agree_ok (delimited_at bs) (e, rest) (delimited_sound bs) is in h.unread.past ne e rest (t.0, t.1, t.2);
     most = λ old new bs tail f h. elim h.spent.units [ inl same ↦ (omega (arith, same), h.spent.most) | inr paid ↦ (omega (arith, paid.0), h.spent.most) ];
     memory = λ old new bs tail h. let k = h.memory refl in (k.0, k.1, k.2);
+    put = λ old new bs tail h key val drops. put_only old.left bs key val drops (h.memory refl);
   }
 
   -- ---- a record in front of a run

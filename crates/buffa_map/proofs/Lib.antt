@@ -31,3 +31,4 @@ pub mod LowLemmas
 pub mod ReaderRules
 pub mod CodecWordLemmas
 pub mod EntryWordLemmas
+pub mod FieldWordLemmas

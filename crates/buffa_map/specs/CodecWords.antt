@@ -31,7 +31,7 @@ any_number of bs = int32_at bs >>= (λ n. Ok ((is_some (of n.0), n.0), n.1))
 
 -- A codec reads what this reader reads, at each depth, and tells its faults. Memory may run out only where Takes says so,
 -- and nothing of a budget is spent.
-pub record ReadsAs {V : Type 0} (codec : Reading V) (at : Reader V) (Takes : List ℕ → Type 0) : Type 0 where
+pub record IsReadAs {V : Type 0} (codec : Reading V) (at : Reader V) (Takes : List ℕ → Type 0) : Type 0 where
   pub value : (d : ℕ) (old : V) (bs : List ℕ) → value_at codec d old bs ≡ at old bs
   pub fault : (d : ℕ) (old : V) (bs : List ℕ) (left : BudgetLeft) (f : DecodeError) → RefusesValue codec.nested codec d old bs left f ↔ (at old bs ≡ Err f)
   pub memory : (d : ℕ) (bs : List ℕ) → ReadingTakesMemory codec d bs → Takes bs
@@ -56,7 +56,7 @@ WritesAs {V} codec wire encoding = (codec.wire ≡ wire) × ((v : V) → codec.e
 
 -- A codec reads messages: where a level is left, a length and so many bytes, of which merged makes a new value of the one
 -- that stood, one level deeper, and which cost so much. A limit's error is told only where that isn't left, or no level is.
-pub record ReadsMessages {V : Type 0} (codec : Reading V) (merged : ℕ → V → List ℕ → Option V) (cost : ℕ → List ℕ → BudgetLeft) : Type 0 where
+pub record MessagesAreReadAs {V : Type 0} (codec : Reading V) (merged : ℕ → V → List ℕ → Option V) (cost : ℕ → List ℕ → BudgetLeft) : Type 0 where
   pub too_deep : (old : V) (bs : List ℕ) → value_at codec 0 old bs ≡ Err RecursionLimitExceeded
   pub no_bytes : (d : ℕ) (old : V) (bs : List ℕ) (f : DecodeError) → delimited_at bs ≡ Err f → value_at codec (suc d) old bs ≡ Err f
   pub merges : (d : ℕ) (old new : V) (bs b rest : List ℕ) → delimited_at bs ≡ Ok (b, rest) → merged d old b ≡ Some new → value_at codec (suc d) old bs ≡ Ok ((new, true), rest)

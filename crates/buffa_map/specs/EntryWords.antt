@@ -84,7 +84,8 @@ module _ {K V : Type 0} (r : Rules K V) where
         left.unknown ≡ 0 → RefusesEntry r old bs (state old.pairs old.records left) rest UnknownFieldLimitExceeded
 
   -- What a refused entry leaves: the pairs and the records. A fault of one that is there spends its units, also where its
-  -- value is a message, and leaves what follows it unread. Memory runs out only where a length and so many bytes are there.
+  -- value is a message, and leaves what follows it unread. Memory runs out only where a length and so many bytes are there,
+  -- and where no codec takes memory only where the pair is put, or the entry kept.
   pub record RefusedEntriesStay : Type 0 where
     pub pairs : (old new : State K V) (bs tail : List ℕ) (f : DecodeError) → RefusesEntry r old bs new tail f → new.pairs ≡ old.pairs
     pub records : (old new : State K V) (bs tail : List ℕ) (f : DecodeError) → RefusesEntry r old bs new tail f → new.records ≡ old.records
@@ -96,6 +97,8 @@ module _ {K V : Type 0} (r : Rules K V) where
         (new.left.memory ≤ old.left.memory) × (new.left.unknown ≤ old.left.unknown)
     pub memory : (old new : State K V) (bs tail : List ℕ) → RefusesEntry r old bs new tail OutOfMemory →
         (e : List ℕ) × (rest : List ℕ) × (delimited_at bs ≡ Ok (e, rest))
+    pub put : (old new : State K V) (bs tail : List ℕ) → RefusesEntry r old bs new tail OutOfMemory → r.key.takes_memory ≡ false → r.val.takes_memory ≡ false →
+        r.keeps_undeclared ≡ false → (e : List ℕ) × (rest : List ℕ) × (s : MapEntry K V) × (delimited_at bs ≡ Ok (e, rest)) × IsEntry r.key r.val r.depth e s × (s.known ≡ true)
 
   -- A run is its entries, each behind a tag of the field's number: no bytes are a run that changes nothing, and a record in
   -- front of a run is merged first. A run is refused at the first record that is: its tag, its number, its wire type, or its

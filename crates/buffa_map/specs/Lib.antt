@@ -23,3 +23,4 @@ pub mod Pinned
 pub mod PinnedEncodings
 pub mod CodecWords
 pub mod EntryWords
+pub mod FieldWords

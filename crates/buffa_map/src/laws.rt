@@ -1,4 +1,5 @@
-//! All laws of map fields, handed on; those of entries, runs, sizes and rewrites are in `map_laws.rt`.
+//! All laws of map fields, handed on; those of entries, runs, sizes and rewrites are in `map_laws.rt`, and what the
+//! words of contracts are in the words of bytes and lists is in `guide_laws.rt`.
 
 ghost use Rattle.std.specs.Prelude.{◌≡◌, ◌↔◌, List, Some, true};
 ghost use Rattle.buffa_bytes.specs.Pinned.{IsCopied, SameIsOne};
@@ -9,6 +10,12 @@ ghost use Rattle.buffa_map.specs.Pairs.{means};
 pub use crate::codec_laws::{
     codecs_are_these, coded_is_this, scalars_are_these, scalars_cost_so_much,
     strings_and_bytes_are_these,
+};
+pub use crate::guide_laws::{
+    entries_are_their_fields, enums_are_read_so, fields_are_their_records,
+    message_fields_are_their_records, messages_are_read_so, other_values_are_written_so,
+    pairs_are_lists, rewrites_are_their_fields, runs_are_their_entries, scalars_are_read_so,
+    scalars_are_written_so, strings_and_bytes_are_read_so, texts_numbers_and_defaults_are_these,
 };
 use crate::map_codec::{Map, MapStorage, MapValueDecodeStatus, RewriteError, StableOrder};
 pub use crate::map_laws::{
