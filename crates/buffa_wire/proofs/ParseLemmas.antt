@@ -10,7 +10,8 @@ use Rattle.buffa_bytes.specs.Number.{IsNumber}
 use Rattle.buffa_bytes.proofs.VarintLemmas.{IsVarint-varint_encoding, Spells, varint_encoding-spells}
 use Rattle.buffa_wire.specs.Records.{Datum, varint, fixed32, fixed64, bytes, group, Records, no_records, one, records_height, datum_height}
 use Rattle.buffa_wire.specs.Encoding.{wire_of, payload_encoding, fields_encoding, tagged_encoding}
-use Rattle.buffa_wire.specs.Parse.{Parse, IsPayload, Fits, FitsDatum, InRange, DatumInRange}
+use Rattle.buffa_wire.specs.Parse.{Parse, IsPayload, InRange, DatumInRange}
+use Rattle.buffa_wire.specs.ReadableFacts.{Readable, ReadableDatum}
 use Rattle.buffa_bytes.proofs.FieldLemmas.{is_tag, onward}
 
 -- ---- more depth changes nothing
@@ -29,12 +30,12 @@ mutual
 
 -- ---- the encoding of records is theirs
 mutual
-  pub encoding_parses : (rs : Records) (d : ℕ) → Fits rs → records_height rs ≤ d → Parse d (fields_encoding rs) rs
+  pub encoding_parses : (rs : Records) (d : ℕ) → Readable rs → records_height rs ≤ d → Parse d (fields_encoding rs) rs
   encoding_parses no_records d h k = refl
   encoding_parses (one n x rs) d h k =
       (tagged_encoding n x, fields_encoding rs, (tag_encoding n (wire_of x), payload_encoding n x, is_tag n (wire_of x) h.0, payload_parses x d n h.0 h.1 (omega arith), refl), encoding_parses rs d h.2 (omega arith), refl)
 
-  payload_parses : (x : Datum) (d n : ℕ) → IsNumber n → FitsDatum x → datum_height x ≤ d → IsPayload d n x (payload_encoding n x)
+  payload_parses : (x : Datum) (d n : ℕ) → IsNumber n → ReadableDatum x → datum_height x ≤ d → IsPayload d n x (payload_encoding n x)
   payload_parses (varint v) d n i h k = IsVarint-varint_encoding v h
   payload_parses (fixed32 v) d n i h k = (refl, sym (from_le_bytes-to_le_bytes_4 v h))
   payload_parses (fixed64 v) d n i h k = (refl, sym (from_le_bytes-to_le_bytes_8 v h))

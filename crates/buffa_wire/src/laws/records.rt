@@ -11,7 +11,7 @@ ghost use Rattle.buffa_bytes.specs.Join.{Join};
 ghost use Rattle.buffa_wire.specs.Records.{Datum, Held, height, records_of};
 ghost use Rattle.buffa_wire.specs.View.{datum_of, record_of};
 ghost use Rattle.buffa_wire.specs.Encoding.{records_encoding};
-ghost use Rattle.buffa_wire.specs.Parse.{FieldFault, Fits, InRange, Parse, RecordsFault, TakesField, field_count};
+ghost use Rattle.buffa_wire.specs.Parse.{AreValid, FieldFault, Fits, InRange, Parse, RecordsFault, TakesField, field_count};
 ghost use Rattle.buffa_wire.specs.RecordReading.{field_at, list_at};
 ghost use Rattle.buffa_wire.specs.BudgetLeft.{BudgetLeft, nothing, plus};
 ghost use Rattle.buffa_wire.specs.Cache.{Cache, advanced, appended};
@@ -88,12 +88,12 @@ pub fn one_reading()
         Parse d bs (records_of qs) → rs ≡ qs }
 {}
 
-/// The encoding of records that fit is theirs, at a depth that their groups need, and it is read back with an
+/// The encoding of valid records that fit is theirs, at a depth that their groups need, and it is read back with an
 /// unknown field left for each. The encoding of any records whose data are in range is that of no others.
 pub fn encodings_are_read_back()
-    ensures parses { (d : ℕ) (rs : List (ℕ × Datum)) → Fits (records_of rs) → height rs ≤ d →
+    ensures parses { (d : ℕ) (rs : List (ℕ × Datum)) → AreValid (records_of rs) → Fits (records_of rs) → height rs ≤ d →
         Parse d (records_encoding rs) (records_of rs) }
-    ensures read { (d s : ℕ) (rs : List (ℕ × Datum)) → Fits (records_of rs) → height rs ≤ d →
+    ensures read { (d s : ℕ) (rs : List (ℕ × Datum)) → AreValid (records_of rs) → Fits (records_of rs) → height rs ≤ d →
         field_count (records_of rs) ≤ s → list_at d s (records_encoding rs) ≡ Ok rs }
     ensures theirs { (d : ℕ) (rs qs : List (ℕ × Datum)) → InRange (records_of rs) →
         Parse d (records_encoding rs) (records_of qs) → qs ≡ rs }
