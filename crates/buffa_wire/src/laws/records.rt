@@ -89,12 +89,14 @@ pub fn one_reading()
 {}
 
 /// The encoding of valid records that fit is theirs, at a depth that their groups need, and it is read back with an
-/// unknown field left for each. The encoding of any records whose data are in range is that of no others.
+/// unknown field left for each. All records fit whose encoding is shorter than 2^64 bytes. The encoding of any records
+/// whose data are in range is that of no others.
 pub fn encodings_are_read_back()
     ensures parses { (d : ℕ) (rs : List (ℕ × Datum)) → AreValid (records_of rs) → Fits (records_of rs) → height rs ≤ d →
         Parse d (records_encoding rs) (records_of rs) }
     ensures read { (d s : ℕ) (rs : List (ℕ × Datum)) → AreValid (records_of rs) → Fits (records_of rs) → height rs ≤ d →
         field_count (records_of rs) ≤ s → list_at d s (records_encoding rs) ≡ Ok rs }
+    ensures fits { (rs : List (ℕ × Datum)) → length (records_encoding rs) < 2 ^ 64 → Fits (records_of rs) }
     ensures theirs { (d : ℕ) (rs qs : List (ℕ × Datum)) → InRange (records_of rs) →
         Parse d (records_encoding rs) (records_of qs) → qs ≡ rs }
 {}
