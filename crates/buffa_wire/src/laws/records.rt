@@ -2,12 +2,14 @@
 //! is the law.
 
 ghost use Rattle.std.specs.Prelude.{◌≡◌, ◌≢◌, ◌-◌, ◌^◌, ◌≤◌, ◌↔◌, ◌∷◌, [], ◌++◌, ℕ, ℤ, List, Some, None, Ok, Err, true, false, length, pos, slice_index, ◌+◌, ◌<◌};
+ghost use Rattle.std.specs.List.{AllByRecursion};
 ghost use Rattle.std.specs.Option.{option_and_then};
 ghost use Rattle.buffa_bytes.specs.declared.wire_type.WireType.{WireType};
 ghost use Rattle.buffa_bytes.specs.declared.error.DecodeError.{DecodeError};
 ghost use Rattle.buffa_bytes.specs.declared.error.DecodeError.TheVariants.{OutOfMemory, UnknownFieldLimitExceeded};
 ghost use Rattle.buffa_bytes.specs.Field.{SomeField, IsTag};
 ghost use Rattle.buffa_bytes.specs.Join.{Join};
+ghost use Rattle.buffa_bytes.specs.Varint.{IsByte};
 ghost use Rattle.buffa_wire.specs.Records.{Datum, Held, height, records_of};
 ghost use Rattle.buffa_wire.specs.View.{datum_of, record_of};
 ghost use Rattle.buffa_wire.specs.Encoding.{records_encoding};
@@ -74,12 +76,14 @@ pub fn constants()
 {}
 
 /// Records are what fields say: bytes are a join of fields exactly where they are the fields of records, and
-/// more depth changes nothing.
+/// more depth changes nothing. Such records have numbers that a field may have, and data in range.
 pub fn records_are_fields()
     ensures fields { (d : ℕ) (bs : List ℕ) → Join (SomeField d) bs
         ↔ ((rs : List (ℕ × Datum)) × Parse d bs (records_of rs)) }
     ensures deeper { (c d : ℕ) (bs : List ℕ) (rs : List (ℕ × Datum)) → c ≤ d → Parse c bs (records_of rs) →
         Parse d bs (records_of rs) }
+    ensures valid { (d : ℕ) (bs : List ℕ) (rs : List (ℕ × Datum)) → AllByRecursion IsByte bs →
+        Parse d bs (records_of rs) → AreValid (records_of rs) }
 {}
 
 /// Bytes are the fields of one list of records, at any depths.
