@@ -29,3 +29,4 @@ pub mod PinEncodingLemmas
 pub mod InsertLemmas
 pub mod LowLemmas
 pub mod ReaderRules
+pub mod StayLemmas
