@@ -3,6 +3,7 @@ use Rattle.std.proofs.Common.{◌≡◌, ℕ, ◌<◌, ◌≤◌, true, Option, 
 use Rattle.std.specs.List.{AllByRecursion}
 use Rattle.buffa_wire.specs.Encoding.{records_encoding}
 use Rattle.buffa_wire.specs.Parse.{Fits}
+use Rattle.buffa_wire.specs.ReadableFacts.{readable}
 use Rattle.buffa_wire.specs.Records.{records_of}
 use Rattle.buffa_wire.specs.Takes.{merged_of}
 use Rattle.buffa_fields.specs.Layout.{Layout}
@@ -13,7 +14,7 @@ use Rattle.buffa_fields.specs.WrittenFacts.{height_low, of_any_number, taken_wri
 module _ {M X : Type 0} (l : Layout M X) (owes : l.Owes) (exact : l.Exact) (sound : l.sound ≡ true) where
   low : (d : ℕ) (old v w : X) → Fits (records_of (l.records v)) → l.normal v → merged_of l.takes d old (records_encoding (l.records v)) ≡ Some w → l.levels v ≤ d
   low d old v w fits normal h =
-      let all = taken_written l.takes d (l.records v) old w fits h in
+      let all = taken_written l.takes d (l.records v) old w (readable (records_of (l.records v)) (l.valid owes sound v normal) fits) h in
       let parts = subst (λ z. AllByRecursion (IsTakenWritten l.takes d) z) (l.in_two v) all in
       let own = front_holds (IsTakenWritten l.takes d) (l.own v) (l.kept v) parts in
       let kept = back_holds (IsTakenWritten l.takes d) (l.own v) (l.kept v) parts in

@@ -3,7 +3,8 @@ use Rattle.std.proofs.Common.{◌≡◌, ℕ, ◌==◌, ◌≤◌, ◌&&◌, ◌
 use Rattle.std.proofs.lemmas.Bool.{and_parts}
 use Rattle.std.specs.List.{AllByRecursion}
 use Rattle.buffa_wire.specs.Encoding.{records_encoding}
-use Rattle.buffa_wire.specs.Parse.{Fits}
+use Rattle.buffa_wire.specs.Parse.{AreValid}
+use Rattle.buffa_wire.specs.ReadableFacts.{Readable, valid_behind, valid_front, valid_joined}
 use Rattle.buffa_wire.specs.Records.{Datum, height, records_of}
 use Rattle.buffa_wire.specs.Takes.{ReadsBack, Taker}
 use Rattle.buffa_fields.specs.Keep.{AllNumbers}
@@ -11,7 +12,7 @@ use Rattle.buffa_fields.specs.Layout.{Layout, ReadsBackTo, Seen, Shape, both_tak
 use Rattle.buffa_fields.specs.LayoutFacts.{more_twice, seen_field}
 use Rattle.buffa_fields.specs.LevelFacts.{back_holds, both_numbers, firsts, front_holds, others_low}
 use Rattle.buffa_fields.specs.Levels.{IsTakenWritten}
-use Rattle.buffa_fields.specs.PairFacts.{both_back, fits_both, joined_back, sound_parts}
+use Rattle.buffa_fields.specs.PairFacts.{both_back, readable_both, joined_back, sound_parts}
 use Rattle.buffa_fields.specs.PlaceFacts.{others_back}
 
 -- ---- lists
@@ -19,9 +20,19 @@ pub three_and_kept : (front mine behind kept : List (ℕ × Datum)) → front ++
 three_and_kept front mine behind kept =
     ap (λ (z : List (ℕ × Datum)). front ++ z) (sym (append_assoc mine behind kept)) ∙ sym (append_assoc front (mine ++ behind) kept)
 
-pub fits_joined : (xs ys : List (ℕ × Datum)) → Fits (records_of xs) → Fits (records_of ys) → Fits (records_of (xs ++ ys))
-fits_joined [] ys a b = b
-fits_joined (x ∷ xs) ys a b = (a.0, a.1, fits_joined xs ys a.2 b)
+pub readable_joined : (xs ys : List (ℕ × Datum)) → Readable (records_of xs) → Readable (records_of ys) → Readable (records_of (xs ++ ys))
+readable_joined [] ys a b = b
+readable_joined (x ∷ xs) ys a b = (a.0, a.1, readable_joined xs ys a.2 b)
+
+-- records in front of others and behind them are valid where all of these are
+pub valid_among : {M B : Type 0} (k : ℕ) (l : Layout M B) (v : B) (mine : List (ℕ × Datum)) → AreValid (records_of (l.records v)) → AreValid (records_of mine) →
+    AreValid (records_of (l.front k v ++ (mine ++ (l.behind k v ++ l.kept v))))
+valid_among k l v mine all own =
+    let two = subst (λ z. AreValid (records_of z)) (l.in_two v) all in
+    let kept = valid_behind (l.own v) (l.kept v) two in
+    let others = subst (λ z. AreValid (records_of z)) (l.own_is k v) (valid_front (l.own v) (l.kept v) two) in
+    valid_joined (l.front k v) (mine ++ (l.behind k v ++ l.kept v)) (valid_front (l.front k v) (l.behind k v) others)
+    (valid_joined mine (l.behind k v ++ l.kept v) own (valid_joined (l.behind k v) (l.kept v) (valid_behind (l.front k v) (l.behind k v) others) kept))
 
 pub all_joined : (P : ℕ × Datum → Type 0) (xs ys : List (ℕ × Datum)) → AllByRecursion P xs → AllByRecursion P ys → AllByRecursion P (xs ++ ys)
 all_joined P [] ys a b = b
@@ -71,15 +82,15 @@ module _ {M P A B : Type 0} (s : Shape P A) (k : ℕ) where
 
   -- ---- encodings that read back
   module _ (l : Layout M B) (owes : ReadsBackTo s × l.Owes) (ok : (is_number k && not (l.declares k) && (s.whole && l.sound)) ≡ true) where
-    pub back_among : (d : ℕ) (v : A × B) → Fits (records_of (l.front k v.1 ++ (s.records k v.0 ++ l.behind k v.1))) → s.normal v.0 × l.normal v.1 × AllNumbers (λ n. not (n == k)) (l.kept v.1) → s.levels v.0 ≤ d → l.levels v.1 ≤ d →
+    pub back_among : (d : ℕ) (v : A × B) → Readable (records_of (l.front k v.1 ++ (s.records k v.0 ++ l.behind k v.1))) → s.normal v.0 × l.normal v.1 × AllNumbers (λ n. not (n == k)) (l.kept v.1) → s.levels v.0 ≤ d → l.levels v.1 ≤ d →
         ReadsBack (both_take k s.takes l.takes) (λ n. n == k || l.declares n) d (s.blank, l.blank) (records_encoding (l.front k v.1 ++ (s.records k v.0 ++ l.behind k v.1))) (v.0, l.bare v.1)
     back_among d v fits normal low below =
         let sound = sound_parts k (l.declares k) (s.whole && l.sound) ok in
         let its = (and_parts s.whole l.sound sound.2).1 in
         let all : Taker (A × B) = both_take k s.takes l.takes in
-        let each = fits_both (l.front k v.1) (s.records k v.0 ++ l.behind k v.1) fits in
-        let inner = fits_both (s.records k v.0) (l.behind k v.1) each.1 in
-        let own = subst (λ z. Fits (records_of z)) (sym (l.own_is k v.1)) (fits_joined (l.front k v.1) (l.behind k v.1) each.0 inner.1) in
+        let each = readable_both (l.front k v.1) (s.records k v.0 ++ l.behind k v.1) fits in
+        let inner = readable_both (s.records k v.0) (l.behind k v.1) each.1 in
+        let own = subst (λ z. Readable (records_of z)) (sym (l.own_is k v.1)) (readable_joined (l.front k v.1) (l.behind k v.1) each.0 inner.1) in
         let one = others_back k l.declares sound.1 all l.takes (λ d a b u n w p off h. rw (off, h) refl) d s.blank l.blank (l.only_front k v.1) (records_encoding (l.front k v.1)) (l.back_front owes.1 its k d v.1 own normal.1 below) in
         let two = both_back k s.takes l.takes l.declares sound.1 d s.blank v.0 (l.only_front k v.1) (l.bare v.1) (s.records k v.0) (l.behind k v.1)
         (owes.0.back k sound.0 d v.0 inner.0 normal.0 low) (l.back_behind owes.1 its k d v.1 own normal.1 below) in

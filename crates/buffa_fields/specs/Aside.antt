@@ -10,7 +10,8 @@ use Rattle.buffa_bytes.specs.Gives.{FullOnlyIf}
 use Rattle.buffa_bytes.specs.Number.{IsNumber}
 use Rattle.buffa_wire.specs.BudgetLeft.{BudgetLeft}
 use Rattle.buffa_wire.specs.Message.{FieldRefused}
-use Rattle.buffa_wire.specs.Parse.{Fits, IsPayload}
+use Rattle.buffa_wire.specs.Parse.{AreValid, IsPayload}
+use Rattle.buffa_wire.specs.ReadableFacts.{Readable}
 use Rattle.buffa_wire.specs.Records.{Datum, records_of}
 use Rattle.buffa_wire.specs.Encoding.{records_encoding, wire_of}
 use Rattle.buffa_wire.specs.Takes.{Asks, IsTaken, Need, ReadsBack, Stays, Taker}
@@ -52,10 +53,11 @@ pub record IsExactKeeping {P X : Type 0} (s : Shape P X) (a : Aside X) : Type 0 
   pub least : (k d : ℕ) (v : X) → s.normal v → AllByRecursion (IsTakenWritten a.takes d) (s.records k v) → s.levels v ≤ d
   pub aside : (k d : ℕ) (x : Datum) → a.IsAside x → IsTakenWritten a.takes d (k, x) → a.levels x ≤ d
 
--- The value's own records read back to it, and nothing of them is put aside; what may have been put aside is so again, and
+-- The records of a normal value are valid. The value's own records read back to it, and nothing of them is put aside; what may have been put aside is so again, and
 -- the value stays. Its levels are exact, where those in it are.
 pub record ReadsBackBeside {P X : Type 0} (s : Shape P X) (a : Aside X) : Type 0 where
-  pub back : (k : ℕ) → IsNumber k → (d : ℕ) (v : X) → Fits (records_of (s.records k v)) → s.normal v → s.levels v ≤ d →
+  pub valid : (k : ℕ) → IsNumber k → (v : X) → s.normal v → AreValid (records_of (s.records k v))
+  pub back : (k : ℕ) → IsNumber k → (d : ℕ) (v : X) → Readable (records_of (s.records k v)) → s.normal v → s.levels v ≤ d →
       ReadsBack a.takes (λ n. n == k) d (s.blank, []) (records_encoding (s.records k v)) (v, [])
   pub again : (k d : ℕ) (v : X) (x : Datum) (p : List ℕ) → a.IsAside x → a.levels x ≤ d → IsPayload d k x p →
       a.takes d (v, []) k (wire_of x) p ≡ Some (v, (k, x) ∷ [])

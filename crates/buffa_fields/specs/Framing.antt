@@ -9,7 +9,8 @@ use Rattle.buffa_bytes.specs.Number.{IsNumber}
 use Rattle.buffa_bytes.specs.WireType.{same_wire}
 use Rattle.buffa_wire.specs.BudgetLeft.{BudgetLeft, nothing, plus, units}
 use Rattle.buffa_wire.specs.Encoding.{payload_encoding, records_encoding, wire_of}
-use Rattle.buffa_wire.specs.Parse.{Fits, FitsDatum}
+use Rattle.buffa_wire.specs.Parse.{AreValid, Fits, IsValidDatum}
+use Rattle.buffa_wire.specs.ReadableFacts.{ReadableDatum}
 use Rattle.buffa_wire.specs.Records.{Datum, datum_height, records_of}
 use Rattle.buffa_wire.specs.Takes.{Asks, Need, Taker}
 use Rattle.buffa_fields.specs.Levels.{AreExactLevels}
@@ -28,7 +29,7 @@ unfoldable pub each_cost_as : WireType → ℕ → (ℕ → List ℕ → BudgetL
 each_cost_as wire each cost d n w bs = if same_wire wire w then plus (units each) (cost d bs) else nothing
 
 -- ---- messages in fields
--- What is known of a type of messages: how they are merged and written, and that they read back.
+-- What is known of a type of messages: how they are merged and written, and that normal ones have valid records and read back.
 pub record Messages (X : Type 0) : Type 1 where
   pub merged : ℕ → X → List ℕ → Option X
   pub blank : X
@@ -39,6 +40,7 @@ pub record Messages (X : Type 0) : Type 1 where
   pub as_records : (v : X) → encoding v ≡ records_encoding (records v)
   -- what is merged is fields
   pub fields : (d : ℕ) (v u : X) (b : List ℕ) → merged d v b ≡ Some u → Join (SomeField d) b
+  pub valid : (v : X) → normal v → AreValid (records_of (records v))
   pub back : (d : ℕ) (v : X) → Fits (records_of (records v)) → normal v → levels v ≤ d → merged d blank (encoding v) ≡ Some v
 
 -- How a field holds a message.
@@ -78,9 +80,10 @@ pub record HoldsMessages (f : Frame) : Type 1 where
   -- a new message may take memory where one that stands may, and where it was read
   pub asks_more : (d n : ℕ) (w : WireType) (bs : List ℕ) → f.asks d n w bs → f.asks_new d n w bs
   pub asks_read : {X : Type 0} (merged : ℕ → X → List ℕ → Option X) (d n : ℕ) (old new : X) (bs p rest : List ℕ) → Payload d n f.wire p → bs ≡ p ++ rest → f.makes merged d old p ≡ Some new → f.asks_new d n f.wire bs
-  -- the record reads back to the message
-  pub back : {X : Type 0} (m : Messages X) (n : ℕ) → IsNumber n → (d : ℕ) (v : X) → FitsDatum (datum_in f m v) → f.Normal (m.normal v) (m.records v) → suc (m.levels v) ≤ d →
+  -- the record of a normal message is valid, and reads back to the message
+  pub valid : {X : Type 0} (m : Messages X) (v : X) → f.Normal (m.normal v) (m.records v) → IsValidDatum (datum_in f m v)
+  pub back : {X : Type 0} (m : Messages X) (n : ℕ) → IsNumber n → (d : ℕ) (v : X) → ReadableDatum (datum_in f m v) → f.Normal (m.normal v) (m.records v) → suc (m.levels v) ≤ d →
       Payload d n f.wire (payload_encoding n (datum_in f m v)) × (f.makes m.merged d m.blank (payload_encoding n (datum_in f m v)) ≡ Some v)
   -- and only at a depth of one more than its levels, where these are exact
-  pub least : {X : Type 0} (m : Messages X) → AreExactLevels m.merged m.encoding m.records m.normal m.levels → (n : ℕ) → IsNumber n → (d : ℕ) (old v u : X) → FitsDatum (datum_in f m v) → datum_height (datum_in f m v) ≤ d →
+  pub least : {X : Type 0} (m : Messages X) → AreExactLevels m.merged m.encoding m.records m.normal m.levels → (n : ℕ) → IsNumber n → (d : ℕ) (old v u : X) → ReadableDatum (datum_in f m v) → datum_height (datum_in f m v) ≤ d →
       f.Normal (m.normal v) (m.records v) → f.makes m.merged d old (payload_encoding n (datum_in f m v)) ≡ Some u → suc (m.levels v) ≤ d

@@ -12,7 +12,8 @@ use Rattle.buffa_bytes.specs.WireType.{same_wire}
 use Rattle.buffa_wire.proofs.SpentLemmas.{is_there}
 use Rattle.buffa_wire.specs.BudgetLeft.{BudgetLeft, plus, units}
 use Rattle.buffa_wire.specs.Encoding.{payload_encoding, records_encoding, wire_of}
-use Rattle.buffa_wire.specs.Parse.{Fits, FitsDatum}
+use Rattle.buffa_wire.specs.Parse.{AreValid}
+use Rattle.buffa_wire.specs.ReadableFacts.{Readable, ReadableDatum}
 use Rattle.buffa_wire.specs.Records.{Datum, datum_height, records_of}
 use Rattle.buffa_wire.specs.Takes.{ReadsBack, Stays, Taker}
 use Rattle.buffa_fields.specs.BackFacts.{no_pieces}
@@ -28,6 +29,7 @@ use Rattle.buffa_fields.specs.MemberRecords.{optional_records}
 use Rattle.buffa_fields.specs.Nested.{FitsInside, inside, message_levels, message_merged, taken_behind, taken_there}
 use Rattle.buffa_fields.specs.NestedFacts.{message_again}
 use Rattle.buffa_fields.specs.RepeatedNested.{messages_levels}
+use Rattle.buffa_fields.specs.ValidFacts.{element_valid, optional_valid}
 use Rattle.buffa_fields.specs.Values.{IfThere}
 
 module _ (f : Frame) (holds : HoldsMessages f) where
@@ -51,28 +53,34 @@ module _ (f : Frame) (holds : HoldsMessages f) where
     IsNormal v = f.Normal (m.normal v) (m.records v)
 
     -- ---- it reads back
-    again : (n : ℕ) → IsNumber n → (d : ℕ) (v : X) → FitsDatum (datum v) → IsNormal v → suc (m.levels v) ≤ d → Payload d n f.wire (payload_encoding n (datum v)) × (takes d m.blank n f.wire (payload_encoding n (datum v)) ≡ Some v)
+    again : (n : ℕ) → IsNumber n → (d : ℕ) (v : X) → ReadableDatum (datum v) → IsNormal v → suc (m.levels v) ≤ d → Payload d n f.wire (payload_encoding n (datum v)) × (takes d m.blank n f.wire (payload_encoding n (datum v)) ≡ Some v)
     unfolding taken_as
     again n number d v fits normal low = let a = holds.back m n number d v fits normal low in (a.0, rw (same_refl f.wire) a.1)
 
     spelled : (n : ℕ) (v : X) → tag_encoding n (wire_of (datum v)) ++ payload_encoding n (datum v) ≡ tag_encoding n f.wire ++ payload_encoding n (datum v)
     spelled n v = ap (λ w. tag_encoding n w ++ payload_encoding n (datum v)) (holds.wire_is (m.encoding v) (m.records v))
 
-    pub there_back : (n : ℕ) → IsNumber n → (d : ℕ) (v : Option X) → Fits (records_of (optional_records datum n v)) → IfThere IsNormal v → message_levels m.levels v ≤ d →
+    pub there_valid : (n : ℕ) → IsNumber n → (v : Option X) → IfThere IsNormal v → AreValid (records_of (optional_records datum n v))
+    there_valid = optional_valid datum IsNormal (holds.valid m)
+
+    pub behind_valid : (n : ℕ) → IsNumber n → (vs : List X) → AllByRecursion IsNormal vs → AreValid (records_of (element_records datum n vs))
+    behind_valid = element_valid datum IsNormal (holds.valid m)
+
+    pub there_back : (n : ℕ) → IsNumber n → (d : ℕ) (v : Option X) → Readable (records_of (optional_records datum n v)) → IfThere IsNormal v → message_levels m.levels v ≤ d →
         ReadsBack (taken_there m.blank takes) (λ k. k == n) d None (records_encoding (optional_records datum n v)) v
     unfolding optional_records
     there_back n number d None fits normal low = no_pieces (taken_there m.blank takes) (λ k. k == n) d None
     there_back n number d (Some v) fits normal low =
         inside_back takes m.blank datum m.levels IsNormal n number f.wire (λ v. payload_encoding n (datum v)) (spelled n) (again n number) d v fits.1 normal low
 
-    pub behind_back : (n : ℕ) → IsNumber n → (d : ℕ) (vs : List X) → Fits (records_of (element_records datum n vs)) → AllByRecursion IsNormal vs → messages_levels m.levels vs ≤ d →
+    pub behind_back : (n : ℕ) → IsNumber n → (d : ℕ) (vs : List X) → Readable (records_of (element_records datum n vs)) → AllByRecursion IsNormal vs → messages_levels m.levels vs ≤ d →
         ReadsBack (taken_behind m.blank takes) (λ k. k == n) d [] (records_encoding (element_records datum n vs)) vs
     behind_back n number d vs fits normal low =
         all_inside_back takes m.blank datum m.levels IsNormal n number f.wire (λ v. payload_encoding n (datum v)) (spelled n) (again n number) d vs fits normal low
 
     -- ---- how deep it nests
     module _ (exact : AreExactLevels m.merged m.encoding m.records m.normal m.levels) where
-      one_low : (d n : ℕ) (old v u : X) → IsNumber n → FitsDatum (datum v) → datum_height (datum v) ≤ d → IsNormal v → takes d old n (wire_of (datum v)) (payload_encoding n (datum v)) ≡ Some u → suc (m.levels v) ≤ d
+      one_low : (d n : ℕ) (old v u : X) → IsNumber n → ReadableDatum (datum v) → datum_height (datum v) ≤ d → IsNormal v → takes d old n (wire_of (datum v)) (payload_encoding n (datum v)) ≡ Some u → suc (m.levels v) ≤ d
       unfolding taken_as
       one_low d n old v u number fits low normal h =
           let same : same_wire f.wire (wire_of (datum v)) ≡ true = ap (same_wire f.wire) (holds.wire_is (m.encoding v) (m.records v)) ∙ same_refl f.wire in
@@ -101,6 +109,7 @@ delimited_holds = record {
   asks_read = λ merged d n old new bs p rest h split is.
       let u = delimited_alone d n LengthDelimited p rest bs refl h split in
       (refl, level_there merged d old new u.0 (ap (inside merged d old) (sym u.2) ∙ is), is_there (delimited_at bs) (u.0, rest) u.1);
+  valid = λ m v normal. tt;
   back = λ m n number d v fits normal low.
       message_again m.merged m.blank m.encoding m.levels (FitsInside m.normal m.records) (λ d v ok low. m.back d v ok.1 ok.0 low) n number d v fits normal low;
   least = λ m exact n number d old v u fits low normal is.
@@ -120,6 +129,7 @@ grouped_holds = record {
   asks_more = λ d n w bs may. (may.0, may.1, inl may.2);
   asks_read = λ merged d n old new bs p rest h split is.
       (refl, level_there merged d old new (group_body (d - 1) p) is, inr (is_there (skip_at d n StartGroup bs) rest (payload_taken d n StartGroup bs rest (p, h, split))));
+  valid = λ m v normal. m.valid v normal;
   back = λ m n number d v fits normal low.
       group_again m.merged m.blank m.encoding m.records m.levels m.normal m.as_records m.fields m.back n number d v fits normal low;
   least = λ m exact n number d old v u fits low normal is.

@@ -16,6 +16,7 @@ use Rattle.buffa_bytes.specs.Values.{tag_encoding}
 use Rattle.buffa_wire.specs.BudgetLeft.{BudgetLeft}
 use Rattle.buffa_wire.specs.Encoding.{records_encoding}
 use Rattle.buffa_wire.specs.Parse.{Fits}
+use Rattle.buffa_wire.specs.ReadableFacts.{Readable, readable_fits}
 use Rattle.buffa_wire.specs.Records.{Datum, records_of}
 use Rattle.buffa_bytes.proofs.FieldLemmas.{is_tag}
 use Rattle.buffa_fields.specs.Groups.{body_behind, body_step, group_body, group_merged}
@@ -84,12 +85,12 @@ inside_stays cost (suc d) n p x h = let e : suc d - 1 ≡ d = omega arith in rw 
 module _ {X : Type 0} (merged : ℕ → X → List ℕ → Option X) (blank : X) (encoding : X → List ℕ) (records : X → List (ℕ × Datum)) (level : X → ℕ) (Normal : X → Type 0)
     (as_records : (v : X) → encoding v ≡ records_encoding (records v)) (whole : (d : ℕ) (v u : X) (b : List ℕ) → merged d v b ≡ Some u → Join (SomeField d) b)
     (back : (d : ℕ) (v : X) → Fits (records_of (records v)) → Normal v → level v ≤ d → merged d blank (encoding v) ≡ Some v) (n : ℕ) (number : IsNumber n) where
-  pub group_again : (d : ℕ) (v : X) → Fits (records_of (records v)) → Normal v → suc (level v) ≤ d →
+  pub group_again : (d : ℕ) (v : X) → Readable (records_of (records v)) → Normal v → suc (level v) ≤ d →
       Payload d n StartGroup (records_encoding (records v) ++ tag_encoding n EndGroup) × (group_merged merged d blank n StartGroup (records_encoding (records v) ++ tag_encoding n EndGroup) ≡ Some v)
   unfolding group_merged Group
   group_again zero v fits normal low = absurd (omega arith)
   group_again (suc d) v fits normal low =
-      let is : merged d blank (records_encoding (records v)) ≡ Some v = ap (merged d blank) (sym (as_records v)) ∙ back d v fits normal (omega (arith, low)) in
+      let is : merged d blank (records_encoding (records v)) ≡ Some v = ap (merged d blank) (sym (as_records v)) ∙ back d v (readable_fits (records_of (records v)) fits) normal (omega (arith, low)) in
       let j = whole d blank v (records_encoding (records v)) is in
       let end = is_tag n EndGroup number in
       let e : suc d - 1 ≡ d = omega arith in (

@@ -4,6 +4,7 @@ use Rattle.std.specs.Prelude.{◌≡◌, ℕ, zero, suc, max, ◌==◌, ◌&&◌
 use Rattle.std.specs.List.{AllByRecursion}
 use Rattle.std.specs.Option.{option_map}
 use Rattle.std.proofs.Common.{◌∙◌, ap, arith, sym}
+use Rattle.std.proofs.lemmas.Bool.{and_parts}
 use Rattle.buffa_bytes.specs.Front.{check_wire}
 use Rattle.buffa_bytes.specs.declared.wire_type.WireType.TheVariants.{LengthDelimited}
 use Rattle.buffa_wire.specs.BudgetLeft.{BudgetLeft, nothing}
@@ -12,7 +13,7 @@ use Rattle.buffa_wire.specs.Parse.{Fits}
 use Rattle.buffa_wire.specs.Passes.{cap}
 use Rattle.buffa_wire.specs.Records.{Datum, bytes, records_of}
 use Rattle.buffa_wire.specs.Takes.{Need, Taker, cost_of, merged_of}
-use Rattle.buffa_fields.specs.AmongFacts.{back_among, least_mine, least_others, numbers_among, seen_among, three_and_kept}
+use Rattle.buffa_fields.specs.AmongFacts.{back_among, least_mine, least_others, numbers_among, seen_among, three_and_kept, valid_among}
 use Rattle.buffa_fields.specs.BackFacts.{no_pieces}
 use Rattle.buffa_fields.specs.Keep.{AllNumbers}
 use Rattle.buffa_fields.specs.Layout.{Layout, Shape, both_need, both_take, is_number, more, visited}
@@ -20,6 +21,7 @@ use Rattle.buffa_fields.specs.LayoutFacts.{more_none}
 use Rattle.buffa_fields.specs.Members.{field}
 use Rattle.buffa_fields.specs.Nested.{FitsInside}
 use Rattle.buffa_fields.specs.Nests.{Nest, Nests, nest, no_nest, first, inside_of, nest_list, nest_means, nest_of, own_of, parts_of}
+use Rattle.buffa_fields.specs.PairFacts.{sound_parts}
 use Rattle.buffa_fields.specs.Refusals.{RefusesNew, UnderAny}
 use Rattle.buffa_fields.specs.RepeatedNested.{MessagesTakeMemory, messages_cost, messages_levels, messages_records, messages_slots, messages_taken}
 use Rattle.buffa_fields.specs.RepeatedNestedFacts.{messages_stay}
@@ -79,6 +81,7 @@ through get l = record {
   in_two = l.in_two;
   kept_low = l.kept_low;
   Owes = l.Owes;
+  valid = l.valid;
   back = l.back;
   again = l.again;
   owes_both = l.owes_both;
@@ -144,6 +147,7 @@ owing l sound Fact so = record {
   in_two = l.in_two;
   kept_low = l.kept_low;
   Owes = Fact × l.Owes;
+  valid = λ owes ok v normal. l.valid owes.1 (so owes.0 ok) v normal;
   back = λ owes ok d v fits normal low. l.back owes.1 (so owes.0 ok) d v fits normal low;
   again = λ owes ok d v normal low. l.again owes.1 (so owes.0 ok) d v normal low;
   owes_both = λ j front behind. (front.0, l.owes_both j front.1 behind);
@@ -211,6 +215,9 @@ among {M} {P} {A} {B} k get s l = let f : Layout M (A × B) = field k get s l in
   in_two = λ v. three_and_kept (l.front k v.1) (s.records k v.0) (l.behind k v.1) (l.kept v.1);
   kept_low = f.kept_low;
   Owes = f.Owes;
+  valid = λ owes ok v normal.
+      let sound = sound_parts k (l.declares k) (s.whole && l.sound) ok in
+      valid_among k l v.1 (s.records k v.0) (l.valid owes.1 (and_parts s.whole l.sound sound.2).1 v.1 normal.1) (owes.0.valid k sound.0 v.0 normal.0);
   back = λ owes ok d v fits normal low. back_among s k l owes ok d v fits normal (omega (arith, low)) (omega (arith, low));
   again = f.again;
   owes_both = λ j front behind. behind;

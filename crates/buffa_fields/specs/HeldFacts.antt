@@ -15,13 +15,15 @@ use Rattle.buffa_wire.specs.ByField.{cost_by, merged_by}
 use Rattle.buffa_wire.specs.Encoding.{records_encoding}
 use Rattle.buffa_wire.specs.Message.{IsMerged, MergesBytes, cost_of_payload, merged_in}
 use Rattle.buffa_wire.specs.Passes.{cap}
-use Rattle.buffa_wire.specs.Parse.{Fits}
+use Rattle.buffa_bytes.specs.Number.{IsNumber}
+use Rattle.buffa_wire.specs.Parse.{AreValid, Fits}
+use Rattle.buffa_wire.specs.ReadableFacts.{readable}
 use Rattle.buffa_wire.specs.Records.{Datum, bytes, records_of}
 use Rattle.buffa_wire.specs.Takes.{Need, Taker, answer, cost_of, front_of, merged_of}
 use Rattle.buffa_fields.specs.Keep.{AllNumbers}
 use Rattle.buffa_fields.specs.Layout.{Layout, ReadsBackTo, Shape, both_need, both_take}
 use Rattle.buffa_fields.specs.LayoutFacts.{reads_back}
-use Rattle.buffa_fields.specs.AmongFacts.{all_joined}
+use Rattle.buffa_fields.specs.AmongFacts.{all_joined, valid_among}
 use Rattle.buffa_fields.specs.Held.{among, blank_nest, held_shape, inside_levels, AreNormalInside, inside_records, inside_shape, inside_slots, is_sound, nest_cost, nest_encoding, nest_layout, nest_levels, nest_merged, nest_need, IsNormalNest, nest_records, nest_slots, nest_takes, through}
 use Rattle.buffa_fields.specs.LevelFacts.{back_holds, firsts, front_holds, others_low, some_mapped}
 use Rattle.buffa_fields.specs.LevelKindFacts.{messages_low, messages_numbers}
@@ -32,6 +34,7 @@ use Rattle.buffa_fields.specs.Nests.{Nest, Nests, nest, no_nest, first, nest_lis
 use Rattle.buffa_fields.specs.PairFacts.{sound_parts}
 use Rattle.buffa_fields.specs.RepeatedNested.{messages_cost, messages_levels, messages_records, messages_slots, messages_taken}
 use Rattle.buffa_fields.specs.RepeatedNestedFacts.{messages_back}
+use Rattle.buffa_fields.specs.ValidFacts.{element_valid}
 use Rattle.buffa_fields.specs.ValueFacts.{delimited_whole}
 use Rattle.buffa_fields.specs.WrittenFacts.{height_low, of_any_number, taken_written}
 
@@ -113,6 +116,16 @@ module _ {M X : Type 0} (l : Layout M X) (k each : ℕ) where
   inside_levels_are no_nest = refl
   inside_levels_are (first t ns) = ap (max (suc (nest_levels l k each t))) (inside_levels_are ns)
 
+  -- the records of a normal message are valid
+  inside_valid : IsNumber k → (ns : Nests X) → AreValid (records_of (inside_records l k each ns))
+  inside_valid number no_nest = tt
+  inside_valid number (first t ns) = (number, tt, inside_valid number ns)
+
+  nest_valid : l.sound ≡ true → (t : Nest X) → IsNormalNest l k each t → AreValid (records_of (nest_records l k each t))
+  nest_valid sound (nest v ns) normal =
+      let number = (sound_parts k (l.declares k) (true && l.sound) (is_sound l k each normal.0.0 sound)).0 in
+      valid_among k l v (inside_records l k each ns) (l.valid normal.0.1 sound v normal.2) (inside_valid number ns)
+
   -- at a level, those inside are normal, and a level less deep
   abbrev IsBelow : ℕ → Nest X → Type 0
   IsBelow d t = FitsInside (IsNormalNest l k each) (nest_records l k each) t × (suc (nest_levels l k each t) ≤ d)
@@ -133,6 +146,7 @@ module _ {M X : Type 0} (l : Layout M X) (k each : ℕ) where
 
       level_back : ReadsBackTo level_shape
       level_back = record {
+        valid = λ n number vs normal. element_valid (λ t. bytes (nest_encoding l k each t)) (IsBelow d) (λ t ok. tt) n number vs normal;
         back = λ n number e vs fits normal low. messages_back (λ _. m) (blank_nest l k each) (nest_encoding l k each) (nest_levels l k each) (IsBelow d) (λ e v ok _. below v ok) n number e vs fits normal low;
         exact = λ none. absurd none;
       }
@@ -193,7 +207,8 @@ module _ {M X : Type 0} (l : Layout M X) (k each : ℕ) where
       nest_low (nest v ns) d old u fits normal h =
           let e = nest_encoding l k each (nest v ns) in
           let parts = some_mapped nest_of (merged_of all_takes d (parts_of old) e) u (sym (nest_merged_is d old e) ∙ h) in
-          let all = taken_written all_takes d (nest_records l k each (nest v ns)) (parts_of old) parts.0 fits parts.1 in
+          let read = readable (records_of (nest_records l k each (nest v ns))) (nest_valid sound (nest v ns) normal) fits in
+          let all = taken_written all_takes d (nest_records l k each (nest v ns)) (parts_of old) parts.0 read parts.1 in
           let inner = back_holds (IsTakenWritten all_takes d) (l.front k v) (inside_records l k each ns ++ (l.behind k v ++ l.kept v)) all in
           let below = firsts k all_takes inside_takes (λ a. a) d (λ v n w p is. (λ x. (x, v.1), rw is refl)) (inside_records l k each ns) (l.behind k v ++ l.kept v) (inside_numbers ns) inner in
           omega (arith, all_low ns d normal.1 below, own_low d v ns normal all)
@@ -213,6 +228,7 @@ module _ {M X : Type 0} (l : Layout M X) (k each : ℕ) where
   -- ---- the member
   pub held_back : (sound : l.sound ≡ true) {P : Type 0} (says : P → List (Nest X)) → ReadsBackTo (held_shape l k each says)
   held_back sound says = record {
+    valid = λ n number vs normal. element_valid (λ t. bytes (nest_encoding l k each t)) (FitsInside (IsNormalNest l k each) (nest_records l k each)) (λ t ok. tt) n number vs normal;
     back = λ n number d vs fits normal low.
         messages_back (nest_merged l k each) (blank_nest l k each) (nest_encoding l k each) (nest_levels l k each) (FitsInside (IsNormalNest l k each) (nest_records l k each)) (λ d v ok low. nest_back sound d v ok.1 ok.0 low) n number d vs fits normal low;
     exact = λ exact. record {

@@ -10,6 +10,7 @@ use Rattle.std.specs.List.{AllByRecursion}
 use Rattle.std.specs.Option.{option_map}
 use Rattle.buffa_bytes.specs.Front.{delimited_at, skip_at}
 use Rattle.buffa_bytes.specs.Gives.{◌>>=◌}
+use Rattle.buffa_bytes.specs.Number.{IsNumber}
 use Rattle.buffa_bytes.specs.WireType.{same_wire}
 use Rattle.buffa_bytes.specs.declared.error.DecodeError.{DecodeError}
 use Rattle.buffa_bytes.specs.declared.wire_type.WireType.{WireType}
@@ -19,7 +20,8 @@ use Rattle.buffa_wire.specs.ByField.{cost_by, merged_by}
 use Rattle.buffa_wire.specs.Encoding.{records_encoding}
 use Rattle.buffa_wire.specs.Message.{IsMerged, MergesBytes}
 use Rattle.buffa_wire.specs.Passes.{cap}
-use Rattle.buffa_wire.specs.Parse.{Fits}
+use Rattle.buffa_wire.specs.Parse.{AreValid, Fits}
+use Rattle.buffa_wire.specs.ReadableFacts.{readable}
 use Rattle.buffa_wire.specs.Records.{Datum, bytes, records_of}
 use Rattle.buffa_wire.specs.Takes.{Need, Taker, answer, cost_of, front_of, merged_of}
 use Rattle.buffa_map.specs.Codec.{Reading, Writing}
@@ -27,7 +29,7 @@ use Rattle.buffa_map.specs.Encoding.{AllHold, entry_encoding}
 use Rattle.buffa_map.specs.Entry.{need_at, need_of}
 use Rattle.buffa_map.specs.Scalars.{delimited_writing}
 use Rattle.buffa_map.specs.declared.map_entry.MapEntry.{MapEntry}
-use Rattle.buffa_fields.specs.AmongFacts.{all_joined}
+use Rattle.buffa_fields.specs.AmongFacts.{all_joined, valid_among}
 use Rattle.buffa_fields.specs.Entries.{entry_cost, entry_taken, whole_entry_in}
 use Rattle.buffa_fields.specs.Held.{among, is_sound, through}
 use Rattle.buffa_fields.specs.Keep.{AllNumbers}
@@ -42,6 +44,7 @@ use Rattle.buffa_fields.specs.NestedMapFacts.{pairs_back}
 use Rattle.buffa_fields.specs.NestedMaps.{pair_levels, pair_records, pair_slots}
 use Rattle.buffa_fields.specs.OrderedFacts.{ascending_put}
 use Rattle.buffa_fields.specs.PairFacts.{sound_parts}
+use Rattle.buffa_fields.specs.ValidFacts.{pair_valid}
 use Rattle.buffa_fields.specs.WrittenFacts.{height_low, of_any_number, taken_written}
 use Rattle.buffa_fields.specs.HeldMap.{AreNormalKids, IsNormalMapNest, Keys, KeysReadBack, kids_needed_at, all_reading, kids_taken_at, blank_map_nest, keys_by, held_map_shape, kids_shape, kid_levels, kid_reading, kid_records, kid_slots, kids_meant, map_nest_cost, map_nest_encoding, map_nest_layout, map_nest_levels, map_nest_merged, map_nest_need, map_nest_records, map_nest_slots, map_nest_takes}
 use Rattle.buffa_fields.specs.MapNests.{Kids, MapNest, kid, kid_list, kids_in-kid_list, kids_mean, kids_of, map_nest, map_nest_means, map_nest_of, nest_of-parts_of, no_kid, map_own_of, map_parts_of}
@@ -160,6 +163,16 @@ module _ {K M X : Type 0} (keys : Keys K) (l : Layout M X) (k each : ℕ) where
   all_below d no_kid normal low = tt
   all_below d (kid j t ks) normal low = (normal.0, (normal.1, omega (arith, low)), all_below d ks normal.2 (omega (arith, low)))
 
+  -- ---- the records of a normal message are valid
+  kids_valid : IsNumber k → (ks : Kids K X) → AreValid (records_of (kid_records keys l k each ks))
+  kids_valid number no_kid = tt
+  kids_valid number (kid j t ks) = (number, tt, kids_valid number ks)
+
+  pub map_nest_valid : l.sound ≡ true → (t : Nests) → IsNormalMapNest keys l k each t → AreValid (records_of (map_nest_records keys l k each t))
+  map_nest_valid sound (map_nest v ks) normal =
+      let number = (sound_parts k (l.declares k) (true && l.sound) (is_sound l k each normal.0.0 sound)).0 in
+      valid_among k l v (kid_records keys l k each ks) (l.valid normal.0.1 sound v normal.2) (kids_valid number ks)
+
   -- ---- reading back
   module _ (owed : KeysReadBack keys) (sound : l.sound ≡ true) where
     -- at a level, where the kids read back a level below
@@ -172,6 +185,7 @@ module _ {K M X : Type 0} (keys : Keys K) (l : Layout M X) (k each : ℕ) where
 
       level_back : ReadsBackTo level_shape
       level_back = record {
+        valid = λ n number ps normal. pair_valid n number keys.writing (map_nest_encoding keys l k each) ps;
         back = λ n number e ps fits normal low.
             pairs_back (λ _. m) (blank_map_nest keys l k each) (λ _ _. nothing) (map_nest_encoding keys l k each) (map_nest_levels keys l k each) (IsBelow d) (λ e v ok _. below v ok)
             keys.reading keys.writing owed.wires puts keys.Normal owed.back n number e ps fits normal.0 (ascending_put owed.total ps normal.1) low;
@@ -245,7 +259,8 @@ module _ {K M X : Type 0} (keys : Keys K) (l : Layout M X) (k each : ℕ) where
       nest_low (map_nest v ks) fits normal d old u h =
           let e = map_nest_encoding keys l k each (map_nest v ks) in
           let parts = some_mapped map_nest_of (merged_of (kids_taken_at keys l k each) d (map_parts_of old) e) u (sym (map_nest_merged_is d old e) ∙ h) in
-          let all = taken_written (kids_taken_at keys l k each) d (map_nest_records keys l k each (map_nest v ks)) (map_parts_of old) parts.0 fits parts.1 in
+          let read = readable (records_of (map_nest_records keys l k each (map_nest v ks))) (map_nest_valid sound (map_nest v ks) normal) fits in
+          let all = taken_written (kids_taken_at keys l k each) d (map_nest_records keys l k each (map_nest v ks)) (map_parts_of old) parts.0 read parts.1 in
           omega (arith, kids_low d v ks (kids_least ks normal.1.0) all, own_low d v ks normal all)
 
       kids_least : (ks : Kids K X) → AreNormalKids keys l k each ks → AllHold keys.Normal (FitsInside IsNormalLeast (map_nest_records keys l k each)) (kid_list ks)
@@ -258,6 +273,7 @@ module _ {K M X : Type 0} (keys : Keys K) (l : Layout M X) (k each : ℕ) where
   -- ---- the member
   pub held_map_back : (owed : KeysReadBack keys) (sound : l.sound ≡ true) {P : Type 0} (says : P → List (K × Nests)) → ReadsBackTo (held_map_shape keys l k each says)
   held_map_back owed sound says = record {
+    valid = λ n number ps normal. pair_valid n number keys.writing (map_nest_encoding keys l k each) ps;
     back = λ n number d ps fits normal low.
         pairs_back (map_nest_merged keys l k each) (blank_map_nest keys l k each) (map_nest_cost keys l k each) (map_nest_encoding keys l k each) (map_nest_levels keys l k each) (FitsInside (IsNormalMapNest keys l k each) (map_nest_records keys l k each))
         (λ d v ok low. map_nest_back owed sound d v ok.1 ok.0 low) keys.reading keys.writing owed.wires puts keys.Normal owed.back n number d ps fits normal.0 (ascending_put owed.total ps normal.1) low;

@@ -15,10 +15,11 @@ use Rattle.buffa_wire.specs.BudgetLeft.{BudgetLeft, Lacks, Pays, PaysAtMost, not
 use Rattle.buffa_wire.specs.ByField.{cost_by, merged_by}
 use Rattle.buffa_wire.specs.Encoding.{records_encoding}
 use Rattle.buffa_wire.specs.Message.{IsMerged, MergesBytes, cost_of_payload, merged_in}
-use Rattle.buffa_wire.specs.Parse.{Fits}
+use Rattle.buffa_wire.specs.Parse.{AreValid, Fits}
+use Rattle.buffa_wire.specs.ReadableFacts.{Readable, readable}
 use Rattle.buffa_wire.specs.Records.{Datum, bytes, records_of}
 use Rattle.buffa_wire.specs.Takes.{Need, ReadsBack, Taker, answer, cost_of, front_of, merged_of}
-use Rattle.buffa_fields.specs.AmongFacts.{all_joined}
+use Rattle.buffa_fields.specs.AmongFacts.{all_joined, valid_among}
 use Rattle.buffa_fields.specs.BackFacts.{no_pieces}
 use Rattle.buffa_fields.specs.Chains.{Chain, chain_end, chain_link, chain_inside, chain_means, chain_of, chain_own, chain_parts, chain_with_parts}
 use Rattle.buffa_fields.specs.Held.{among, through}
@@ -33,6 +34,7 @@ use Rattle.buffa_fields.specs.MemberRecords.{optional_records}
 use Rattle.buffa_fields.specs.Nested.{FitsInside, inside, message_cost, message_levels, message_merged, message_records, or_blank, taken_there}
 use Rattle.buffa_fields.specs.NestedFacts.{message_again}
 use Rattle.buffa_fields.specs.PairFacts.{sound_parts}
+use Rattle.buffa_fields.specs.ValidFacts.{optional_valid}
 use Rattle.buffa_fields.specs.ValueFacts.{delimited_whole}
 use Rattle.buffa_fields.specs.Values.{IfThere}
 use Rattle.buffa_fields.specs.WrittenFacts.{height_low, of_any_number, taken_written}
@@ -40,7 +42,7 @@ use Rattle.buffa_fields.specs.WrittenFacts.{height_low, of_any_number, taken_wri
 -- ---- a message that may be absent
 module _ {X : Type 0} (merged : ℕ → X → List ℕ → Option X) (blank : X) (encoding : X → List ℕ) (level : X → ℕ) (Normal : X → Type 0) where
   -- it reads back
-  pub there_reads_back : ((d : ℕ) (v : X) → Normal v → level v ≤ d → merged d blank (encoding v) ≡ Some v) → (n : ℕ) → IsNumber n → (d : ℕ) (v : Option X) → Fits (records_of (message_records encoding n v)) → IfThere Normal v → message_levels level v ≤ d →
+  pub there_reads_back : ((d : ℕ) (v : X) → Normal v → level v ≤ d → merged d blank (encoding v) ≡ Some v) → (n : ℕ) → IsNumber n → (d : ℕ) (v : Option X) → Readable (records_of (message_records encoding n v)) → IfThere Normal v → message_levels level v ≤ d →
       ReadsBack (taken_there blank (message_merged merged)) (λ m. m == n) d None (records_encoding (message_records encoding n v)) v
   unfolding optional_records
   there_reads_back back n number d None fits normal low = no_pieces (taken_there blank (message_merged merged)) (λ m. m == n) d None
@@ -123,6 +125,13 @@ module _ {M X : Type 0} (l : Layout M X) (k : ℕ) where
   chain_cost_is zero b = costs_alike (chain_need l k (λ _. nothing)) all_need zero zero_need b
   chain_cost_is (suc d) b = costs_alike (chain_need l k (chain_cost l k d)) all_need (suc d) (suc_need d) b
 
+  -- ---- the records of a normal message are valid
+  chain_valid : l.sound ≡ true → (t : Chain X) → IsNormalChain l k t → AreValid (records_of (chain_records l k t))
+  chain_valid sound (chain_end v) normal = valid_among k l v [] (l.valid normal.0.1 sound v normal.1) tt
+  chain_valid sound (chain_link v t) normal =
+      let number = (sound_parts k (l.declares k) (true && l.sound) (is_chain_sound l k normal.0.0 sound)).0 in
+      valid_among k l v ((k, bytes (chain_encoding l k t)) ∷ []) (l.valid normal.0.1 sound v normal.2) (number, tt, tt)
+
   -- ---- reading back
   -- at a level, the message inside is normal, and a level less deep
   abbrev IsBelow : ℕ → Chain X → Type 0
@@ -139,6 +148,7 @@ module _ {M X : Type 0} (l : Layout M X) (k : ℕ) where
 
       level_back : ReadsBackTo level_shape
       level_back = record {
+        valid = λ n number v normal. optional_valid (λ t. bytes (chain_encoding l k t)) (IsBelow d) (λ t ok. tt) n number v normal;
         back = λ n number e v fits normal low. there_reads_back (λ _. m) (blank_chain l k) (chain_encoding l k) (chain_levels l k) (IsBelow d) (λ e v ok _. below v ok) n number e v fits normal low;
         exact = λ none. absurd none;
       }
@@ -190,17 +200,18 @@ module _ {M X : Type 0} (l : Layout M X) (k : ℕ) where
         (of_any_number all_takes d (λ n. n == k || l.declares n) (l.kept v) kept)
 
     -- of the records of a message that was merged, each was taken
-    all_taken : (t : Chain X) (d : ℕ) (old u : Chain X) → Fits (records_of (chain_records l k t)) → chain_merged l k d old (chain_encoding l k t) ≡ Some u → AllByRecursion (IsTakenWritten all_takes d) (chain_records l k t)
-    all_taken t d old u fits h =
+    all_taken : (t : Chain X) (d : ℕ) (old u : Chain X) → Readable (records_of (chain_records l k t)) → chain_merged l k d old (chain_encoding l k t) ≡ Some u → AllByRecursion (IsTakenWritten all_takes d) (chain_records l k t)
+    all_taken t d old u read h =
         let e = chain_encoding l k t in
         let parts = some_mapped chain_of (merged_of all_takes d (chain_parts old) e) u (sym (chain_merged_is d old e) ∙ h) in
-        taken_written all_takes d (chain_records l k t) (chain_parts old) parts.0 fits parts.1
+        taken_written all_takes d (chain_records l k t) (chain_parts old) parts.0 read parts.1
 
     chain_low : (t : Chain X) (d : ℕ) (old u : Chain X) → Fits (records_of (chain_records l k t)) → IsNormalChain l k t → chain_merged l k d old (chain_encoding l k t) ≡ Some u → chain_levels l k t ≤ d
-    chain_low (chain_end v) d old u fits normal h = own_low d v [] normal.0.0 normal.0.1 normal.1 (all_taken (chain_end v) d old u fits h)
+    chain_low (chain_end v) d old u fits normal h = own_low d v [] normal.0.0 normal.0.1 normal.1 (all_taken (chain_end v) d old u (readable (records_of (chain_records l k (chain_end v))) (chain_valid sound (chain_end v) normal) fits) h)
     chain_low (chain_link v t) d old u fits normal h =
         let mine : List (ℕ × Datum) = (k, bytes (chain_encoding l k t)) ∷ [] in
-        let all = all_taken (chain_link v t) d old u fits h in
+        let read = readable (records_of (chain_records l k (chain_link v t))) (chain_valid sound (chain_link v t) normal) fits in
+        let all = all_taken (chain_link v t) d old u read h in
         let inner = back_holds (IsTakenWritten all_takes d) (l.front k v) (mine ++ (l.behind k v ++ l.kept v)) all in
         let below = firsts k all_takes inside_takes (λ a. a) d (λ v n w p is. (λ x. (x, v.1), rw is refl)) mine (l.behind k v ++ l.kept v) (eq-eqb k k refl, tt) inner in
         omega (arith, one_low t (λ e old u is. chain_low t e old u normal.1.1 normal.1.0 is) d below.0, own_low d v mine normal.0.0 normal.0.1 normal.2 all)
@@ -216,6 +227,7 @@ module _ {M X : Type 0} (l : Layout M X) (k : ℕ) where
   -- ---- the member
   pub held_one_back : (sound : l.sound ≡ true) {P : Type 0} (says : P → Option (Chain X)) → ReadsBackTo (one_shape l k says)
   held_one_back sound says = record {
+    valid = λ n number v normal. optional_valid (λ t. bytes (chain_encoding l k t)) (FitsInside (IsNormalChain l k) (chain_records l k)) (λ t ok. tt) n number v normal;
     back = λ n number d v fits normal low.
         there_reads_back (chain_merged l k) (blank_chain l k) (chain_encoding l k) (chain_levels l k) (FitsInside (IsNormalChain l k) (chain_records l k)) (λ d v ok low. chain_back sound d v ok.1 ok.0 low) n number d v fits normal low;
     exact = λ exact. record {

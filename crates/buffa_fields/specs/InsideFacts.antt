@@ -15,7 +15,7 @@ use Rattle.buffa_bytes.specs.declared.wire_type.WireType.TheVariants.{LengthDeli
 use Rattle.buffa_wire.specs.BudgetLeft.{BudgetLeft, nothing}
 use Rattle.buffa_wire.specs.Encoding.{records_encoding, tagged_encoding}
 use Rattle.buffa_wire.specs.Message.{cost_of_payload, merged_in}
-use Rattle.buffa_wire.specs.Parse.{Fits, FitsDatum}
+use Rattle.buffa_wire.specs.ReadableFacts.{Readable, ReadableDatum}
 use Rattle.buffa_wire.specs.Records.{Datum, records_of}
 use Rattle.buffa_wire.specs.Takes.{ReadsBack, Stays, Taker}
 use Rattle.buffa_fields.specs.BackFacts.{one_back}
@@ -62,23 +62,23 @@ payload_stays cost d n p x h =
 -- ---- messages that read back, whatever their records are
 module _ {X : Type 0} (takes : Taker X) (blank : X) (datum : X → Datum) (level : X → ℕ) (Normal : X → Type 0) (n : ℕ) (number : IsNumber n) (wire : WireType) (payload : X → List ℕ)
     (spelled : (v : X) → tagged_encoding n (datum v) ≡ tag_encoding n wire ++ payload v)
-    (one : (d : ℕ) (v : X) → FitsDatum (datum v) → Normal v → suc (level v) ≤ d → Payload d n wire (payload v) × (takes d blank n wire (payload v) ≡ Some v)) (d : ℕ) where
+    (one : (d : ℕ) (v : X) → ReadableDatum (datum v) → Normal v → suc (level v) ≤ d → Payload d n wire (payload v) × (takes d blank n wire (payload v) ≡ Some v)) (d : ℕ) where
   -- one, where none stood
-  pub inside_back : (v : X) → FitsDatum (datum v) → Normal v → suc (level v) ≤ d → ReadsBack (taken_there blank takes) (λ m. m == n) d None (records_encoding ((n, datum v) ∷ [])) (Some v)
+  pub inside_back : (v : X) → ReadableDatum (datum v) → Normal v → suc (level v) ≤ d → ReadsBack (taken_there blank takes) (λ m. m == n) d None (records_encoding ((n, datum v) ∷ [])) (Some v)
   inside_back v fits normal low =
       let first = one d v fits normal low in
       one_back (taken_there blank takes) n number wire (payload v) d None (Some v) (records_encoding ((n, datum v) ∷ [])) (ap (λ (z : List ℕ). z ++ []) (spelled v)) first.0 (ap (option_map (λ x. Some x)) first.1)
 
   -- a list of them
   abbrev IsGood : X → Type 0
-  IsGood v = FitsDatum (datum v) × Normal v × (suc (level v) ≤ d)
+  IsGood v = ReadableDatum (datum v) × Normal v × (suc (level v) ≤ d)
 
-  all_good : (vs : List X) → Fits (records_of (element_records datum n vs)) → AllByRecursion Normal vs → messages_levels level vs ≤ d → AllByRecursion IsGood vs
+  all_good : (vs : List X) → Readable (records_of (element_records datum n vs)) → AllByRecursion Normal vs → messages_levels level vs ≤ d → AllByRecursion IsGood vs
   unfolding element_records
   all_good [] fits normal low = tt
   all_good (v ∷ vs) fits normal low = ((fits.1, normal.0, omega (arith, low)), all_good vs fits.2 normal.1 (omega (arith, low)))
 
-  pub all_inside_back : (vs : List X) → Fits (records_of (element_records datum n vs)) → AllByRecursion Normal vs → messages_levels level vs ≤ d →
+  pub all_inside_back : (vs : List X) → Readable (records_of (element_records datum n vs)) → AllByRecursion Normal vs → messages_levels level vs ≤ d →
       ReadsBack (taken_behind blank takes) (λ m. m == n) d [] (records_encoding (element_records datum n vs)) vs
   all_inside_back vs fits normal low =
       records_back (taken_behind blank takes) datum n number wire payload d IsGood spelled

@@ -21,7 +21,8 @@ use Rattle.buffa_wire.proofs.TakesLemmas.{framed_at}
 use Rattle.buffa_wire.specs.BudgetLeft.{need_by}
 use Rattle.buffa_wire.specs.Encoding.{encodings, records_encoding, wire_of}
 use Rattle.buffa_wire.specs.Enums.{Numbers}
-use Rattle.buffa_wire.specs.Parse.{Fits, IsPayload}
+use Rattle.buffa_wire.specs.Parse.{IsPayload}
+use Rattle.buffa_wire.specs.ReadableFacts.{Readable}
 use Rattle.buffa_wire.specs.Records.{Datum, bytes, fixed32, fixed64, group, records_of, varint}
 use Rattle.buffa_wire.specs.Takes.{ReadsBack, Stays, Taker, answer}
 use Rattle.buffa_fields.specs.Aside.{Kept, kept_behind}
@@ -147,7 +148,7 @@ module _ (e : Numbers) where
         ∙ takes_packed varints (varint_writing (λ k. k)) varint n is_number d refl Varint refl refl (λ k. k < 2 ^ 64) (λ _. Unit {0}) varint_back (λ n v. refl) refl (map number_of vs) (all_fit vs good)
         (subst (λ (z : List ℕ). length z < 2 ^ 64) (sym b) fits)
 
-    pub kept_packed_back : (vs : List ℤ) → Fits (records_of (packed_records closed_writing.encoding n vs)) → AllByRecursion Good vs →
+    pub kept_packed_back : (vs : List ℤ) → Readable (records_of (packed_records closed_writing.encoding n vs)) → AllByRecursion Good vs →
         ReadsBack (kept_numbers_taken e) (λ m. m == n) d ([], []) (records_encoding (packed_records closed_writing.encoding n vs)) (vs, [])
     unfolding packed_records kept_numbers_taken
     kept_packed_back [] fits good = no_pieces (kept_numbers_taken e) (λ m. m == n) d ([], [])

@@ -11,7 +11,8 @@ use Rattle.buffa_bytes.specs.Front.{delimited_at}
 use Rattle.buffa_bytes.specs.Number.{IsNumber}
 use Rattle.buffa_bytes.specs.Values.{delimited_encoding}
 use Rattle.buffa_bytes.specs.WireType.{same_wire}
-use Rattle.buffa_wire.specs.Parse.{Fits, IsPayload}
+use Rattle.buffa_wire.specs.Parse.{IsPayload}
+use Rattle.buffa_wire.specs.ReadableFacts.{Readable}
 use Rattle.buffa_wire.specs.Records.{Datum, bytes, records_of}
 use Rattle.buffa_wire.specs.Encoding.{records_encoding, wire_of}
 use Rattle.buffa_wire.specs.Takes.{ReadsBack, Stays, joined_fields}
@@ -82,7 +83,7 @@ module _ {K V : Type 0} (key : Reading K) (val : Reading V) (kw : Writing K) (vw
   spelled [] = refl
   spelled (p ∷ ps) = ap (λ (z : List ℕ). record_encoding kw vw n p ++ z) (spelled ps)
 
-  pub kept_map_back : (l : List (K × V)) → Fits (records_of (map_records kw vw n l)) → AllHold KeyOk ValOk l → put_all puts [] l ≡ l →
+  pub kept_map_back : (l : List (K × V)) → Readable (records_of (map_records kw vw n l)) → AllHold KeyOk ValOk l → put_all puts [] l ≡ l →
       ReadsBack (kept_pair_taken key val puts) (λ x. x == n) d (beside []) (records_encoding (map_records kw vw n l)) (beside l)
   kept_map_back l fits ok put_back =
       subst (λ z. ReadsBack (kept_pair_taken key val puts) (λ x. x == n) d (beside []) (records_encoding (map_records kw vw n l)) (beside z)) put_back (record {

@@ -12,7 +12,8 @@ use Rattle.buffa_bytes.specs.Gives.{FullOnlyIf, Gives}
 use Rattle.buffa_bytes.specs.Front.{skip_at}
 use Rattle.buffa_bytes.specs.Left.{past_no_payload}
 use Rattle.buffa_bytes.specs.Number.{IsNumber}
-use Rattle.buffa_wire.specs.Parse.{Fits, IsPayload}
+use Rattle.buffa_wire.specs.Parse.{AreValid, IsPayload}
+use Rattle.buffa_wire.specs.ReadableFacts.{Readable}
 use Rattle.buffa_wire.specs.Cache.{Cache}
 use Rattle.buffa_wire.specs.Message.{FieldRefused}
 use Rattle.buffa_wire.specs.Passes.{IsNext, IsSized, IsWritten}
@@ -52,9 +53,10 @@ pub record IsExactMember {P X : Type 0} (s : Shape P X) : Type 0 where
   pub numbers : (k : ℕ) (v : X) → AllNumbers (λ n. n == k) (s.records k v)
   pub least : (k d : ℕ) (v : X) → s.normal v → AllByRecursion (IsTakenWritten s.takes d) (s.records k v) → s.levels v ≤ d
 
--- The records read back to the value; and its levels are exact, where those in it are.
+-- The records of a normal value are valid, and read back to the value; and its levels are exact, where those in it are.
 pub record ReadsBackTo {P X : Type 0} (s : Shape P X) : Type 0 where
-  pub back : (k : ℕ) → IsNumber k → (d : ℕ) (v : X) → Fits (records_of (s.records k v)) → s.normal v → s.levels v ≤ d → ReadsBack s.takes (λ n. n == k) d s.blank (records_encoding (s.records k v)) v
+  pub valid : (k : ℕ) → IsNumber k → (v : X) → s.normal v → AreValid (records_of (s.records k v))
+  pub back : (k : ℕ) → IsNumber k → (d : ℕ) (v : X) → Readable (records_of (s.records k v)) → s.normal v → s.levels v ≤ d → ReadsBack s.takes (λ n. n == k) d s.blank (records_encoding (s.records k v)) v
   pub exact : s.Exact → IsExactMember s
 
 -- ---- what the calls of a message's members owe
@@ -215,14 +217,15 @@ pub record Layout (M X : Type 0) : Type 1 where
   pub whole : (v : X) → adds (bare v) (kept v) ≡ v
   pub in_two : (v : X) → records v ≡ own v ++ kept v
   pub kept_low : (v : X) → height (kept v) ≤ levels v
-  -- where the records of each member read back, those of all do; and each that is kept is put behind the others again
+  -- where the records of each member are valid and read back, those of all do; and each that is kept is put behind the others again
   pub Owes : Type 0
-  pub back : Owes → sound ≡ true → (d : ℕ) (v : X) → Fits (records_of (own v)) → normal v → levels v ≤ d → ReadsBack takes declares d blank (records_encoding (own v)) (bare v)
+  pub valid : Owes → sound ≡ true → (v : X) → normal v → AreValid (records_of (records v))
+  pub back : Owes → sound ≡ true → (d : ℕ) (v : X) → Readable (records_of (own v)) → normal v → levels v ≤ d → ReadsBack takes declares d blank (records_encoding (own v)) (bare v)
   pub again : Owes → sound ≡ true → (d : ℕ) (v : X) → normal v → levels v ≤ d → AllByRecursion (IsPutBehind takes adds d) (kept v)
   -- so do those in front of a number, and then those behind
   pub owes_both : (k : ℕ) → OwesFront k → OwesBehind k → Owes
-  pub back_front : Owes → sound ≡ true → (k d : ℕ) (v : X) → Fits (records_of (own v)) → normal v → levels v ≤ d → ReadsBack takes declares d blank (records_encoding (front k v)) (only_front k v)
-  pub back_behind : Owes → sound ≡ true → (k d : ℕ) (v : X) → Fits (records_of (own v)) → normal v → levels v ≤ d → ReadsBack takes declares d (only_front k v) (records_encoding (behind k v)) (bare v)
+  pub back_front : Owes → sound ≡ true → (k d : ℕ) (v : X) → Readable (records_of (own v)) → normal v → levels v ≤ d → ReadsBack takes declares d blank (records_encoding (front k v)) (only_front k v)
+  pub back_behind : Owes → sound ≡ true → (k d : ℕ) (v : X) → Readable (records_of (own v)) → normal v → levels v ≤ d → ReadsBack takes declares d (only_front k v) (records_encoding (behind k v)) (bare v)
   -- where the levels of each member are exact, those of all are: their own records are of their numbers; and these, and what is kept
   -- under their numbers, are all taken only at a depth of the levels
   pub Exact : Type 0

@@ -14,6 +14,7 @@ use Rattle.buffa_wire.specs.Message.{IsFieldMerged}
 use Rattle.buffa_wire.proofs.ParseLemmas.{encoding_parses}
 use Rattle.buffa_wire.specs.DepthFacts.{height-records}
 use Rattle.buffa_wire.specs.Parse.{Fits, Parse}
+use Rattle.buffa_wire.specs.ReadableFacts.{Readable, readable}
 use Rattle.buffa_wire.specs.Passes.{IsNext, IsSized, IsSmall, IsWritten, cap}
 use Rattle.buffa_wire.specs.Cache.{Cache, left}
 use Rattle.buffa_wire.proofs.PassLemmas.{appended_none, appended_twice, next_front, next_past, written_none, written_short, written_then}
@@ -24,7 +25,7 @@ use Rattle.buffa_wire.specs.Kept.{keep_need}
 use Rattle.buffa_fields.specs.Keep.{KeepTakesMemory, keep_takes}
 use Rattle.buffa_fields.specs.Stands.{IsMemberRefused}
 use Rattle.buffa_fields.specs.KeepFacts.{records_lead}
-use Rattle.buffa_fields.specs.PairFacts.{first_taken, fits_both, joined_back, other_taken}
+use Rattle.buffa_fields.specs.PairFacts.{first_taken, readable_both, joined_back, other_taken}
 use Rattle.buffa_wire.specs.Takes.{IsTaken, Leads, Need, Piece, ReadsBack, Taker, cost_of, costs_nothing, joined_fields, merged_of}
 use Rattle.buffa_wire.proofs.TakesLemmas.{back as leads_back, skipped, skipped_full, taken_full, taken_merges}
 use Rattle.buffa_wire.proofs.EncodingLemmas.{records_encoding-append}
@@ -299,7 +300,7 @@ module _ {M X : Type 0} (l : Layout M X) where
   any_number d s t [] h = h
   any_number d s t (f ∷ fs) (is, tag, payload, u, h, rest) = (refl, tag, payload, u, h, any_number d u t fs rest)
 
-  two_back : l.Owes → l.sound ≡ true → (d : ℕ) (v : X) → Fits (records_of (l.own v)) → Fits (records_of (l.kept v)) → l.normal v → l.levels v ≤ d → ReadsBack l.takes (λ n. true) d l.blank (records_encoding (l.own v ++ l.kept v)) v
+  two_back : l.Owes → l.sound ≡ true → (d : ℕ) (v : X) → Readable (records_of (l.own v)) → Readable (records_of (l.kept v)) → l.normal v → l.levels v ≤ d → ReadsBack l.takes (λ n. true) d l.blank (records_encoding (l.own v ++ l.kept v)) v
   two_back owes sound d v own kept normal low =
       let one = l.back owes sound d v own normal low in
       let height_low : records_height (records_of (l.kept v)) ≤ d = omega (arith, height-records (l.kept v), l.kept_low v, low) in
@@ -309,6 +310,7 @@ module _ {M X : Type 0} (l : Layout M X) where
 
   pub reads_back : l.Owes → l.sound ≡ true → (d : ℕ) (v : X) → Fits (records_of (l.records v)) → l.normal v → l.levels v ≤ d → merged_of l.takes d l.blank (records_encoding (l.records v)) ≡ Some v
   reads_back owes sound d v fits normal low =
-      let parts = fits_both (l.own v) (l.kept v) (subst (λ z. Fits (records_of z)) (l.in_two v) fits) in
+      let all = readable (records_of (l.records v)) (l.valid owes sound v normal) fits in
+      let parts = readable_both (l.own v) (l.kept v) (subst (λ z. Readable (records_of z)) (l.in_two v) all) in
       leads_back l.takes d (λ n. true) l.blank (records_encoding (l.records v)) v
       (subst (λ z. ReadsBack l.takes (λ n. true) d l.blank (records_encoding z) v) (sym (l.in_two v)) (two_back owes sound d v parts.0 parts.1 normal low))

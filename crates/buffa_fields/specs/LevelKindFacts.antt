@@ -19,7 +19,7 @@ use Rattle.buffa_wire.specs.BudgetLeft.{BudgetLeft}
 use Rattle.buffa_wire.specs.ByField.{value_of}
 use Rattle.buffa_wire.specs.Encoding.{payload_encoding, records_encoding, wire_of}
 use Rattle.buffa_wire.specs.Message.{merged_in}
-use Rattle.buffa_wire.specs.Parse.{Fits, FitsDatum}
+use Rattle.buffa_wire.specs.ReadableFacts.{Readable, ReadableDatum, readable_fits}
 use Rattle.buffa_wire.specs.Records.{Datum, bytes, datum_height, fixed32, fixed64, group, records_of, varint}
 use Rattle.buffa_wire.specs.Takes.{Taker}
 use Rattle.buffa_map.proofs.BackLemmas.{IsReadBack}
@@ -108,7 +108,7 @@ exact_numbers s a all flat even = exact_flat_keeping s a all flat (λ k d x take
 -- ---- messages
 -- members whose records are messages, each of which is taken only at a depth of one more than its levels
 module _ {X : Type 0} (takes : Taker X) (blank : X) (datum : X → Datum) (level : X → ℕ) (Normal : X → Type 0)
-    (one : (d n : ℕ) (old v u : X) → IsNumber n → FitsDatum (datum v) → datum_height (datum v) ≤ d → Normal v → takes d old n (wire_of (datum v)) (payload_encoding n (datum v)) ≡ Some u → suc (level v) ≤ d) (d n : ℕ) where
+    (one : (d n : ℕ) (old v u : X) → IsNumber n → ReadableDatum (datum v) → datum_height (datum v) ≤ d → Normal v → takes d old n (wire_of (datum v)) (payload_encoding n (datum v)) ≡ Some u → suc (level v) ≤ d) (d n : ℕ) where
   pub there_low : (v : X) → Normal v → IsTakenWritten (taken_there blank takes) d (n, datum v) → suc (level v) ≤ d
   there_low v normal (number, fits, low, old, u, h) =
       let t = some_mapped (λ (x : X). Some x) (takes d (or_blank blank old) n (wire_of (datum v)) (payload_encoding n (datum v))) u h in
@@ -133,7 +133,7 @@ module _ {X : Type 0} (merged : ℕ → X → List ℕ → Option X) (blank : X)
   ]
 
   -- ---- as a length and so many bytes
-  pub message_low : (d n : ℕ) (old v u : X) → IsNumber n → FitsDatum (bytes (encoding v)) → datum_height (bytes (encoding v)) ≤ d → FitsInside Normal records v →
+  pub message_low : (d n : ℕ) (old v u : X) → IsNumber n → ReadableDatum (bytes (encoding v)) → datum_height (bytes (encoding v)) ≤ d → FitsInside Normal records v →
       message_merged merged d old n LengthDelimited (delimited_encoding (encoding v)) ≡ Some u → suc (level v) ≤ d
   unfolding message_merged
   message_low d n old v u number fits low normal h =
@@ -145,7 +145,7 @@ module _ {X : Type 0} (merged : ℕ → X → List ℕ → Option X) (blank : X)
 
   -- ---- as a group
   module _ (as_records : (v : X) → encoding v ≡ records_encoding (records v)) where
-    pub group_low : (d n : ℕ) (old v u : X) → IsNumber n → Fits (records_of (records v)) → datum_height (group_datum records v) ≤ d → Normal v →
+    pub group_low : (d n : ℕ) (old v u : X) → IsNumber n → Readable (records_of (records v)) → datum_height (group_datum records v) ≤ d → Normal v →
         group_merged merged d old n StartGroup (records_encoding (records v) ++ tag_encoding n EndGroup) ≡ Some u → suc (level v) ≤ d
     unfolding group_merged
     group_low zero n old v u number fits low normal h = absurd (omega (arith, low))
@@ -154,7 +154,7 @@ module _ {X : Type 0} (merged : ℕ → X → List ℕ → Option X) (blank : X)
         let body = body_is d (records_encoding (records v)) (tag_encoding n EndGroup) n j (is_tag n EndGroup number) in
         let e : suc d - 1 ≡ d = omega arith in
         let is : group_merged merged (suc d) old n StartGroup (records_encoding (records v) ++ tag_encoding n EndGroup) ≡ merged d old (encoding v) = rw e (ap (merged d old) (body ∙ sym (as_records v))) in
-        inside_low (suc d) old v u (normal, fits) (sym is ∙ h)
+        inside_low (suc d) old v u (normal, readable_fits (records_of (records v)) fits) (sym is ∙ h)
 
 -- ---- entries of maps
 module _ {K V : Type 0} (key : Reading K) (val : Reading V) where

@@ -3,7 +3,8 @@
 use Rattle.std.specs.Prelude.{◌≡◌, ℕ, ◌<◌, ◌≤◌, List, Option, Some, None}
 use Rattle.buffa_bytes.specs.Number.{IsNumber}
 use Rattle.buffa_wire.specs.Encoding.{payload_encoding, wire_of}
-use Rattle.buffa_wire.specs.Parse.{Fits, FitsDatum}
+use Rattle.buffa_wire.specs.Parse.{Fits}
+use Rattle.buffa_wire.specs.ReadableFacts.{ReadableDatum}
 use Rattle.buffa_wire.specs.Records.{Datum, datum_height, records_of}
 use Rattle.buffa_wire.specs.Takes.{Taker}
 
@@ -16,4 +17,4 @@ AreExactLevels {X} merged encoding records normal levels =
 -- a record that nests no deeper than the depth is taken as it is written: of some value it makes another
 abbrev pub IsTakenWritten : {X : Type 0} → Taker X → ℕ → ℕ × Datum → Type 0
 IsTakenWritten {X} takes d y =
-    IsNumber y.0 × FitsDatum y.1 × (datum_height y.1 ≤ d) × (old : X) × (new : X) × (takes d old y.0 (wire_of y.1) (payload_encoding y.0 y.1) ≡ Some new)
+    IsNumber y.0 × ReadableDatum y.1 × (datum_height y.1 ≤ d) × (old : X) × (new : X) × (takes d old y.0 (wire_of y.1) (payload_encoding y.0 y.1) ≡ Some new)

@@ -51,6 +51,7 @@ pub mod Levels
 pub mod LevelFacts
 pub mod WrittenFacts
 pub mod LevelKindFacts
+pub mod ValidFacts
 pub mod FramingFacts
 pub mod Nests
 pub mod AmongFacts

@@ -12,7 +12,7 @@ use Rattle.buffa_bytes.proofs.SequenceLemmas.{along_none, along_ok}
 use Rattle.buffa_bytes.specs.Field.{Payload}
 use Rattle.buffa_bytes.specs.Gives.{◌>>=◌}
 use Rattle.buffa_bytes.specs.Number.{IsNumber}
-use Rattle.buffa_wire.specs.Parse.{Fits}
+use Rattle.buffa_wire.specs.ReadableFacts.{Readable}
 use Rattle.buffa_wire.specs.Passes.{cap}
 use Rattle.buffa_wire.specs.Records.{Datum, records_of}
 use Rattle.buffa_wire.specs.Encoding.{records_encoding, tagged_encoding, encodings}
@@ -90,7 +90,7 @@ module _ {V : Type 0} (reading : Reading V) (writing : Writing V) (datum : V →
   unfolding elements_taken
   takes_packed off vs h fits = rw (off, delimited_whole (encodings writing.encoding vs) fits, unpacks [] vs h) refl
 
-  pub packed_field_back : same_wire reading.wire LengthDelimited ≡ false → (vs : List V) → Fits (records_of (packed_records writing.encoding n vs)) → AllByRecursion (λ v. Fit v × Normal v) vs →
+  pub packed_field_back : same_wire reading.wire LengthDelimited ≡ false → (vs : List V) → Readable (records_of (packed_records writing.encoding n vs)) → AllByRecursion (λ v. Fit v × Normal v) vs →
       ReadsBack (elements_taken reading) (λ m. m == n) d [] (records_encoding (packed_records writing.encoding n vs)) vs
   unfolding packed_records
   packed_field_back apart [] fits h = no_pieces (elements_taken reading) (λ m. m == n) d []

@@ -5,7 +5,7 @@ use Rattle.std.specs.List.{AllByRecursion, IsDistinct}
 use Rattle.std.specs.Map.{keys_of}
 use Rattle.buffa_bytes.specs.declared.wire_type.WireType.TheVariants.{LengthDelimited}
 use Rattle.buffa_bytes.specs.Number.{IsNumber}
-use Rattle.buffa_wire.specs.Parse.{Fits}
+use Rattle.buffa_wire.specs.ReadableFacts.{Readable}
 use Rattle.buffa_wire.specs.Cache.{Cache}
 use Rattle.buffa_wire.specs.Passes.{IsWritten}
 use Rattle.buffa_wire.proofs.PassLemmas.{consumes_none, written_none}
@@ -31,7 +31,7 @@ pub map_encoding : {K V : Type 0} (key : Writing K) (val : Writing V) (n : ℕ) 
 map_encoding key val n [] = refl
 map_encoding key val n (p ∷ ps) = ap (λ (z : List ℕ). record_encoding key val n p ++ z) (map_encoding key val n ps)
 
-pub map_has_encoding : {K V : Type 0} (key : Writing K) (val : Writing V) (n : ℕ) (l : List (K × V)) → Fits (records_of (map_records key val n l)) → HasEncoding key val l
+pub map_has_encoding : {K V : Type 0} (key : Writing K) (val : Writing V) (n : ℕ) (l : List (K × V)) → Readable (records_of (map_records key val n l)) → HasEncoding key val l
 map_has_encoding key val n [] h = tt
 map_has_encoding key val n (p ∷ ps) h = (h.1, map_has_encoding key val n ps h.2)
 
@@ -67,7 +67,7 @@ module _ {K V : Type 0} (key : Reading K) (val : Reading V) (kw : Writing K) (vw
     read_entry key val (λ m e s. stepped puts m s) d n m (entry_encoding kw vw p) (pair_entry p) good.2 (entry_back key val kw vw same_key same_val d KeyOk ValOk key_back val_back p good.0 good.1),
   )
 
-  pub map_back : (l : List (K × V)) → Fits (records_of (map_records kw vw n l)) → AllHold KeyOk ValOk l → put_all puts [] l ≡ l →
+  pub map_back : (l : List (K × V)) → Readable (records_of (map_records kw vw n l)) → AllHold KeyOk ValOk l → put_all puts [] l ≡ l →
       ReadsBack (pair_taken key val puts) (λ x. x == n) d [] (records_encoding (map_records kw vw n l)) l
   map_back l fits ok put_back =
       subst (λ z. ReadsBack (pair_taken key val puts) (λ x. x == n) d [] (records_encoding (map_records kw vw n l)) z) put_back

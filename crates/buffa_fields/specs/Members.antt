@@ -5,7 +5,9 @@ use Rattle.std.proofs.Common.{sym, ap, ◌∙◌, arith, append_assoc, append-ni
 use Rattle.std.proofs.lemmas.Bool.{and_parts}
 use Rattle.buffa_bytes.specs.declared.error.DecodeError.{DecodeError}
 use Rattle.buffa_bytes.specs.declared.wire_type.WireType.{WireType}
-use Rattle.buffa_wire.specs.Records.{Datum, height}
+use Rattle.buffa_wire.specs.Parse.{AreValid}
+use Rattle.buffa_wire.specs.ReadableFacts.{valid_joined}
+use Rattle.buffa_wire.specs.Records.{Datum, height, records_of}
 use Rattle.buffa_wire.specs.Encoding.{records_encoding}
 use Rattle.buffa_wire.specs.Kept.{keep_need}
 use Rattle.buffa_fields.specs.Keep.{AllNumbers, KeepTakesMemory, keep_takes}
@@ -15,7 +17,7 @@ use Rattle.buffa_wire.specs.Takes.{Taker, costs_nothing}
 use Rattle.buffa_fields.specs.Layout.{Choice, IsFieldKept, Layout, Passed, ReadsBackTo, Shape, Took, both_need, both_take, is_number, more, passes, visited}
 use Rattle.buffa_fields.specs.LayoutFacts.{field_apart, field_asks, field_taken, is_kept, kept_asks, kept_stays, is_passed, none_keep, passed_asks, more_none, seen_field}
 use Rattle.buffa_fields.specs.BackFacts.{no_pieces}
-use Rattle.buffa_fields.specs.PairFacts.{both_again, both_back, both_stay, fits_both, sound_parts}
+use Rattle.buffa_fields.specs.PairFacts.{both_again, both_back, both_stay, readable_both, sound_parts}
 use Rattle.buffa_fields.specs.PlaceFacts.{behind_reads_back, behind_seen, front_reads_back, front_seen, others_back, owes_in_two, own_in_two, slots_in_two, slots_then}
 use Rattle.buffa_fields.specs.Aside.{AllAside, Aside, Kept, ReadsBackBeside, TookBeside, aside_levels, beside_take, kept_among}
 use Rattle.buffa_fields.specs.AsideFacts.{beside_again, beside_back, kept_field_apart, kept_field_asks, kept_field_taken}
@@ -79,9 +81,12 @@ field {M} {P} {A} {B} k get s l = record {
   in_two = λ v. ap (λ (z : List (ℕ × Datum)). s.records k v.0 ++ z) (l.in_two v.1) ∙ sym (append_assoc (s.records k v.0) (l.own v.1) (l.kept v.1));
   kept_low = λ v. omega (arith, l.kept_low v.1);
   Owes = ReadsBackTo s × l.Owes;
+  valid = λ owes ok v normal.
+      let sound = sound_parts k (l.declares k) (s.whole && l.sound) ok in
+      valid_joined (s.records k v.0) (l.records v.1) (owes.0.valid k sound.0 v.0 normal.0) (l.valid owes.1 (and_parts s.whole l.sound sound.2).1 v.1 normal.1);
   back = λ owes ok d v fits normal low.
       let sound = sound_parts k (l.declares k) (s.whole && l.sound) ok in
-      let each = fits_both (s.records k v.0) (l.own v.1) fits in
+      let each = readable_both (s.records k v.0) (l.own v.1) fits in
       both_back k s.takes l.takes l.declares sound.1 d s.blank v.0 l.blank (l.bare v.1) (s.records k v.0) (l.own v.1)
       (owes.0.back k sound.0 d v.0 each.0 normal.0 (omega (arith, low))) (l.back owes.1 (and_parts s.whole l.sound sound.2).1 d v.1 each.1 normal.1 (omega (arith, low)));
   again = λ owes ok d v normal low.
@@ -90,13 +95,13 @@ field {M} {P} {A} {B} k get s l = record {
   owes_both = λ j front behind. owes_in_two (nat_lt k j) (l.owes_both j) front behind;
   back_front = λ owes ok j d v fits normal low.
       let sound = sound_parts k (l.declares k) (s.whole && l.sound) ok in
-      let each = fits_both (s.records k v.0) (l.own v.1) fits in
+      let each = readable_both (s.records k v.0) (l.own v.1) fits in
       front_reads_back (both_take k s.takes l.takes) (λ n. n == k || l.declares n) d (nat_lt k j) (s.blank, l.blank) (v.0, l.only_front j v.1) (s.records k v.0 ++ l.front j v.1)
       (both_back k s.takes l.takes l.declares sound.1 d s.blank v.0 l.blank (l.only_front j v.1) (s.records k v.0) (l.front j v.1)
       (owes.0.back k sound.0 d v.0 each.0 normal.0 (omega (arith, low))) (l.back_front owes.1 (and_parts s.whole l.sound sound.2).1 j d v.1 each.1 normal.1 (omega (arith, low))));
   back_behind = λ owes ok j d v fits normal low.
       let sound = sound_parts k (l.declares k) (s.whole && l.sound) ok in
-      let each = fits_both (s.records k v.0) (l.own v.1) fits in
+      let each = readable_both (s.records k v.0) (l.own v.1) fits in
       let all : Taker (A × B) = both_take k s.takes l.takes in
       behind_reads_back all (λ n. n == k || l.declares n) d (nat_lt k j) (s.blank, l.blank) (v.0, l.only_front j v.1) (v.0, l.bare v.1) (l.behind j v.1) (s.records k v.0 ++ l.own v.1)
       (others_back k l.declares sound.1 all l.takes (λ d a b u n w p off h. rw (off, h) refl) d v.0 (l.only_front j v.1) (l.bare v.1) (records_encoding (l.behind j v.1))
@@ -176,9 +181,12 @@ field_kept {M} {P} {A} {B} k get s a l = record {
   in_two = λ v. ap (λ (z : List (ℕ × Datum)). s.records k v.0 ++ z) (l.in_two v.1) ∙ sym (append_assoc (s.records k v.0) (l.own v.1) (l.kept v.1));
   kept_low = λ v. omega (arith, l.kept_low v.1);
   Owes = ReadsBackBeside s a × l.Owes;
+  valid = λ owes ok v normal.
+      let sound = sound_parts k (l.declares k) (l.keeps && l.sound) ok in
+      valid_joined (s.records k v.0) (l.records v.1) (owes.0.valid k sound.0 v.0 normal.0) (l.valid owes.1 (and_parts l.keeps l.sound sound.2).1 v.1 normal.1);
   back = λ owes ok d v fits normal low.
       let sound = sound_parts k (l.declares k) (l.keeps && l.sound) ok in
-      let each = fits_both (s.records k v.0) (l.own v.1) fits in
+      let each = readable_both (s.records k v.0) (l.own v.1) fits in
       beside_back a k l.adds l.takes l.adds_none l.adds_twice l.declares sound.1 d s.blank v.0 l.blank (l.bare v.1) (s.records k v.0) (l.own v.1)
       (owes.0.back k sound.0 d v.0 each.0 normal.0 (omega (arith, low))) (l.back owes.1 (and_parts l.keeps l.sound sound.2).1 d v.1 each.1 normal.1 (omega (arith, low)));
   again = λ owes ok d v normal low.
@@ -187,13 +195,13 @@ field_kept {M} {P} {A} {B} k get s a l = record {
   owes_both = λ j front behind. owes_in_two (nat_lt k j) (l.owes_both j) front behind;
   back_front = λ owes ok j d v fits normal low.
       let sound = sound_parts k (l.declares k) (l.keeps && l.sound) ok in
-      let each = fits_both (s.records k v.0) (l.own v.1) fits in
+      let each = readable_both (s.records k v.0) (l.own v.1) fits in
       front_reads_back (beside_take k a.takes l.adds l.takes) (λ n. n == k || l.declares n) d (nat_lt k j) (s.blank, l.blank) (v.0, l.only_front j v.1) (s.records k v.0 ++ l.front j v.1)
       (beside_back a k l.adds l.takes l.adds_none l.adds_twice l.declares sound.1 d s.blank v.0 l.blank (l.only_front j v.1) (s.records k v.0) (l.front j v.1)
       (owes.0.back k sound.0 d v.0 each.0 normal.0 (omega (arith, low))) (l.back_front owes.1 (and_parts l.keeps l.sound sound.2).1 j d v.1 each.1 normal.1 (omega (arith, low))));
   back_behind = λ owes ok j d v fits normal low.
       let sound = sound_parts k (l.declares k) (l.keeps && l.sound) ok in
-      let each = fits_both (s.records k v.0) (l.own v.1) fits in
+      let each = readable_both (s.records k v.0) (l.own v.1) fits in
       let all : Taker (A × B) = beside_take k a.takes l.adds l.takes in
       behind_reads_back all (λ n. n == k || l.declares n) d (nat_lt k j) (s.blank, l.blank) (v.0, l.only_front j v.1) (v.0, l.bare v.1) (l.behind j v.1) (s.records k v.0 ++ l.own v.1)
       (others_back k l.declares sound.1 all l.takes (λ d a b u n w p off h. rw (off, h) refl) d v.0 (l.only_front j v.1) (l.bare v.1) (records_encoding (l.behind j v.1))
@@ -214,7 +222,8 @@ field_kept {M} {P} {A} {B} k get s a l = record {
       omega (arith, first, others, beside);
 }
 
--- fields that aren't declared are kept
+-- fields that aren't declared are kept; a value is normal where the numbers of these may be a field's, nested ones too, and their
+-- data are in range
 abbrev pub keep : {M : Type 0} → (M → List (ℕ × Datum)) → Layout M (List (ℕ × Datum))
 keep get = record {
   meaning = get;
@@ -225,7 +234,7 @@ keep get = record {
   records = λ v. v;
   slots = λ v. [];
   levels = height;
-  normal = λ v. Unit {0};
+  normal = λ v. AreValid (records_of v);
   declares = λ n. false;
   sound = true;
   keeps = true;
@@ -269,6 +278,7 @@ keep get = record {
   in_two = λ v. refl;
   kept_low = λ v. omega arith;
   Owes = Unit {0};
+  valid = λ _ _ v valid. valid;
   back = λ _ _ d v fits h low. no_pieces keep_takes (λ n. false) d [];
   again = λ _ _ d v h low. keep_again d v;
   owes_both = λ j front behind. tt;
@@ -334,6 +344,7 @@ skip = record {
   in_two = λ v. refl;
   kept_low = λ v. omega arith;
   Owes = Unit {0};
+  valid = λ _ _ v h. tt;
   back = λ _ _ d v f h low. no_pieces passes (λ n. false) d v;
   again = λ _ _ d v h low. tt;
   owes_both = λ j front behind. tt;

@@ -4,7 +4,7 @@ use Rattle.buffa_bytes.proofs.VarintLemmas.{IsVarint-varint_encoding}
 use Rattle.buffa_wire.specs.BudgetLeft.{BudgetLeft}
 use Rattle.buffa_bytes.specs.Content.Content.{bytes as held}
 use Rattle.buffa_bytes.specs.Number.{IsNumber}
-use Rattle.buffa_wire.specs.Parse.{Fits}
+use Rattle.buffa_wire.specs.ReadableFacts.{Readable}
 use Rattle.buffa_wire.specs.Records.{records_of}
 use Rattle.buffa_wire.specs.Encoding.{records_encoding}
 use Rattle.buffa_bytes.specs.Varint.{varint_encoding}
@@ -32,14 +32,14 @@ module _ {X : Type 0} (merged : ℕ → X → List ℕ → Option X) (blank : X)
 
   module _ {K : Type 0} (key : Reading K) (kw : Writing K) (same_key : kw.wire ≡ key.wire) (puts : List (K × X) → K → X → List (K × X)) (KeyOk : K → Type 0)
       (key_back : (d : ℕ) (v : K) → KeyOk v → IsReadBack key kw d v) (n : ℕ) (number : IsNumber n) (d : ℕ) where
-    all_low : (l : List (K × X)) → Fits (records_of (map_records kw (delimited_writing encoding) n l)) → AllHold KeyOk Normal l → pair_levels level l ≤ d → AllHold KeyOk (IsLow d) l
+    all_low : (l : List (K × X)) → Readable (records_of (map_records kw (delimited_writing encoding) n l)) → AllHold KeyOk Normal l → pair_levels level l ≤ d → AllHold KeyOk (IsLow d) l
     all_low [] fits ok low = tt
     all_low (p ∷ ps) fits ok low =
         let whole = length-entry_encoding kw (delimited_writing encoding) p in
         let both = length-append (varint_encoding (length (encoding p.1))) (encoding p.1) in
         (ok.0, (ok.1, omega (arith, fits.1, whole, both), omega (arith, low)), all_low ps fits.2 ok.2 (omega (arith, low)))
 
-    pub pairs_back : (l : List (K × X)) → Fits (records_of (pair_records kw encoding n l)) → AllHold KeyOk Normal l → put_all puts [] l ≡ l → pair_levels level l ≤ d →
+    pub pairs_back : (l : List (K × X)) → Readable (records_of (pair_records kw encoding n l)) → AllHold KeyOk Normal l → put_all puts [] l ≡ l → pair_levels level l ≤ d →
         ReadsBack (pair_taken key (message_reading blank merged cost) puts) (λ m. m == n) d [] (records_encoding (pair_records kw encoding n l)) l
     unfolding pair_records
     pairs_back l fits ok put_back low =

@@ -9,6 +9,7 @@ use Rattle.buffa_wire.specs.BudgetLeft.{BudgetLeft, Lacks, Pays, PaysAtMost}
 use Rattle.buffa_bytes.specs.declared.error.DecodeError.{DecodeError}
 use Rattle.buffa_bytes.specs.Number.{IsNumber}
 use Rattle.buffa_wire.specs.Parse.{Fits}
+use Rattle.buffa_wire.specs.ReadableFacts.{Readable}
 use Rattle.buffa_wire.specs.Records.{Datum, records_of}
 use Rattle.buffa_wire.specs.Encoding.{records_encoding}
 use Rattle.buffa_wire.specs.Takes.{IsTaken, Leads, Need, Piece, ReadsBack, Stays, Taker, joined_fields}
@@ -18,9 +19,13 @@ use Rattle.buffa_fields.specs.Layout.{IsPutBehind, both_need, both_take, is_numb
 use Rattle.buffa_wire.proofs.EncodingLemmas.{records_encoding-append}
 
 -- ---- records
+pub readable_both : (xs ys : List (ℕ × Datum)) → Readable (records_of (xs ++ ys)) → Readable (records_of xs) × Readable (records_of ys)
+readable_both [] ys h = (tt, h)
+readable_both (x ∷ xs) ys h = let k = readable_both xs ys h.2 in ((h.0, h.1, k.0), k.1)
+
 pub fits_both : (xs ys : List (ℕ × Datum)) → Fits (records_of (xs ++ ys)) → Fits (records_of xs) × Fits (records_of ys)
 fits_both [] ys h = (tt, h)
-fits_both (x ∷ xs) ys h = let k = fits_both xs ys h.2 in ((h.0, h.1, k.0), k.1)
+fits_both (x ∷ xs) ys h = let k = fits_both xs ys h.1 in ((h.0, k.0), k.1)
 
 -- ---- costs
 pub both_stay : (k : ℕ) (f g : Need) → Stays f → Stays g → Stays (both_need k f g)

@@ -7,7 +7,7 @@ use Rattle.buffa_wire.proofs.PassLemmas.{appended_twice, next_front, next_past, 
 use Rattle.buffa_wire.specs.BudgetLeft.{BudgetLeft, plus, units}
 use Rattle.buffa_wire.specs.Cache.{Cache}
 use Rattle.buffa_bytes.specs.Number.{IsNumber}
-use Rattle.buffa_wire.specs.Parse.{Fits}
+use Rattle.buffa_wire.specs.ReadableFacts.{Readable}
 use Rattle.buffa_wire.specs.Passes.{IsNext, IsSized, IsSmall, IsWritten, cap}
 use Rattle.buffa_wire.specs.Records.{Datum, records_of, bytes}
 use Rattle.buffa_wire.proofs.ByValueLemmas.{ByValue, length_parts, one_more, parts}
@@ -131,7 +131,7 @@ module _ {X : Type 0} (datum : X → Datum) (encoding slots : X → List ℕ) wh
 -- ---- the encoding reads back
 module _ {X : Type 0} (merged : ℕ → X → List ℕ → Option X) (blank : X) (encoding : X → List ℕ) (level : X → ℕ) (Normal : X → Type 0)
     (back : (d : ℕ) (v : X) → Normal v → level v ≤ d → merged d blank (encoding v) ≡ Some v) (n : ℕ) (number : IsNumber n) where
-  pub messages_back : (d : ℕ) (vs : List X) → Fits (records_of (messages_records encoding n vs)) → AllByRecursion Normal vs → messages_levels level vs ≤ d →
+  pub messages_back : (d : ℕ) (vs : List X) → Readable (records_of (messages_records encoding n vs)) → AllByRecursion Normal vs → messages_levels level vs ≤ d →
       ReadsBack (messages_taken blank merged) (λ m. m == n) d [] (records_encoding (messages_records encoding n vs)) vs
   messages_back d vs fits normal low =
       all_inside_back (message_merged merged) blank (λ v. bytes (encoding v)) level Normal n number LengthDelimited (λ v. delimited_encoding (encoding v)) (λ v. refl)

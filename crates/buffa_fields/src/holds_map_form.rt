@@ -23,7 +23,7 @@ ghost use Rattle.buffa_fields.specs.MemberCalls.{SizesPairs, WritesPairs};
 ghost use Rattle.buffa_fields.specs.NestedMaps.{pair_slots};
 ghost use Rattle.buffa_fields.specs.Refusals.{RefusesPairIn};
 ghost use Rattle.buffa_fields.specs.HeldMap.{IsNormalMapNest, kids_needed_at, keys_by, message_refused, message_takes, map_nest_cost, map_nest_encoding, map_nest_layout, map_nest_levels, map_nest_merged, map_nest_records, map_nest_slots};
-ghost use Rattle.buffa_fields.specs.HeldMapFacts.{codec_reads_back, map_nest_back, map_nest_cost_is};
+ghost use Rattle.buffa_fields.specs.HeldMapFacts.{codec_reads_back, map_nest_back, map_nest_cost_is, map_nest_valid};
 ghost use Rattle.buffa_fields.specs.HeldMessageFacts.{message_merged_is, message_need_stays};
 ghost use Rattle.buffa_fields.specs.NamedMaps.{nest_taken};
 
@@ -69,6 +69,8 @@ impl<M: HoldingMap> MessageMeaning<M> for Held {
     ghost merged_is = { message_merged_is (keys_by M.KeyCodec.reading M.KeyCodec.writing M.KeyCodec.COST M.Key.order M.KeyCodec.fits M.KeyCodec.normal) M.own M.NUMBER M.HoldsMap.COST };
 
     ghost cost_is = { map_nest_cost_is (keys_by M.KeyCodec.reading M.KeyCodec.writing M.KeyCodec.COST M.Key.order M.KeyCodec.fits M.KeyCodec.normal) M.own M.NUMBER M.HoldsMap.COST };
+
+    ghost valid = { map_nest_valid (keys_by M.KeyCodec.reading M.KeyCodec.writing M.KeyCodec.COST M.Key.order M.KeyCodec.fits M.KeyCodec.normal) M.own M.NUMBER M.HoldsMap.COST M.sound };
 
     ghost merged_encoding = { λ d v fits normal low. let keys = keys_by M.KeyCodec.reading M.KeyCodec.writing M.KeyCodec.COST M.Key.order M.KeyCodec.fits M.KeyCodec.normal in
         ap (λ b. map_nest_merged keys M.own M.NUMBER M.HoldsMap.COST d b

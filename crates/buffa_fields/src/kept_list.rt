@@ -9,7 +9,9 @@ ghost use Rattle.buffa_fields.specs.KeptLists.{PutsNumbers, RefusesKeptNumbers, 
 ghost use Rattle.buffa_fields.specs.KeptListFacts.{kept_elements_back, kept_numbers_again, kept_numbers_behind, kept_numbers_stays, kept_packed_back};
 ghost use Rattle.buffa_fields.specs.KeptNumbers.{IsAsideNumber};
 ghost use Rattle.buffa_fields.specs.Lists.{ElementsTakeMemory, check_list_wire};
+ghost use Rattle.buffa_map.specs.Enums.{closed_writing};
 ghost use Rattle.buffa_fields.specs.LevelKindFacts.{element_numbers, exact_numbers, packed_numbers};
+ghost use Rattle.buffa_fields.specs.ValidFacts.{element_valid, number_valid, packed_valid};
 
 use crate::keeping::Keeping;
 use crate::list::take_elements;
@@ -181,6 +183,7 @@ impl<E: Enumeration> Keeping for Repeated<ClosedEnum<E>> {
     }
 
     ghost kept_back = { record {
+      valid = λ k number v normal. element_valid _ _ (number_valid (numbers E.of_number E.blank_is)) k number v normal;
       back = λ k number d v fits normal low. kept_elements_back (numbers E.of_number E.blank_is) k number d v normal;
       again = kept_numbers_again (numbers E.of_number E.blank_is);
       exact = λ _. exact_numbers _ _ (element_numbers _) (λ v i. 0) (λ x i. 0);
@@ -212,6 +215,7 @@ impl<E: Enumeration> Keeping for Packed<ClosedEnum<E>> {
     }
 
     ghost kept_back = { record {
+      valid = λ k number v normal. packed_valid k number closed_writing.encoding v;
       back = λ k number d v fits normal low. kept_packed_back (numbers E.of_number E.blank_is) k number d v fits normal;
       again = kept_numbers_again (numbers E.of_number E.blank_is);
       exact = λ _. exact_numbers _ _ (packed_numbers _) (λ v i. 0) (λ x i. 0);

@@ -12,6 +12,7 @@ ghost use Rattle.buffa_fields.specs.KeptMapFacts.{kept_map_back, kept_pair_again
 ghost use Rattle.buffa_fields.specs.MapFacts.{distinct_put};
 ghost use Rattle.buffa_fields.specs.MapFields.{entry_records};
 ghost use Rattle.buffa_fields.specs.LevelKindFacts.{exact_flat_keeping, kept_pair_low, entry_numbers};
+ghost use Rattle.buffa_fields.specs.ValidFacts.{entry_valid};
 
 use crate::keeping::Keeping;
 use crate::map_member::MapOf;
@@ -100,6 +101,7 @@ where
     }
 
     ghost kept_back = { record {
+      valid = λ n number l normal. entry_valid n number KC.writing VC.writing l;
       back = λ n number d l fits normal low. unfold entry_records in (kept_map_back KC.reading VC.reading KC.writing VC.writing
           (KC.MapCodec.written_wire ∙ sym KC.MapValueDecode.wire) (VC.MapCodec.written_wire ∙ sym VC.MapValueDecode.wire)
           (put KC.Value.same) (λ k. KC.fits k × KC.normal k) (λ v. VC.fits v × VC.normal v) d

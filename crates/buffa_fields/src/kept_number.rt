@@ -10,6 +10,7 @@ ghost use Rattle.buffa_fields.specs.KeptNumbers.{IsAsideNumber, KeptNumberTakesM
 ghost use Rattle.buffa_fields.specs.KeptNumberFacts.{kept_number_again, kept_number_back, kept_number_behind, kept_number_stays};
 ghost use Rattle.buffa_fields.specs.MemberRecords.{optional_records};
 ghost use Rattle.buffa_fields.specs.LevelKindFacts.{exact_numbers, optional_numbers};
+ghost use Rattle.buffa_fields.specs.ValidFacts.{number_valid, optional_valid};
 
 use crate::keeping::Keeping;
 use crate::kept;
@@ -78,6 +79,7 @@ impl<E: Enumeration> Keeping for Optional<ClosedEnum<E>> {
     }
 
     ghost kept_back = { record {
+      valid = λ k number v normal. optional_valid _ _ (number_valid (numbers E.of_number E.blank_is)) k number v normal;
       back = λ k number d v fits normal low. unfold optional_records in (kept_number_back (numbers E.of_number E.blank_is) k number d v normal);
       again = kept_number_again (numbers E.of_number E.blank_is);
       exact = λ _. exact_numbers _ _ (optional_numbers _) (λ v i. 0) (λ x i. 0);

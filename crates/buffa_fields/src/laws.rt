@@ -17,9 +17,9 @@ ghost use Rattle.buffa_fields.specs.Aside.{AllAside, aside_levels, beside_take};
 ghost use Rattle.buffa_fields.specs.KeptLists.{RefusesKeptNumbers, declared_of, kept_numbers_cost, kept_numbers_taken, undeclared_of, varints};
 ghost use Rattle.buffa_fields.specs.KeptMaps.{IsAsideEntry, KeptPairTakesMemory, RefusesKeptPair, aside_entry_levels, kept_pair_cost, kept_pair_taken};
 ghost use Rattle.buffa_fields.specs.KeptNumbers.{IsAsideNumber, KeptNumberTakesMemory, RefusesKeptNumber, kept_number_cost, kept_number_taken, undeclared_number};
-ghost use Rattle.buffa_wire.specs.Parse.{IsPayload, fields_inside};
+ghost use Rattle.buffa_wire.specs.Parse.{AreValid, IsPayload, fields_inside};
 ghost use Rattle.buffa_wire.specs.RecordReading.{RecordTakesMemory, field_at};
-ghost use Rattle.buffa_wire.specs.Records.{Datum, height};
+ghost use Rattle.buffa_wire.specs.Records.{Datum, height, records_of};
 ghost use Rattle.buffa_bytes.specs.Front.{check_wire};
 ghost use Rattle.buffa_bytes.specs.declared.error.DecodeError.TheVariants.{UnknownFieldLimitExceeded};
 ghost use Rattle.buffa_wire.specs.Encoding.{wire_of};
@@ -345,7 +345,8 @@ pub fn kept_fields_are_these<M>()
     ensures records { (get : M → List (ℕ × Datum)) (v : List (ℕ × Datum)) → (keep get).records v ≡ v }
     ensures slots { (get : M → List (ℕ × Datum)) (v : List (ℕ × Datum)) → (keep get).slots v ≡ [] }
     ensures levels { (get : M → List (ℕ × Datum)) (v : List (ℕ × Datum)) → (keep get).levels v ≡ height v }
-    ensures normal { (get : M → List (ℕ × Datum)) (v : List (ℕ × Datum)) → (keep get).normal v }
+    ensures normal { (get : M → List (ℕ × Datum)) (v : List (ℕ × Datum)) → (keep get).normal v
+        ↔ AreValid (records_of v) }
     ensures taken { (get : M → List (ℕ × Datum)) → TakeAlike (keep get).Taken (AmongKept get) }
     ensures apart { (get : M → List (ℕ × Datum)) (n : ℕ) (v u : List (ℕ × Datum)) → (keep get).Apart n v u ↔ (v ≡ u) }
     ensures same { (get : M → List (ℕ × Datum)) (a b : M) → (keep get).Same a b ↔ (get b ≡ get a) }

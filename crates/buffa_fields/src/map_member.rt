@@ -13,6 +13,7 @@ ghost use Rattle.buffa_fields.specs.MapFields.{PairTakesMemory, pair_cost, pair_
 ghost use Rattle.buffa_fields.specs.MapFacts.{distinct_put, map_back, map_stays};
 ghost use Rattle.buffa_fields.specs.Refusals.{RefusesPair};
 ghost use Rattle.buffa_fields.specs.LevelKindFacts.{exact_flat, entry_numbers};
+ghost use Rattle.buffa_fields.specs.ValidFacts.{entry_valid};
 
 use crate::map::{map_len, take_entry, write_map};
 use crate::meaning::And;
@@ -92,6 +93,7 @@ where
     }
 
     ghost back = { record {
+      valid = λ n number l normal. entry_valid n number KC.writing VC.writing l;
       back = λ n number d l fits normal low. unfold entry_records in (map_back KC.reading VC.reading KC.writing VC.writing
           (KC.MapCodec.written_wire ∙ sym KC.MapValueDecode.wire) (VC.MapCodec.written_wire ∙ sym VC.MapValueDecode.wire)
           (put KC.Value.same) (λ k. KC.fits k × KC.normal k) (λ v. VC.fits v × VC.normal v) d

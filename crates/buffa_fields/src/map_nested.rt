@@ -21,6 +21,7 @@ ghost use Rattle.buffa_fields.specs.NestedMaps.{pair_levels, pair_records, pair_
 ghost use Rattle.buffa_fields.specs.Refusals.{RefusesPair};
 ghost use Rattle.buffa_fields.specs.LevelKindFacts.{pairs_low, pair_numbers};
 ghost use Rattle.buffa_fields.specs.Levels.{AreExactLevels};
+ghost use Rattle.buffa_fields.specs.ValidFacts.{pair_valid};
 
 use crate::map::take_entry;
 use crate::meaning::And;
@@ -140,6 +141,7 @@ where
     }
 
     ghost back = { record {
+      valid = λ n number l normal. pair_valid n number KC.writing N.encoding l;
       back = λ n number d l fits normal low. pairs_back N.merged N.blank_is N.cost N.encoding N.levels
           (FitsInside N.normal N.records)
           (λ d v ok low. N.MessageSpec.merged_encoding d v ok.1 ok.0 low) KC.reading KC.writing

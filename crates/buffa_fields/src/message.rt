@@ -152,6 +152,8 @@ impl<M: Listing> MessageMeaning<M> for Listed {
 
     ghost cost_is = { λ d b. refl };
 
+    ghost valid = { λ v normal. M.layout.valid normal.0 M.sound v normal.1 };
+
     ghost merged_encoding = { λ d v fits normal low.
         ap (λ b. merged_of M.layout.takes d b (records_encoding (M.layout.records v))) M.Listing.starts
         ∙ reads_back M.layout normal.0 M.sound d v fits normal.1 low };

@@ -11,7 +11,7 @@ ghost use Rattle.buffa_wire.proofs.ByPayloadLemmas.{by_payload, merged_fields};
 ghost use Rattle.buffa_fields.specs.Calls.{ChecksWire, TakesIn};
 ghost use Rattle.buffa_fields.specs.Framing.{Messages, cost_as, datum_of_value, taken_as};
 ghost use Rattle.buffa_fields.specs.FramingCalls.{WritesFramed};
-ghost use Rattle.buffa_fields.specs.FramingFacts.{one_stays, there_back, there_least};
+ghost use Rattle.buffa_fields.specs.FramingFacts.{one_stays, there_back, there_least, there_valid};
 ghost use Rattle.buffa_fields.specs.LevelKindFacts.{optional_numbers};
 ghost use Rattle.buffa_fields.specs.Levels.{AreExactLevels};
 ghost use Rattle.buffa_fields.specs.MemberRecords.{optional_records};
@@ -167,8 +167,10 @@ impl<F: Framing, N: Message> Member for MessageIn<F, N> {
       normal = N.normal;
       as_records = N.MessageSpec.encoding_records;
       fields = merged_fields (by_payload N.MessageSpec.stays N.MessageSpec.merged_is N.MessageSpec.cost_is);
+      valid = N.MessageSpec.valid;
       back = N.MessageSpec.merged_encoding;
     } in record {
+      valid = there_valid F.frame F.holds m;
       back = there_back F.frame F.holds m;
       exact = λ exact. record {
         numbers = optional_numbers (datum_of_value F.frame N.encoding N.records);

@@ -11,7 +11,7 @@ ghost use Rattle.buffa_wire.proofs.ByPayloadLemmas.{by_payload, merged_fields};
 ghost use Rattle.buffa_fields.specs.Calls.{ChecksWire, TakesIn};
 ghost use Rattle.buffa_fields.specs.Framing.{Messages, datum_of_value, each_cost_as, taken_as};
 ghost use Rattle.buffa_fields.specs.FramingCalls.{WritesAllFramed};
-ghost use Rattle.buffa_fields.specs.FramingFacts.{behind_back, behind_least, each_stays};
+ghost use Rattle.buffa_fields.specs.FramingFacts.{behind_back, behind_least, each_stays, behind_valid};
 ghost use Rattle.buffa_fields.specs.LevelKindFacts.{element_numbers};
 ghost use Rattle.buffa_fields.specs.Levels.{AreExactLevels};
 ghost use Rattle.buffa_fields.specs.Lists.{element_records};
@@ -179,8 +179,10 @@ impl<F: Framing, N: Message> Member for MessagesIn<F, N> {
       normal = N.normal;
       as_records = N.MessageSpec.encoding_records;
       fields = merged_fields (by_payload N.MessageSpec.stays N.MessageSpec.merged_is N.MessageSpec.cost_is);
+      valid = N.MessageSpec.valid;
       back = N.MessageSpec.merged_encoding;
     } in record {
+      valid = behind_valid F.frame F.holds m;
       back = behind_back F.frame F.holds m;
       exact = λ exact. record {
         numbers = element_numbers (datum_of_value F.frame N.encoding N.records);

@@ -8,6 +8,7 @@ ghost use Rattle.buffa_fields.specs.Values.{IfThere, RefusesAlone, ValueTakesMem
 ghost use Rattle.buffa_fields.specs.ValueFacts.{some_back};
 ghost use Rattle.buffa_fields.specs.MemberRecords.{optional_records};
 ghost use Rattle.buffa_fields.specs.LevelKindFacts.{exact_flat, optional_numbers};
+ghost use Rattle.buffa_fields.specs.ValidFacts.{optional_valid};
 
 use crate::member::Member;
 use crate::proto_type::ProtoType;
@@ -89,6 +90,8 @@ impl<C: ProtoType> Member for Optional<C> {
     }
 
     ghost back = { record {
+      valid = λ k number v normal. optional_valid C.datum (λ v. C.fits v × C.normal v) (λ v ok. C.ProtoType.datum_valid v ok.0)
+          k number v normal;
       back = λ k number d v fits normal low. unfold optional_records in (some_back C.reading C.writing C.datum k number d
           C.MapCodec.plain C.WIRE_TYPE C.MapValueDecode.wire C.MapCodec.written_wire C.fits C.normal C.MapCodec.reads_back
           C.ProtoType.datum_encoding v normal);

@@ -17,6 +17,7 @@ ghost use Rattle.buffa_fields.specs.OrderedFacts.{ascending_put};
 ghost use Rattle.buffa_fields.specs.OrderedMaps.{KeysAscend};
 ghost use Rattle.buffa_fields.specs.Refusals.{RefusesPair, RefusesPairIn};
 ghost use Rattle.buffa_fields.specs.LevelKindFacts.{exact_flat, entry_numbers};
+ghost use Rattle.buffa_fields.specs.ValidFacts.{entry_valid};
 
 use crate::map::{map_len, write_map};
 use crate::meaning::And;
@@ -130,6 +131,7 @@ where
     }
 
     ghost back = { record {
+      valid = λ n number l normal. entry_valid n number KC.writing VC.writing l;
       back = λ n number d l fits normal low. unfold entry_records in (map_back KC.reading VC.reading KC.writing VC.writing
           (KC.MapCodec.written_wire ∙ sym KC.MapValueDecode.wire) (VC.MapCodec.written_wire ∙ sym VC.MapValueDecode.wire)
           (insert_entry KC.Value.order) (λ k. KC.fits k × KC.normal k) (λ v. VC.fits v × VC.normal v) d

@@ -19,6 +19,7 @@ ghost use Rattle.buffa_fields.specs.OrderedMaps.{KeysAscend};
 ghost use Rattle.buffa_fields.specs.Refusals.{RefusesPair};
 ghost use Rattle.buffa_fields.specs.LevelKindFacts.{pairs_low, pair_numbers};
 ghost use Rattle.buffa_fields.specs.Levels.{AreExactLevels};
+ghost use Rattle.buffa_fields.specs.ValidFacts.{pair_valid};
 
 use crate::map_nested::{pairs_len, write_pairs};
 use crate::meaning::And;
@@ -99,6 +100,7 @@ where
     }
 
     ghost back = { record {
+      valid = λ n number l normal. pair_valid n number KC.writing N.encoding l;
       back = λ n number d l fits normal low. pairs_back N.merged N.blank_is N.cost N.encoding N.levels
           (FitsInside N.normal N.records)
           (λ d v ok low. N.MessageSpec.merged_encoding d v ok.1 ok.0 low) KC.reading KC.writing

@@ -14,6 +14,7 @@ ghost use Rattle.buffa_fields.specs.ListFacts.{packed_field_back};
 ghost use Rattle.buffa_fields.specs.Refusals.{RefusesElements, UnderAny};
 ghost use Rattle.buffa_fields.specs.Values.{free};
 ghost use Rattle.buffa_fields.specs.LevelKindFacts.{exact_flat, packed_numbers};
+ghost use Rattle.buffa_fields.specs.ValidFacts.{packed_valid};
 
 use crate::list::take_elements;
 use crate::member::Member;
@@ -211,6 +212,7 @@ impl<C: Packable> Member for Packed<C> {
     }
 
     ghost back = { record {
+      valid = λ k number v normal. packed_valid k number C.writing.encoding v;
       back = λ k number d v fits normal low. packed_field_back C.reading C.writing C.datum k number d C.MapCodec.plain
           C.WIRE_TYPE C.MapValueDecode.wire C.MapCodec.written_wire C.fits C.normal
           C.MapCodec.reads_back C.ProtoType.datum_encoding C.Packable.apart v fits normal;

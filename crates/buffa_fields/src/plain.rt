@@ -7,6 +7,7 @@ ghost use Rattle.buffa_fields.specs.Values.{RefusesAlone, ValueTakesMemory, free
 ghost use Rattle.buffa_fields.specs.ValueFacts.{plain_back};
 ghost use Rattle.buffa_fields.specs.MemberRecords.{plain_records};
 ghost use Rattle.buffa_fields.specs.LevelKindFacts.{exact_flat, plain_numbers};
+ghost use Rattle.buffa_fields.specs.ValidFacts.{plain_valid};
 
 use crate::member::Member;
 use crate::proto_type::ProtoType;
@@ -84,6 +85,8 @@ impl<C: ProtoType> Member for Plain<C> {
     }
 
     ghost back = { record {
+      valid = λ k number v normal. plain_valid C.datum (λ v. C.fits v × C.normal v) (λ v ok. C.ProtoType.datum_valid v ok.0)
+          k number C.is_blank v normal;
       back = λ k number d v fits normal low. unfold plain_records in (plain_back C.reading C.writing C.datum k number d
           C.MapCodec.plain C.WIRE_TYPE C.MapValueDecode.wire C.MapCodec.written_wire C.fits C.normal C.MapCodec.reads_back
           C.ProtoType.datum_encoding C.Value.blank_is C.is_blank C.ProtoType.blank_only v normal.0 normal.1);

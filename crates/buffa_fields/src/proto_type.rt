@@ -1,6 +1,7 @@
 //! Proto types whose values can be in a field by themselves.
 
 ghost use Rattle.std.specs.Prelude.{◌≡◌, ◌++◌, ℕ, Bool, true};
+ghost use Rattle.buffa_wire.specs.Parse.{IsValidDatum};
 ghost use Rattle.buffa_wire.specs.Records.{Datum};
 ghost use Rattle.buffa_wire.specs.Encoding.{tagged_encoding};
 ghost use Rattle.buffa_bytes.specs.Values.{tag_encoding};
@@ -25,6 +26,9 @@ pub trait ProtoType: MapCodec {
 
     /// The encoding of a field is that of its record.
     ghost datum_encoding: { (n : ℕ) (v : Self.Value.Meaning) → tag_encoding n Self.writing.wire ++ Self.writing.encoding v ≡ tagged_encoding n (datum v) };
+
+    /// The data of a value of the type are in range.
+    ghost datum_valid: { (v : Self.Value.Meaning) → Self.fits v → IsValidDatum (datum v) };
 
     /// Of the values that are read, none but the default is left out.
     ghost blank_only: { (v : Self.Value.Meaning) → Self.normal v → is_blank v ≡ true → v ≡ Self.Value.blank_is };

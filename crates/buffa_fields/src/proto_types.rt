@@ -3,6 +3,9 @@
 ghost use Rattle.std.specs.Prelude.{false, refl};
 ghost use Rattle.std.specs.Int.{cast_unsigned, w64};
 ghost use Rattle.std.proofs.Common.{ap, sym, ◌∙◌};
+ghost use Rattle.buffa_bytes.proofs.IntLemmas.{int32_below};
+ghost use Rattle.buffa_bytes.proofs.ScalarLemmas.{bool_fits, unsigned32_fits, unsigned64_fits, zigzag_fits64};
+ghost use Rattle.buffa_wire.specs.ScalarFacts.{below_64, zigzag32_below};
 ghost use Rattle.buffa_wire.specs.Enums.{open_number};
 ghost use Rattle.buffa_wire.specs.Records.Datum.{varint, fixed32, fixed64, bytes};
 ghost use Rattle.buffa_fields.specs.BlankFacts.{zero_only, is_nought, is_zero, none_only, nought_only, is_none, same_false_only};
@@ -23,6 +26,8 @@ impl ProtoType for Int32 {
 
     ghost datum_encoding = { λ n v. refl };
 
+    ghost datum_valid = { int32_below };
+
     ghost blank_only = { λ v _ h. zero_only v h };
 
     fn is_blank(value: &i32) -> bool {
@@ -37,6 +42,8 @@ impl ProtoType for Bool {
 
     ghost datum_encoding = { λ n v. refl };
 
+    ghost datum_valid = { λ v _. bool_fits v };
+
     ghost blank_only = { λ v _ h. same_false_only v h };
 
     fn is_blank(value: &bool) -> bool {
@@ -50,6 +57,8 @@ impl<T: ProtoString> ProtoType for ProtoStringMap<T> {
     ghost is_blank = { λ v. is_none (T.text v) };
 
     ghost datum_encoding = { λ n v. refl };
+
+    ghost datum_valid = { λ v _. tt };
 
     ghost blank_only = { λ v _ h. sym (T.ProtoString.meaning_stays v)
         ∙ ap T.of_text (none_only (T.text v) h ∙ sym T.ProtoString.blank_text)
@@ -71,6 +80,8 @@ impl ProtoType for Int64 {
 
     ghost datum_encoding = { λ n v. refl };
 
+    ghost datum_valid = { unsigned64_fits };
+
     ghost blank_only = { λ v _ h. zero_only v h };
 }
 
@@ -84,6 +95,8 @@ impl ProtoType for Uint32 {
     }
 
     ghost datum_encoding = { λ n v. refl };
+
+    ghost datum_valid = { below_64 };
 
     ghost blank_only = { λ v _ h. nought_only v h };
 }
@@ -99,6 +112,8 @@ impl ProtoType for Uint64 {
 
     ghost datum_encoding = { λ n v. refl };
 
+    ghost datum_valid = { λ v fit. fit };
+
     ghost blank_only = { λ v _ h. nought_only v h };
 }
 
@@ -112,6 +127,8 @@ impl ProtoType for Sint32 {
     }
 
     ghost datum_encoding = { λ n v. refl };
+
+    ghost datum_valid = { zigzag32_below };
 
     ghost blank_only = { λ v _ h. zero_only v h };
 }
@@ -127,6 +144,8 @@ impl ProtoType for Sint64 {
 
     ghost datum_encoding = { λ n v. refl };
 
+    ghost datum_valid = { zigzag_fits64 };
+
     ghost blank_only = { λ v _ h. zero_only v h };
 }
 
@@ -141,6 +160,8 @@ impl ProtoType for Fixed32 {
 
     ghost datum_encoding = { λ n v. refl };
 
+    ghost datum_valid = { λ v fit. fit };
+
     ghost blank_only = { λ v _ h. nought_only v h };
 }
 
@@ -154,6 +175,8 @@ impl ProtoType for Fixed64 {
     }
 
     ghost datum_encoding = { λ n v. refl };
+
+    ghost datum_valid = { λ v fit. fit };
 
     ghost blank_only = { λ v _ h. nought_only v h };
 }
@@ -197,6 +220,8 @@ impl ProtoType for Sfixed32 {
 
     ghost datum_encoding = { λ n v. refl };
 
+    ghost datum_valid = { unsigned32_fits };
+
     ghost blank_only = { λ v _ h. zero_only v h };
 }
 
@@ -211,6 +236,8 @@ impl ProtoType for Sfixed64 {
 
     ghost datum_encoding = { λ n v. refl };
 
+    ghost datum_valid = { unsigned64_fits };
+
     ghost blank_only = { λ v _ h. zero_only v h };
 }
 
@@ -224,6 +251,8 @@ impl<T: ProtoBytes> ProtoType for ProtoBytesMap<T> {
     }
 
     ghost datum_encoding = { λ n v. refl };
+
+    ghost datum_valid = { λ v _. tt };
 
     ghost blank_only = { λ v _ h. sym (T.ProtoBytes.meaning_stays v)
         ∙ ap T.of_bytes (none_only (T.bytes v) h ∙ sym T.ProtoBytes.blank_bytes)
@@ -241,6 +270,8 @@ impl ProtoType for BytesBuf {
 
     ghost datum_encoding = { λ n v. refl };
 
+    ghost datum_valid = { λ v _. tt };
+
     ghost blank_only = { λ v _ h. none_only v h };
 }
 
@@ -255,6 +286,8 @@ impl<E: Enumeration> ProtoType for OpenEnum<E> {
 
     ghost datum_encoding = { λ n v. refl };
 
+    ghost datum_valid = { λ v fit. int32_below v.1 fit };
+
     ghost blank_only = { λ v normal h. normal ∙ ap (open_number E.of_number) (zero_only v.1 h) };
 }
 
@@ -264,6 +297,8 @@ impl<E: Enumeration> ProtoType for ClosedEnum<E> {
     ghost is_blank = { λ v. false };
 
     ghost datum_encoding = { λ n v. refl };
+
+    ghost datum_valid = { λ v fit. int32_below v fit.0 };
 
     ghost blank_only = { λ v _ h. cc };
 

@@ -7,6 +7,7 @@ ghost use Rattle.buffa_fields.specs.ListFacts.{elements_back};
 ghost use Rattle.buffa_fields.specs.Refusals.{RefusesElements, UnderAny};
 ghost use Rattle.buffa_fields.specs.Values.{free};
 ghost use Rattle.buffa_fields.specs.LevelKindFacts.{element_numbers, exact_flat};
+ghost use Rattle.buffa_fields.specs.ValidFacts.{element_valid};
 
 use crate::list::{elements_len, take_elements, write_elements};
 use crate::member::Member;
@@ -74,6 +75,8 @@ impl<C: ProtoType> Member for Repeated<C> {
     }
 
     ghost back = { record {
+      valid = λ k number v normal. element_valid C.datum (λ v. C.fits v × C.normal v) (λ v ok. C.ProtoType.datum_valid v ok.0)
+          k number v normal;
       back = λ k number d v fits normal low. elements_back C.reading C.writing C.datum k number d C.MapCodec.plain
           C.WIRE_TYPE C.MapValueDecode.wire C.MapCodec.written_wire C.fits C.normal
           C.MapCodec.reads_back C.ProtoType.datum_encoding v normal;

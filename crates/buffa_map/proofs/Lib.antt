@@ -32,3 +32,4 @@ pub mod ReaderRules
 pub mod CodecWordLemmas
 pub mod EntryWordLemmas
 pub mod FieldWordLemmas
+pub mod StayLemmas

@@ -10,7 +10,8 @@ use Rattle.buffa_wire.proofs.ParseLemmas.{encoding_parses, one_reading}
 use Rattle.buffa_wire.proofs.TakesLemmas.{framed_at, framed_same, framed_sound, merged_of_fields}
 use Rattle.buffa_wire.specs.DepthFacts.{height-records}
 use Rattle.buffa_wire.specs.Encoding.{records_encoding, wire_of}
-use Rattle.buffa_wire.specs.Parse.{Fits, IsPayload, Parse}
+use Rattle.buffa_wire.specs.Parse.{IsPayload, Parse}
+use Rattle.buffa_wire.specs.ReadableFacts.{Readable}
 use Rattle.buffa_wire.specs.Records.{Datum, Records, bytes, datum_height, fixed32, fixed64, group, height, no_records, one, records_height, records_of, varint}
 use Rattle.buffa_wire.specs.Takes.{Taker, answer, framed, merged_of}
 
@@ -48,7 +49,7 @@ module _ {X : Type 0} (takes : Taker X) (d : ℕ) where
       let first = first_taken v w y.0 (wire_of y.1) t p r tag (payload_of_record y.1 d y.0 p payload) (takes d v y.0 (wire_of y.1) p) refl (ap (merged_of takes d v) (sym split) ∙ h) in
       ((v, first.0, p, payload, first.1), each_taken ys r first.0 w next first.2)
 
-  pub records_taken : (rs : List (ℕ × Datum)) (v w : X) → Fits (records_of rs) → merged_of takes d v (records_encoding rs) ≡ Some w → (height rs ≤ d) × AllByRecursion IsTakenBySome rs
+  pub records_taken : (rs : List (ℕ × Datum)) (v w : X) → Readable (records_of rs) → merged_of takes d v (records_encoding rs) ≡ Some w → (height rs ≤ d) × AllByRecursion IsTakenBySome rs
   records_taken rs v w fits h =
       let own = encoding_parses (records_of rs) (records_height (records_of rs)) fits (omega arith) in
       let there = join_records d (records_encoding rs) (merged_of_fields takes d v w (records_encoding rs) h) in
@@ -56,10 +57,10 @@ module _ {X : Type 0} (takes : Taker X) (d : ℕ) where
       let here : Parse d (records_encoding rs) (records_of rs) = subst (λ z. Parse d (records_encoding rs) z) (sym same) there.1 in
       (subst (λ k. k ≤ d) (height-records rs) (low_records (records_of rs) d (records_encoding rs) here), each_taken rs (records_encoding rs) v w here h)
 
-  too_high : (rs : List (ℕ × Datum)) (v : X) → Fits (records_of rs) → d < height rs → (o : Option X) → merged_of takes d v (records_encoding rs) ≡ o → o ≡ None
+  too_high : (rs : List (ℕ × Datum)) (v : X) → Readable (records_of rs) → d < height rs → (o : Option X) → merged_of takes d v (records_encoding rs) ≡ o → o ≡ None
   too_high rs v fits high None is = refl
   too_high rs v fits high (Some w) is = absurd (omega (arith, high, (records_taken rs v w fits is).0))
 
   -- records whose groups nest deeper aren't merged
-  pub deep_records_are_refused : (rs : List (ℕ × Datum)) (v : X) → Fits (records_of rs) → d < height rs → merged_of takes d v (records_encoding rs) ≡ None
+  pub deep_records_are_refused : (rs : List (ℕ × Datum)) (v : X) → Readable (records_of rs) → d < height rs → merged_of takes d v (records_encoding rs) ≡ None
   deep_records_are_refused rs v fits high = too_high rs v fits high (merged_of takes d v (records_encoding rs)) refl

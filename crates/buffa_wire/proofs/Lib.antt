@@ -20,3 +20,4 @@ pub mod KeepLemmas
 pub mod ShortLemmas
 pub mod PinLemmas
 pub mod FaultLemmas
+pub mod ValidLemmas

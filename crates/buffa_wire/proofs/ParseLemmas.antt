@@ -1,5 +1,5 @@
 -- Records and their encodings: an encoding has one reading, and what is written is read.
-use Rattle.std.proofs.Common.{◌≡◌, ℕ, ◌+◌, ◌-◌, ◌*◌, ◌<◌, ◌≤◌, List, [], ◌∷◌, ◌++◌, length, refl, sym, ap, ◌∙◌, arith, append_assoc, length-append}
+use Rattle.std.proofs.Common.{◌≡◌, ℕ, ◌+◌, ◌-◌, ◌*◌, ◌^◌, ◌<◌, ◌≤◌, List, [], ◌∷◌, ◌++◌, length, refl, sym, ap, ◌∙◌, arith, append_assoc, length-append}
 use Rattle.std.specs.Int.{from_le_bytes, w32, w64}
 use Rattle.std.proofs.lemmas.Nat.{from_le_bytes-to_le_bytes_4, from_le_bytes-to_le_bytes_8}
 use Rattle.buffa_bytes.specs.WireType.{wire_number}
@@ -11,6 +11,7 @@ use Rattle.buffa_bytes.proofs.VarintLemmas.{IsVarint-varint_encoding, Spells, va
 use Rattle.buffa_wire.specs.Records.{Datum, varint, fixed32, fixed64, bytes, group, Records, no_records, one, records_height, datum_height}
 use Rattle.buffa_wire.specs.Encoding.{wire_of, payload_encoding, fields_encoding, tagged_encoding}
 use Rattle.buffa_wire.specs.Parse.{Parse, IsPayload, Fits, FitsDatum, InRange, DatumInRange}
+use Rattle.buffa_wire.specs.ReadableFacts.{Readable, ReadableDatum}
 use Rattle.buffa_bytes.proofs.FieldLemmas.{is_tag, onward}
 
 -- ---- more depth changes nothing
@@ -29,17 +30,33 @@ mutual
 
 -- ---- the encoding of records is theirs
 mutual
-  pub encoding_parses : (rs : Records) (d : ℕ) → Fits rs → records_height rs ≤ d → Parse d (fields_encoding rs) rs
+  pub encoding_parses : (rs : Records) (d : ℕ) → Readable rs → records_height rs ≤ d → Parse d (fields_encoding rs) rs
   encoding_parses no_records d h k = refl
   encoding_parses (one n x rs) d h k =
       (tagged_encoding n x, fields_encoding rs, (tag_encoding n (wire_of x), payload_encoding n x, is_tag n (wire_of x) h.0, payload_parses x d n h.0 h.1 (omega arith), refl), encoding_parses rs d h.2 (omega arith), refl)
 
-  payload_parses : (x : Datum) (d n : ℕ) → IsNumber n → FitsDatum x → datum_height x ≤ d → IsPayload d n x (payload_encoding n x)
+  payload_parses : (x : Datum) (d n : ℕ) → IsNumber n → ReadableDatum x → datum_height x ≤ d → IsPayload d n x (payload_encoding n x)
   payload_parses (varint v) d n i h k = IsVarint-varint_encoding v h
   payload_parses (fixed32 v) d n i h k = (refl, sym (from_le_bytes-to_le_bytes_4 v h))
   payload_parses (fixed64 v) d n i h k = (refl, sym (from_le_bytes-to_le_bytes_8 v h))
   payload_parses (bytes v) d n i h k = (varint_encoding (length v), IsVarint-varint_encoding (length v) h, refl)
   payload_parses (group rs) d n i h k = (omega arith, fields_encoding rs, tag_encoding n wire.EndGroup, encoding_parses rs (d - 1) h (omega arith), is_tag n wire.EndGroup i, refl)
+
+-- ---- an encoding of less than 2^64 bytes has no length of 2^64 or more
+mutual
+  pub short_fits : (rs : Records) → length (fields_encoding rs) < 2 ^ 64 → Fits rs
+  short_fits no_records h = tt
+  short_fits (one n x rs) h =
+      let both = length-append (tagged_encoding n x) (fields_encoding rs) in
+      let parts = length-append (tag_encoding n (wire_of x)) (payload_encoding n x) in
+      (short_datum x n (omega (arith, h, both, parts)), short_fits rs (omega (arith, h, both)))
+
+  short_datum : (x : Datum) (n : ℕ) → length (payload_encoding n x) < 2 ^ 64 → FitsDatum x
+  short_datum (varint v) n h = tt
+  short_datum (fixed32 v) n h = tt
+  short_datum (fixed64 v) n h = tt
+  short_datum (bytes v) n h = omega (arith, h, length-append (varint_encoding (length v)) v)
+  short_datum (group rs) n h = short_fits rs (omega (arith, h, length-append (fields_encoding rs) (tag_encoding n wire.EndGroup)))
 
 -- ---- an encoding has one reading
 spelled : (p : List ℕ) (n : ℕ) → IsVarint p n → Spells p n

@@ -10,6 +10,7 @@ pub mod DepthFacts
 pub mod Equal
 pub mod Encoding
 pub mod Parse
+pub mod ReadableFacts
 pub mod RecordReading
 pub mod Found
 pub mod ScalarFacts

@@ -32,18 +32,31 @@ abbrev mutual
   IsPayload d n (bytes v) p = (t : List ℕ) × IsVarint t (length v) × (p ≡ t ++ v)
   IsPayload d n (group rs) p = (0 < d) × (b : List ℕ) × (t : List ℕ) × Parse (d - 1) b rs × IsTag t n wire.EndGroup × (p ≡ b ++ t)
 
--- records whose encoding is read back: numbers that a field may have, data in range, no length of 2^64 or more
+-- records without a length of 2^64 or more
 abbrev mutual
   pub Fits : Records → Type 0
   Fits no_records = Unit {0}
-  Fits (one n x rs) = IsNumber n × FitsDatum x × Fits rs
+  Fits (one n x rs) = FitsDatum x × Fits rs
 
   pub FitsDatum : Datum → Type 0
-  FitsDatum (varint v) = v < 2 ^ 64
-  FitsDatum (fixed32 v) = v < 2 ^ 32
-  FitsDatum (fixed64 v) = v < 2 ^ 64
+  FitsDatum (varint v) = Unit {0}
+  FitsDatum (fixed32 v) = Unit {0}
+  FitsDatum (fixed64 v) = Unit {0}
   FitsDatum (bytes v) = length v < 2 ^ 64
   FitsDatum (group rs) = Fits rs
+
+-- records of numbers that a field may have, nested ones too, with data in range
+abbrev mutual
+  pub AreValid : Records → Type 0
+  AreValid no_records = Unit {0}
+  AreValid (one n x rs) = IsNumber n × IsValidDatum x × AreValid rs
+
+  pub IsValidDatum : Datum → Type 0
+  IsValidDatum (varint v) = v < 2 ^ 64
+  IsValidDatum (fixed32 v) = v < 2 ^ 32
+  IsValidDatum (fixed64 v) = v < 2 ^ 64
+  IsValidDatum (bytes v) = Unit {0}
+  IsValidDatum (group rs) = AreValid rs
 
 -- records whose data are in range
 abbrev mutual

@@ -7,7 +7,7 @@ ghost use Rattle.buffa_bytes.specs.Unread.{IsTailOf};
 ghost use Rattle.buffa_wire.specs.BudgetLeft.{BudgetLeft, budget_left};
 ghost use Rattle.buffa_wire.specs.Message.{BeginsField, FieldRefused, FieldTaken, MergesBytes, MergesField, Stands};
 ghost use Rattle.buffa_wire.specs.Message.{TakesMessageField};
-ghost use Rattle.buffa_wire.specs.Parse.{Fits};
+ghost use Rattle.buffa_wire.specs.Parse.{AreValid, Fits};
 ghost use Rattle.buffa_wire.specs.Passes.{IsNext, IsSized, IsWritten};
 ghost use Rattle.buffa_wire.specs.Records.{Datum, records_of};
 ghost use Rattle.buffa_wire.specs.Encoding.{records_encoding};
@@ -69,6 +69,9 @@ pub trait MessageMeaning<M: Blank> {
 
     /// They cost what their fields do.
     ghost cost_is: { (d : ℕ) (b : List ℕ) → cost d b ≡ cost_of need d b };
+
+    /// The records of such a value have numbers that a field may have, nested ones too, and data in range.
+    ghost valid: { (v : M.Meaning) → normal v → AreValid (records_of (records v)) };
 
     /// The encoding reads back, where no length is too large to be read.
     ghost merged_encoding: { (d : ℕ) (v : M.Meaning) → Fits (records_of (records v)) → normal v → levels v ≤ d →
@@ -193,6 +196,8 @@ where
     ghost normal = { M.Form.normal };
 
     ghost encoding_records = { λ v. refl };
+
+    ghost valid = { M.Form.MessageMeaning.valid };
 
     ghost merged_encoding = { M.Form.MessageMeaning.merged_encoding };
 

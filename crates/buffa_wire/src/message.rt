@@ -9,7 +9,7 @@ ghost use Rattle.buffa_bytes.specs.Front.{delimited_at};
 ghost use Rattle.buffa_bytes.specs.Unread.{IsTailOf};
 ghost use Rattle.buffa_wire.specs.BudgetLeft.{BudgetLeft, PaysAtMost, budget_left, defaults};
 ghost use Rattle.buffa_bytes.specs.declared.error.EncodeError.TheVariants as error;
-ghost use Rattle.buffa_wire.specs.Parse.{Fits};
+ghost use Rattle.buffa_wire.specs.Parse.{AreValid, Fits};
 ghost use Rattle.buffa_wire.specs.Passes.{IsNext, IsSized, IsWritten, cap};
 ghost use Rattle.buffa_wire.specs.Records.{Datum, records_of};
 ghost use Rattle.buffa_wire.specs.Encoding.{records_encoding};
@@ -92,6 +92,9 @@ pub trait MessageSpec: Blank {
 
     /// The encoding is that of the records.
     ghost encoding_records: { (v : Self.Meaning) → encoding v ≡ records_encoding (records v) };
+
+    /// The records of such a value have numbers that a field may have, nested ones too, and data in range.
+    ghost valid: { (v : Self.Meaning) → normal v → AreValid (records_of (records v)) };
 
     /// The encoding reads back, where no length is too large to be read.
     ghost merged_encoding: { (d : ℕ) (v : Self.Meaning) → Fits (records_of (records v)) → normal v → levels v ≤ d →

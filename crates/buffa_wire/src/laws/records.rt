@@ -2,16 +2,18 @@
 //! is the law.
 
 ghost use Rattle.std.specs.Prelude.{◌≡◌, ◌≢◌, ◌-◌, ◌^◌, ◌≤◌, ◌↔◌, ◌∷◌, [], ◌++◌, ℕ, ℤ, List, Some, None, Ok, Err, true, false, length, pos, slice_index, ◌+◌, ◌<◌};
+ghost use Rattle.std.specs.List.{AllByRecursion};
 ghost use Rattle.std.specs.Option.{option_and_then};
 ghost use Rattle.buffa_bytes.specs.declared.wire_type.WireType.{WireType};
 ghost use Rattle.buffa_bytes.specs.declared.error.DecodeError.{DecodeError};
 ghost use Rattle.buffa_bytes.specs.declared.error.DecodeError.TheVariants.{OutOfMemory, UnknownFieldLimitExceeded};
 ghost use Rattle.buffa_bytes.specs.Field.{SomeField, IsTag};
 ghost use Rattle.buffa_bytes.specs.Join.{Join};
+ghost use Rattle.buffa_bytes.specs.Varint.{IsByte};
 ghost use Rattle.buffa_wire.specs.Records.{Datum, Held, height, records_of};
 ghost use Rattle.buffa_wire.specs.View.{datum_of, record_of};
 ghost use Rattle.buffa_wire.specs.Encoding.{records_encoding};
-ghost use Rattle.buffa_wire.specs.Parse.{FieldFault, Fits, InRange, Parse, RecordsFault, TakesField, field_count};
+ghost use Rattle.buffa_wire.specs.Parse.{AreValid, FieldFault, Fits, InRange, Parse, RecordsFault, TakesField, field_count};
 ghost use Rattle.buffa_wire.specs.RecordReading.{field_at, list_at};
 ghost use Rattle.buffa_wire.specs.BudgetLeft.{BudgetLeft, nothing, plus};
 ghost use Rattle.buffa_wire.specs.Cache.{Cache, advanced, appended};
@@ -74,12 +76,14 @@ pub fn constants()
 {}
 
 /// Records are what fields say: bytes are a join of fields exactly where they are the fields of records, and
-/// more depth changes nothing.
+/// more depth changes nothing. Such records have numbers that a field may have, and data in range.
 pub fn records_are_fields()
     ensures fields { (d : ℕ) (bs : List ℕ) → Join (SomeField d) bs
         ↔ ((rs : List (ℕ × Datum)) × Parse d bs (records_of rs)) }
     ensures deeper { (c d : ℕ) (bs : List ℕ) (rs : List (ℕ × Datum)) → c ≤ d → Parse c bs (records_of rs) →
         Parse d bs (records_of rs) }
+    ensures valid { (d : ℕ) (bs : List ℕ) (rs : List (ℕ × Datum)) → AllByRecursion IsByte bs →
+        Parse d bs (records_of rs) → AreValid (records_of rs) }
 {}
 
 /// Bytes are the fields of one list of records, at any depths.
@@ -88,13 +92,15 @@ pub fn one_reading()
         Parse d bs (records_of qs) → rs ≡ qs }
 {}
 
-/// The encoding of records that fit is theirs, at a depth that their groups need, and it is read back with an
-/// unknown field left for each. The encoding of any records whose data are in range is that of no others.
+/// The encoding of valid records that fit is theirs, at a depth that their groups need, and it is read back with an
+/// unknown field left for each. All records fit whose encoding is shorter than 2^64 bytes. The encoding of any records
+/// whose data are in range is that of no others.
 pub fn encodings_are_read_back()
-    ensures parses { (d : ℕ) (rs : List (ℕ × Datum)) → Fits (records_of rs) → height rs ≤ d →
+    ensures parses { (d : ℕ) (rs : List (ℕ × Datum)) → AreValid (records_of rs) → Fits (records_of rs) → height rs ≤ d →
         Parse d (records_encoding rs) (records_of rs) }
-    ensures read { (d s : ℕ) (rs : List (ℕ × Datum)) → Fits (records_of rs) → height rs ≤ d →
+    ensures read { (d s : ℕ) (rs : List (ℕ × Datum)) → AreValid (records_of rs) → Fits (records_of rs) → height rs ≤ d →
         field_count (records_of rs) ≤ s → list_at d s (records_encoding rs) ≡ Ok rs }
+    ensures fits { (rs : List (ℕ × Datum)) → length (records_encoding rs) < 2 ^ 64 → Fits (records_of rs) }
     ensures theirs { (d : ℕ) (rs qs : List (ℕ × Datum)) → InRange (records_of rs) →
         Parse d (records_encoding rs) (records_of qs) → qs ≡ rs }
 {}

@@ -4,6 +4,7 @@ use Rattle.buffa_wire.specs.Parse.{Parse}
 use Rattle.buffa_wire.proofs.RecordLemmas.{records-list}
 use Rattle.buffa_wire.proofs.ParseLemmas.{Parse-deeper}
 use Rattle.buffa_wire.proofs.JoinLemmas.{join_records, records_join}
+use Rattle.buffa_wire.proofs.ValidLemmas.{parsed_valid}
 use Rattle.buffa_wire.proofs.laws.records.records_are_fields.Goals as goal
 
 pub returns-clause-fields : goal.returns-clause-fields
@@ -14,3 +15,6 @@ returns-clause-fields c = λ d bs. (
 
 pub returns-clause-deeper : goal.returns-clause-deeper
 returns-clause-deeper c = λ k d bs rs. Parse-deeper (records_of rs) k d bs
+
+pub returns-clause-valid : goal.returns-clause-valid
+returns-clause-valid c = λ d bs rs k h. parsed_valid (records_of rs) d bs k h
