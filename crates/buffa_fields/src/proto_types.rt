@@ -192,6 +192,8 @@ impl ProtoType for Float {
 
     ghost datum_encoding = { λ n v. refl };
 
+    ghost datum_valid = { λ v fit. fit };
+
     ghost blank_only = { λ v _ h. nought_only v h };
 }
 
@@ -205,6 +207,8 @@ impl ProtoType for Double {
     }
 
     ghost datum_encoding = { λ n v. refl };
+
+    ghost datum_valid = { λ v fit. fit };
 
     ghost blank_only = { λ v _ h. nought_only v h };
 }
