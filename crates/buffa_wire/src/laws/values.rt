@@ -3,6 +3,8 @@
 
 ghost use Rattle.std.specs.Prelude.{◌≡◌, ◌<◌, ◌^◌, ◌+◌, ◌*◌, ◌↔◌, ℕ, ℤ, Bool, true, false, pos, negsuc, suc, max, List, [], ◌∷◌, ◌++◌};
 ghost use Rattle.std.specs.Prelude.{length, codes, Some, is_some, Result, Ok, Err};
+ghost use Rattle.std.specs.Prelude.{◌-◌, Vec, vec_capacity, vec_len};
+ghost use Rattle.std.specs.Global.{Global};
 ghost use Rattle.std.specs.Fmt.{decimal};
 ghost use Rattle.std.specs.Fn.{CalledAt};
 ghost use Rattle.std.specs.Int.{cast_unsigned, to_le_bytes, w32, w64};
@@ -31,10 +33,11 @@ ghost use Rattle.buffa_wire.specs.Enums.{DeclaresBlank, Numbers, Refines, number
 ghost use Rattle.buffa_wire.specs.Found.{fixed32_in, fixed64_in, varint_in};
 ghost use Rattle.buffa_wire.specs.Parse.{InRange, field_count, fields_inside};
 ghost use Rattle.buffa_wire.specs.Records as datum;
-ghost use Rattle.buffa_wire.specs.Records.{Datum, IsEmpty, IsNumeric, Records, datum_height, height, records_height};
+ghost use Rattle.buffa_wire.specs.Records.{Datum, Held, IsEmpty, IsNumeric, Records, datum_height, height, records_height};
 ghost use Rattle.buffa_wire.specs.Records.{records_of};
-ghost use Rattle.buffa_wire.specs.View.{AnswersRecords, CalledAtRecord, datum_of, record_of, records_in};
-ghost use Rattle.buffa_wire.specs.declared.unknown_fields.UnknownFieldData.TheVariants as held;
+ghost use Rattle.buffa_wire.specs.View.{AnswersRecords, CalledAtRecord, datum_of, held, record_of, records_in};
+ghost use Rattle.buffa_wire.specs.declared.unknown_fields.UnknownFieldData.TheVariants as payload;
+ghost use Rattle.buffa_wire.specs.declared.unknown_fields.UnknownFields.TheInside.{Inside};
 
 use crate::enumeration::Enumeration;
 use crate::unknown_fields::UnknownField;
@@ -124,9 +127,13 @@ pub fn numbers_of_enums_stay<E: Enumeration>()
 /// The record of an unknown field: its number, and the number, the bytes or the records that it holds.
 pub fn records_of_fields_are_these()
     ensures field { (f : UnknownField) → record_of f ≡ (f.number, datum_of f.payload) }
-    ensures varint { (v : ℕ) → datum_of (held.Varint v) ≡ datum.varint v }
-    ensures fixed32 { (v : ℕ) → datum_of (held.Fixed32 v) ≡ datum.fixed32 v }
-    ensures fixed64 { (v : ℕ) → datum_of (held.Fixed64 v) ≡ datum.fixed64 v }
+    ensures varint { (v : ℕ) → datum_of (payload.Varint v) ≡ datum.varint v }
+    ensures fixed32 { (v : ℕ) → datum_of (payload.Fixed32 v) ≡ datum.fixed32 v }
+    ensures fixed64 { (v : ℕ) → datum_of (payload.Fixed64 v) ≡ datum.fixed64 v }
+    ensures bytes { (b : Vec ℕ Global) → datum_of (payload.LengthDelimited b) ≡ datum.bytes b.items }
+    ensures group { (fs : Held) → datum_of (payload.Group fs) ≡ datum.group (records_of fs.records) }
+    ensures held { (a : Inside) → (held a).records ≡ records_in a.fields.items }
+    ensures spare { (a : Inside) → (held a).spare ≡ vec_capacity a.fields - vec_len a.fields }
     ensures no_records { records_of [] ≡ datum.no_records }
     ensures more_records { (r : ℕ × Datum) (rs : List (ℕ × Datum)) → records_of (r ∷ rs) ≡ datum.one r.0 r.1 (records_of rs) }
     ensures no_fields { records_in [] ≡ [] }
