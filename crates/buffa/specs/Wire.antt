@@ -18,7 +18,7 @@ pub use Rattle.buffa_wire.specs.BudgetLeft.{BudgetLeft, Covers, PaysAtMost, Unkn
 pub use Rattle.buffa_wire.specs.Cache.{advanced, appended}
 pub use Rattle.buffa_wire.specs.Enums.{DeclaresBlank, numbers, open_number}
 pub use Rattle.buffa_wire.specs.Message.{BeginsField, FieldRefused, IsMergedAlone, MergesBytes, MergesField, MergesInside, MessageFault, Stands, StandsInside, TakesMessageField, Unchanged, cost_of_payload}
-pub use Rattle.buffa_wire.specs.Parse.{Fits}
+pub use Rattle.buffa_wire.specs.Parse.{AreValid, Fits}
 pub use Rattle.buffa_wire.specs.Passes.{IsNext, IsSized, IsWritten}
 pub use Rattle.buffa_wire.specs.RecordReading.{ListTakesMemory, RecordTakesMemory, field_in, list_at}
 pub use Rattle.buffa_wire.specs.Records.{Datum, IsEmpty, IsNumeric, bytes, records_of}

@@ -68,6 +68,7 @@ pub fn wire_relations_are_these<X, Y, T>()
     ensures merges_field { AreAlike11 (wire.MergesField {X = X} {T = T}) (message.MergesField {X = X} {T = T}) }
     ensures merges_inside { AreAlike8 (wire.MergesInside {X = X}) (message.MergesInside {X = X}) }
     ensures message_fault { AreAlike7 (wire.MessageFault {X = X}) (message.MessageFault {X = X}) }
+    ensures are_valid { AreAlike1 wire.AreValid parse.AreValid }
     ensures fits { AreAlike1 wire.Fits parse.Fits }
     ensures is_next { AreAlike2 wire.IsNext passes.IsNext }
     ensures is_sized { AreAlike5 wire.IsSized passes.IsSized }

@@ -12,7 +12,8 @@ use Rattle.buffa_bytes.specs.declared.error.EncodeError.TheVariants.{GroupRefuse
 use Rattle.buffa_bytes.proofs.StepLemmas.{agree_ok}
 use Rattle.buffa_wire.specs.BudgetLeft.{BudgetLeft, Covers, Lacks, Pays, PaysAtMost, defaults, nothing, plus}
 use Rattle.buffa_wire.specs.Message.{MergeFault}
-use Rattle.buffa_wire.specs.Parse.{Fits}
+use Rattle.buffa_wire.specs.Parse.{AreValid, Fits}
+use Rattle.buffa_wire.specs.ReadableFacts.{Readable, readable}
 use Rattle.buffa_wire.specs.RecordReading.{list_at}
 use Rattle.buffa_wire.specs.Records.{Datum, group, records_of, records_height}
 use Rattle.buffa_wire.specs.Encoding.{records_encoding, fields_encoding}
@@ -218,7 +219,7 @@ large_refusal refusal t h = ap (λ c. if c then refusal t else Some MessageTooLa
 
 -- ---- groups
 
-group_by : (rs : List (ℕ × Datum)) (r : Result (List (ℕ × Datum)) DecodeError) → list_at 100 1000000 (records_encoding rs) ≡ r → Fits (records_of rs) → why_refused r ≡ None
+group_by : (rs : List (ℕ × Datum)) (r : Result (List (ℕ × Datum)) DecodeError) → list_at 100 1000000 (records_encoding rs) ≡ r → Readable (records_of rs) → why_refused r ≡ None
     → group_held (group (records_of (or_none r))) ≡ Some (records_encoding rs)
 group_by rs (Ok qs) e f h =
     let read = agree_ok (list_at 100 1000000 (records_encoding rs)) qs (list_is_read 100 1000000 (records_encoding rs)) e in
@@ -227,19 +228,20 @@ group_by rs (Ok qs) e f h =
 group_by rs (Err g) e f h = absurd (none-some (GroupRefused g) (sym h))
 
 -- the group of an encoding holds it
-pub group_back : (rs : List (ℕ × Datum)) → Fits (records_of rs) → group_refusal (records_encoding rs) ≡ None → group_held (group_of (records_encoding rs)) ≡ Some (records_encoding rs)
-group_back rs f h = group_by rs (list_at 100 1000000 (records_encoding rs)) refl f h
+pub group_back : (rs : List (ℕ × Datum)) → AreValid (records_of rs) → Fits (records_of rs) → group_refusal (records_encoding rs) ≡ None → group_held (group_of (records_encoding rs)) ≡ Some (records_encoding rs)
+group_back rs v f h = group_by rs (list_at 100 1000000 (records_encoding rs)) refl (readable (records_of rs) v f) h
 
 -- what a message's record is read as
 pub message_back : {X : Type 0} (merged : ℕ → X → List ℕ → Option X) (cost : ℕ → List ℕ → BudgetLeft) (held : Datum → Option (List ℕ)) (holder : List ℕ → Datum) (refusal : List ℕ → Option EncodeError)
     (blank : X) (encoding : X → List ℕ) (records : X → List (ℕ × Datum)) (levels : X → ℕ) (normal : X → Type 0)
     → ((v : X) → encoding v ≡ records_encoding (records v))
+    → ((v : X) → normal v → AreValid (records_of (records v)))
     → ((d : ℕ) (v : X) → Fits (records_of (records v)) → normal v → levels v ≤ d → merged d blank (encoding v) ≡ Some v)
-    → ((rs : List (ℕ × Datum)) → Fits (records_of rs) → refusal (records_encoding rs) ≡ None → held (holder (records_encoding rs)) ≡ Some (records_encoding rs))
+    → ((rs : List (ℕ × Datum)) → AreValid (records_of rs) → Fits (records_of rs) → refusal (records_encoding rs) ≡ None → held (holder (records_encoding rs)) ≡ Some (records_encoding rs))
     → (v : X) (b : BudgetLeft) → encoding_refusal refusal (encoding v) ≡ None → normal v × (levels v ≤ 100) × Fits (records_of (records v))
     → Covers b (cost_all (cost 100) (encodings_in held (holder (encoding v) ∷ []))) → message_of (merged 100) (cost 100) blank b (encodings_in held (holder (encoding v) ∷ [])) ≡ Some v
-message_back merged cost held holder refusal blank encoding records levels normal is_text back kept v b f n k =
+message_back merged cost held holder refusal blank encoding records levels normal is_text valid back kept v b f n k =
     let same = is_text v in
     one_message_back (merged 100) (cost 100) held blank v b (holder (encoding v)) (encoding v)
-    (subst (λ t. held (holder t) ≡ Some t) (sym same) (kept (records v) n.2 (subst (λ t. refusal t ≡ None) same (held_too refusal (encoding v) f))))
+    (subst (λ t. held (holder t) ≡ Some t) (sym same) (kept (records v) (valid v n.0) n.2 (subst (λ t. refusal t ≡ None) same (held_too refusal (encoding v) f))))
     (back 100 v n.2 n.0 n.1) k

@@ -163,7 +163,7 @@ group_refusal encoding = why_refused (list_at 100 1000000 encoding)
 abbrev pub encoding_refusal : (List ℕ → Option EncodeError) → List ℕ → Option EncodeError
 encoding_refusal refusal encoding = if nat_lt (length encoding) (2 ^ 31) then refusal encoding else Some MessageTooLarge
 
--- a message is read back: its type says so, it isn't too deep, its numbers can be written, and the encodings in its
+-- a message is read back: its type says so, it isn't too deep, no length in it is 2^64 or more, and the encodings in its
 -- record cost no more than a default budget
 abbrev pub IsReadBack : Type 0 → ℕ → List (ℕ × Datum) → (List ℕ → BudgetLeft) → List (List ℕ) → Type 0
 IsReadBack normal levels records cost encodings = (normal × (levels ≤ 100) × Fits (records_of records)) × Covers defaults (cost_all cost encodings)

@@ -125,7 +125,7 @@ impl<K: MessageRecord, M: Message> SingularCodec for MessageIn<K, M> {
 
     ghost reads_datum = { λ v b f n h.
         message_back M.merged M.cost K.held K.holder K.refusal M.blank_is M.encoding M.records M.levels M.normal
-        M.MessageSpec.encoding_records M.MessageSpec.merged_encoding K.MessageRecord.held_back v b f n h };
+        M.MessageSpec.encoding_records M.MessageSpec.valid M.MessageSpec.merged_encoding K.MessageRecord.held_back v b f n h };
 
     ghost spends_cost = { λ b left d v e h. spent_cost (M.merged 100) (M.cost 100) M.blank_is v b left
         (encodings_in K.held (d ∷ [])) e h };
@@ -221,5 +221,5 @@ impl<K: MessageRecord, M: Message> ExtensionCodec for MessageIn<K, M> {
 
     ghost reads_back = { λ v o f n h.
         h ∙ message_back M.merged M.cost K.held K.holder K.refusal M.blank_is M.encoding M.records M.levels M.normal
-        M.MessageSpec.encoding_records M.MessageSpec.merged_encoding K.MessageRecord.held_back v defaults f n.0 n.1 };
+        M.MessageSpec.encoding_records M.MessageSpec.valid M.MessageSpec.merged_encoding K.MessageRecord.held_back v defaults f n.0 n.1 };
 }

@@ -6,7 +6,7 @@ ghost use Rattle.buffa_bytes.specs.declared.error.EncodeError.TheVariants.{OutOf
 ghost use Rattle.buffa_bytes.specs.declared.wire_type.WireType.{WireType};
 ghost use Rattle.buffa_bytes.specs.Gives.{FullOnlyIf};
 ghost use Rattle.buffa_wire.specs.BudgetLeft.{budget_left};
-ghost use Rattle.buffa_wire.specs.Parse.{Fits};
+ghost use Rattle.buffa_wire.specs.Parse.{AreValid, Fits};
 ghost use Rattle.buffa_wire.specs.Records.{Datum, bytes, records_of};
 ghost use Rattle.buffa_wire.specs.Encoding.{records_encoding};
 ghost use Rattle.buffa_wire.specs.View.{datum_of};
@@ -84,8 +84,8 @@ pub trait MessageRecord {
         ensures full { IfErr result (λ e. e ≡ OutOfMemory → encoding.items ≢ []) }
         ensures always { never_fails → IsOk result };
 
-    /// The record of an encoding holds it.
-    ghost held_back: { (rs : _) → Fits (records_of rs) → refusal (records_encoding rs) ≡ None →
+    /// The record of an encoding of valid records holds it.
+    ghost held_back: { (rs : _) → AreValid (records_of rs) → Fits (records_of rs) → refusal (records_encoding rs) ≡ None →
         held (holder (records_encoding rs)) ≡ Some (records_encoding rs) };
 }
 
@@ -134,7 +134,7 @@ impl MessageRecord for Delimited {
         Ok(UnknownFieldData::LengthDelimited(encoding))
     }
 
-    ghost held_back = { λ rs f h. refl };
+    ghost held_back = { λ rs v f h. refl };
 }
 
 /// A group, whose records' encoding is the message's.

@@ -5,7 +5,7 @@ use Rattle.std.proofs.lemmas.Str.{IsUtf8-nil, is_utf8-from_IsUtf8}
 use Rattle.std.specs.BTreeMap.{insert_entry}
 use Rattle.std.specs.Cmp.{int_cmp_total}
 use Rattle.std.specs.Cmp.Lexicographic.{nat_list_cmp_total}
-use Rattle.std.specs.Int.{from_le_bytes, w32, w64}
+use Rattle.std.specs.Int.{w32}
 use Rattle.std.specs.List.{AllByRecursion}
 use Rattle.std.specs.List.Sorted.{IsStrictlySortedBy}
 use Rattle.std.specs.Map.{keys_of}
@@ -27,18 +27,16 @@ use Rattle.buffa_bytes.specs.Varint.{IsByte}
 use Rattle.buffa_bytes.specs.declared.error.DecodeError.{DecodeError}
 use Rattle.buffa_bytes.specs.declared.error.DecodeError.TheVariants.{InvalidUtf8}
 use Rattle.buffa_bytes.specs.declared.wire_type.WireType.TheVariants.{LengthDelimited}
-use Rattle.buffa_wire.proofs.JoinLemmas.{join_records, payload_of_record}
+use Rattle.buffa_wire.proofs.ValidLemmas.{AreBytes, all_before, all_behind, as_bytes, payload_valid}
 use Rattle.buffa_bytes.proofs.SequenceLemmas.{ok_same}
-use Rattle.buffa_wire.proofs.TakesLemmas.{merged_of_fields, merged_of_none}
 use Rattle.buffa_wire.specs.BudgetLeft.{nothing}
 use Rattle.buffa_wire.specs.Encoding.{wire_of}
 use Rattle.buffa_wire.specs.Message.{merged_in}
-use Rattle.buffa_wire.specs.Parse.{Fits, FitsDatum, IsPayload, Parse}
-use Rattle.buffa_wire.specs.Records.{Datum, Records, bytes, fixed32, fixed64, group, no_records, one, varint}
+use Rattle.buffa_wire.specs.Parse.{IsPayload}
+use Rattle.buffa_wire.specs.Records.{Datum, bytes, fixed32, fixed64, group, varint}
 use Rattle.buffa_bytes.specs.Sequence.{ParsesEach, join}
-use Rattle.buffa_wire.specs.Takes.{Taker, merged_of}
 use Rattle.buffa_map.proofs.EntryLemmas.{entry_sound}
-use Rattle.buffa_map.proofs.LowLemmas.{first_taken}
+use Rattle.buffa_map.proofs.StayLemmas.{all_keep}
 use Rattle.buffa_map.proofs.SortedLemmas.{sorted_put}
 use Rattle.buffa_map.specs.Codec.{Reading}
 use Rattle.buffa_map.specs.Encoding.{AllHold}
@@ -58,63 +56,6 @@ use Rattle.buffa_fields.specs.MapNests.{Kids, kid_list, kid_list-kids_in, kids_i
 use Rattle.sample_node.specs.Branch.{Branch, NodeKept, NodeOwn, Scores, Shades, blank_node, branch, shade_numbers}
 use Rattle.sample_node.specs.NodeEncoding.{AreNormalNodes, IsKept, IsNormalNode}
 use Rattle.sample_node.specs.NodeMeaning.{LevelMeaning, children_take, node_field_takes, node_merged, node_reading, scores_take, shade_reading, shades_take, text_cmp}
-
--- ---- what holds of a list holds of its parts
-all_before : {A : Type 0} (P : A → Type 0) (xs ys : List A) → AllByRecursion P (xs ++ ys) → AllByRecursion P xs
-all_before P [] ys h = tt
-all_before P (x ∷ xs) ys h = (h.0, all_before P xs ys h.1)
-
-all_behind : {A : Type 0} (P : A → Type 0) (xs ys : List A) → AllByRecursion P (xs ++ ys) → AllByRecursion P ys
-all_behind P [] ys h = h
-all_behind P (x ∷ xs) ys h = all_behind P xs ys h.1
-
-abbrev AreBytes : List ℕ → Type 0
-AreBytes = AllByRecursion IsByte
-
-as_bytes : (a b : List ℕ) → a ≡ b → AreBytes a → AreBytes b
-as_bytes a b is h = subst (λ z. AreBytes z) is h
-
--- ---- records that are read fit
-four_fit : (p : List ℕ) → length p ≡ 4 → AreBytes p → from_le_bytes w32 p < 2 ^ 32
-four_fit (a ∷ b ∷ c ∷ d ∷ []) h k = omega (arith, k.0, k.1.0, k.1.1.0, k.1.1.1.0)
-four_fit _ h k = absurd (omega (arith, h))
-
-eight_fit : (p : List ℕ) → length p ≡ 8 → AreBytes p → from_le_bytes w64 p < 2 ^ 64
-eight_fit (a ∷ b ∷ c ∷ d ∷ e ∷ f ∷ g ∷ i ∷ []) h k = omega (arith, k.0, k.1.0, k.1.1.0, k.1.1.1.0, k.1.1.1.1.0, k.1.1.1.1.1.0, k.1.1.1.1.1.1.0, k.1.1.1.1.1.1.1.0)
-eight_fit _ h k = absurd (omega (arith, h))
-
-mutual
-  parsed_fit : (rs : Records) (d : ℕ) (b : List ℕ) → AreBytes b → Parse d b rs → Fits rs
-  parsed_fit no_records d b k h = tt
-  parsed_fit (one n x rs) d b k (f, r, (t, p, tag, payload, is), next, all) =
-      let whole = as_bytes b (f ++ r) all k in
-      let field = as_bytes f (t ++ p) is (all_before IsByte f r whole) in
-      (tag.0, payload_fits x d n p (all_behind IsByte t p field) payload, parsed_fit rs d r (all_behind IsByte f r whole) next)
-
-  payload_fits : (x : Datum) (d n : ℕ) (p : List ℕ) → AreBytes p → IsPayload d n x p → FitsDatum x
-  payload_fits (varint v) d n p k h = h.fits
-  payload_fits (fixed32 v) d n p k h = subst (λ z. z < 2 ^ 32) (sym h.1) (four_fit p h.0 k)
-  payload_fits (fixed64 v) d n p k h = subst (λ z. z < 2 ^ 64) (sym h.1) (eight_fit p h.0 k)
-  payload_fits (bytes v) d n p k h = h.1.fits
-  payload_fits (group rs) d n p k (o, b, t, h, tag, is) = parsed_fit rs (d - 1) b (all_before IsByte b t (as_bytes p (b ++ t) is k)) h
-
--- ---- what each payload keeps all bytes keep
-module _ {X : Type 0} (takes : Taker X) (d : ℕ) (P : X → Type 0)
-    (keeps : (v u : X) (n : ℕ) (x : Datum) (p : List ℕ) → P v → IsNumber n → AreBytes p → IsPayload d n x p → takes d v n (wire_of x) p ≡ Some u → P u) where
-  same_value : (v w : X) → (let o : Option X = Some v in o ≡ Some w) → v ≡ w
-  same_value v w h = cc
-
-  along : (rs : Records) (b : List ℕ) (v w : X) → AreBytes b → Parse d b rs → P v → merged_of takes d v b ≡ Some w → P w
-  along no_records b v w k parse h m = subst (λ z. P z) (same_value v w (sym (merged_of_none takes d v) ∙ ap (merged_of takes d v) (sym parse) ∙ m)) h
-  along (one n x rs) b v w k (f, r, (t, p, tag, payload, is), next, all) h m =
-      let whole = as_bytes b (f ++ r) all k in
-      let field = as_bytes f (t ++ p) is (all_before IsByte f r whole) in
-      let split : b ≡ t ++ (p ++ r) = all ∙ ap (λ z. z ++ r) is ∙ append_assoc t p r in
-      let first = first_taken takes d v w n (wire_of x) t p r tag (payload_of_record x d n p payload) (takes d v n (wire_of x) p) refl (ap (merged_of takes d v) (sym split) ∙ m) in
-      along rs r first.0 w (all_behind IsByte f r whole) next (keeps v first.0 n x p h tag.0 (all_behind IsByte t p field) payload first.1) first.2
-
-  all_keep : (b : List ℕ) (v w : X) → AreBytes b → P v → merged_of takes d v b ≡ Some w → P w
-  all_keep b v w k h m = let rs = join_records d b (merged_of_fields takes d v w b m) in along rs.0 b v w k rs.1 h m
 
 -- ---- what an entry says
 module _ {K V : Type 0} (key : Reading K) (val : Reading V) (d : ℕ) (Q : MapEntry K V → Type 0)
@@ -300,7 +241,7 @@ module _ (m : LevelMeaning) (stays : KeepsNormal m) (d : ℕ) where
           let o = mapped (λ z. branch a cs h z) (keep_takes d r n (wire_of x) p) u taken in
           let same : (let q : Option NodeKept = Some o.0 in q ≡ Some (r ++ (n, x) ∷ [])) = sym o.1 ∙ kept_record d n x p r payload in
           let more : o.0 ≡ r ++ (n, x) ∷ [] = cc in
-          subst (λ z. IsNormalNode z) (sym (o.2 ∙ ap (λ z. branch a cs h z) more)) ((normal.0.0, normal.0.1, AllByRecursion-last IsKept r (n, x) normal.0.2 (inl (high, (some, payload_fits x d n p b payload, tt)))), normal.1, normal.2)
+          subst (λ z. IsNormalNode z) (sym (o.2 ∙ ap (λ z. branch a cs h z) more)) ((normal.0.0, normal.0.1, AllByRecursion-last IsKept r (n, x) normal.0.2 (inl (high, (some, payload_valid x d n p b payload, tt)))), normal.1, normal.2)
 
       by_number : (i j k : Bool) → (n == 1) ≡ i → (n == 2) ≡ j → (n == 3) ≡ k →
           (if i then option_map (λ z. branch z cs h r) (scores_take d a n (wire_of x) p)

@@ -8,7 +8,9 @@ use Rattle.buffa_bytes.specs.declared.error.DecodeError.TheVariants.{OutOfMemory
 use Rattle.buffa_bytes.specs.declared.wire_type.WireType.{WireType}
 use Rattle.buffa_wire.specs.BudgetLeft.{BudgetLeft}
 use Rattle.buffa_wire.specs.Kept.{keep_need}
+use Rattle.buffa_wire.specs.Parse.{AreValid}
 use Rattle.buffa_wire.specs.RecordReading.{field_at}
+use Rattle.buffa_wire.specs.Records.{records_of}
 use Rattle.buffa_wire.specs.Takes.{Need, Taker}
 use Rattle.buffa_map.specs.Encoding.{AllHold}
 use Rattle.buffa_map.specs.Enums.{ClosedFits, closed_writing}
@@ -45,7 +47,7 @@ AreNormalShades h = AllHold (λ k. FitsSigned w32 k × Unit {0}) (λ v. ClosedFi
 
 abbrev pub IsNormalBeside : NodeOwn → Type 0
 IsNormalBeside (a, (h, r)) =
-    AreNormalScores a × (AreNormalShades h × Unit {0} × AllAside 3 (IsAsideEntry int32_reading shade_reading) r) × AllNumbers (λ n. not (n == 1)) r
+    AreNormalScores a × (AreNormalShades h × AreValid (records_of r) × AllAside 3 (IsAsideEntry int32_reading shade_reading) r) × AllNumbers (λ n. not (n == 1)) r
 
 -- what is said of a refused field that isn't a child
 pub record IsOwnRefused (d : ℕ) (old : NodeOwn) (n : ℕ) (w : WireType) (bs : List ℕ) (left : BudgetLeft) (e : DecodeError) (new : NodeOwn) : Type 0 where

@@ -10,7 +10,7 @@ use Rattle.buffa_bytes.proofs.VarintLemmas.{IsVarint-varint_encoding}
 use Rattle.buffa_bytes.specs.Content.{number}
 use Rattle.buffa_bytes.specs.Number.{IsNumber}
 use Rattle.buffa_wire.specs.Encoding.{records_encoding}
-use Rattle.buffa_wire.specs.Parse.{Fits}
+use Rattle.buffa_wire.specs.ReadableFacts.{Readable}
 use Rattle.buffa_wire.specs.Records.{records_of}
 use Rattle.buffa_wire.specs.Takes.{ReadsBack}
 use Rattle.buffa_map.proofs.BackLemmas.{IsReadBack, plain_back}
@@ -25,6 +25,7 @@ use Rattle.buffa_fields.specs.Layout.{Layout}
 use Rattle.buffa_fields.specs.MapFacts.{map_back}
 use Rattle.buffa_fields.specs.MapFields.{entry_records, map_records}
 use Rattle.buffa_fields.specs.OrderedFacts.{ascending_put}
+use Rattle.buffa_fields.specs.ValidFacts.{entry_valid}
 use Rattle.sample_node.proofs.NodeOwnLemmas.{AreNormalScores, AreNormalShades, SaysOwn, node_keys}
 use Rattle.sample_node.specs.Branch.{NodeOwn, Scores, Shades, shade_numbers}
 use Rattle.sample_node.specs.NodeMeaning.{scores_take, shade_reading, shades_take, text_cmp}
@@ -38,14 +39,14 @@ int32_back d v h = (refl, number (cast_unsigned w64 v), IsVarint-varint_encoding
 pub node_keys_back : KeysReadBack node_keys
 node_keys_back = record { wires = refl; back = λ d v h. int32_back d v h.0; total = int_cmp_total }
 
-scores_back : (n : ℕ) → IsNumber n → (d : ℕ) (a : Scores) → Fits (records_of (entry_records text_writing int32_writing n a)) → AreNormalScores a →
+scores_back : (n : ℕ) → IsNumber n → (d : ℕ) (a : Scores) → Readable (records_of (entry_records text_writing int32_writing n a)) → AreNormalScores a →
     ReadsBack scores_take (λ j. j == n) d [] (records_encoding (entry_records text_writing int32_writing n a)) a
 unfolding entry_records
 scores_back n some d a fits normal =
     map_back text_reading int32_reading text_writing int32_writing refl refl (insert_entry text_cmp) (λ k. IsText k × Unit {0}) (λ v. FitsSigned w32 v × Unit {0}) d
     (λ t h. plain_back text_reading text_writing d t refl (string_reads_back (λ (x : List ℕ). x) (λ (x : List ℕ). x) t h.0 refl)) (λ v h. int32_back d v h.0) n some a fits normal.0 (ascending_put nat_list_cmp_total a normal.1)
 
-shades_back : (n : ℕ) → IsNumber n → (d : ℕ) (h : Shades) → Fits (records_of (entry_records int32_writing closed_writing n h)) → AreNormalShades h →
+shades_back : (n : ℕ) → IsNumber n → (d : ℕ) (h : Shades) → Readable (records_of (entry_records int32_writing closed_writing n h)) → AreNormalShades h →
     ReadsBack shades_take (λ j. j == n) d ([], []) (records_encoding (entry_records int32_writing closed_writing n h)) (h, [])
 unfolding entry_records
 shades_back n some d h fits normal =
@@ -78,9 +79,10 @@ members_say = record {
   as_normal = λ v h. h;
   other = refl;
   owes = (
-    record { back = λ k some d v fits normal low. scores_back k some d v fits normal; exact = λ _. exact_flat _ (entry_numbers text_writing int32_writing) (λ v i. 0) },
+    record { valid = λ k some v normal. entry_valid k some text_writing int32_writing v; back = λ k some d v fits normal low. scores_back k some d v fits normal; exact = λ _. exact_flat _ (entry_numbers text_writing int32_writing) (λ v i. 0) },
     (
       record {
+        valid = λ k some v normal. entry_valid k some int32_writing closed_writing v;
         back = λ k some d v fits normal low. shades_back k some d v fits normal;
         again = λ k d v x p aside low payload. kept_pair_again int32_reading shade_reading (insert_entry int_cmp) k d v x p aside low payload;
         exact = λ _. exact_flat_keeping _ _ (entry_numbers int32_writing closed_writing) (λ v i. 0) (kept_pair_low int32_reading shade_reading (insert_entry int_cmp));

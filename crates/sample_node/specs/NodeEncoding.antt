@@ -7,7 +7,7 @@ use Rattle.std.specs.Map.{keys_of}
 use Rattle.std.specs.Ordering.{int_cmp}
 use Rattle.buffa_bytes.specs.declared.error.EncodeError.{EncodeError}
 use Rattle.buffa_wire.specs.Cache.{Cache}
-use Rattle.buffa_wire.specs.Parse.{Fits}
+use Rattle.buffa_wire.specs.Parse.{AreValid}
 use Rattle.buffa_wire.specs.Passes.{IsWritten, cap}
 use Rattle.buffa_wire.specs.Records.{Datum, bytes, height, records_of}
 use Rattle.buffa_wire.specs.Encoding.{records_encoding}
@@ -77,9 +77,10 @@ abbrev mutual
   nodes_levels no_kid = 0
   nodes_levels (kid k t cs) = max (suc (node_levels t)) (nodes_levels cs)
 
--- what a node keeps of bytes: a field of a number that it doesn't declare, or an entry with an undeclared shade
+-- what a node keeps of bytes: a field of a number that it doesn't declare, valid as those in its groups are, or an entry with an
+-- undeclared shade
 abbrev pub IsKept : ℕ × Datum → Type 0
-IsKept y = ((3 < y.0) × Fits (records_of (y ∷ []))) ⊎ ((y.0 ≡ 3) × IsAsideEntry int32_reading shade_reading y.1)
+IsKept y = ((3 < y.0) × AreValid (records_of (y ∷ []))) ⊎ ((y.0 ≡ 3) × IsAsideEntry int32_reading shade_reading y.1)
 
 -- of all but the children: keys and values are of their types, shades are declared, keys ascend
 abbrev pub IsNormalOwn : NodeOwn → Type 0

@@ -8,7 +8,7 @@ use Rattle.buffa_bytes.specs.declared.wire_type.WireType.TheVariants.{StartGroup
 use Rattle.buffa_bytes.specs.declared.error.DecodeError.{DecodeError}
 use Rattle.buffa_wire.proofs.MessageLemmas.{NoLimit}
 use Rattle.buffa_wire.specs.BudgetLeft.{unknown_fields}
-use Rattle.buffa_wire.specs.Parse.{Fits}
+use Rattle.buffa_wire.specs.Parse.{AreValid, Fits}
 use Rattle.buffa_wire.specs.Records.{Datum, Records, bytes, datum_height, fixed32, fixed64, group, height, one, records_of, varint}
 use Rattle.buffa_wire.specs.Encoding.{records_encoding, tagged_encoding}
 use Rattle.buffa_bytes.specs.Values.{tag_encoding}
@@ -90,7 +90,7 @@ start_tag : IsTag (tag_encoding 1 StartGroup) 1 StartGroup
 start_tag = ((omega arith, omega arith), IsVarint-varint_encoding 11 (omega arith))
 
 fit_parts : (n : ℕ) (b : List ℕ) (rs : Records) → Fits (one (item_record n b).0 (item_record n b).1 rs) → (length b < 2 ^ 64) × Fits rs
-fit_parts n b rs (is_one, (is_two, id, (is_three, short, end)), more) = (short, more)
+fit_parts n b rs ((id, (short, end)), more) = (short, more)
 
 -- an Item in front of what follows it
 item_back : (d : ℕ) (v : List (ℕ × Datum)) (n : ℕ) (b rest : List ℕ) → IsTypeId n → length b < 2 ^ 64 → set_merged (suc d) v (item_encoding n b ++ rest) ≡ set_merged (suc d) (v ++ (n, bytes b) ∷ []) rest
@@ -116,6 +116,20 @@ set_parsed ((n, varint x) ∷ ys) d v f h l = absurd h.0
 set_parsed ((n, fixed32 x) ∷ ys) d v f h l = absurd h.0
 set_parsed ((n, fixed64 x) ∷ ys) d v f h l = absurd h.0
 set_parsed ((n, group x) ∷ ys) d v f h l = absurd h.0
+
+-- Items are valid records
+item_valid : (n : ℕ) (b : List ℕ) (rs : Records) → IsTypeId n → AreValid rs → AreValid (one (item_record n b).0 (item_record n b).1 rs)
+item_valid n b rs h k =
+    ((omega arith, omega arith), ((omega arith, omega arith), omega (arith, h), ((omega arith, omega arith), tt, tt)), k)
+
+pub set_valid : (v : List (ℕ × Datum)) → AreItems v → AreValid (records_of (set_records v))
+set_valid [] h = tt
+set_valid ((n, bytes b) ∷ ys) h =
+    subst (λ r. AreValid (one r.0 r.1 (records_of (set_records ys)))) (sym (encoded_item n b h.0)) (item_valid n b (records_of (set_records ys)) h.0 (set_valid ys h.1))
+set_valid ((n, varint x) ∷ ys) h = absurd h.0
+set_valid ((n, fixed32 x) ∷ ys) h = absurd h.0
+set_valid ((n, fixed64 x) ∷ ys) h = absurd h.0
+set_valid ((n, group x) ∷ ys) h = absurd h.0
 
 pub set_back : (d : ℕ) (v : List (ℕ × Datum)) → Fits (records_of (set_records v)) → AreItems v → set_levels v ≤ d → set_merged d [] (set_encoding v) ≡ Some v
 set_back d v f h l = set_parsed v d [] f h l

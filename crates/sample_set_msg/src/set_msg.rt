@@ -12,7 +12,7 @@ ghost use Rattle.buffa_wire.specs.Takes.{taken_by};
 ghost use Rattle.buffa_wire.proofs.TakesLemmas.{cost_by_is, merged_by_is};
 ghost use Rattle.sample_set_msg.specs.Set.{AreItems, IsSetRefused, StopsBehind, TakesSetField, set_cost, set_levels, set_merged, set_records, set_encoding};
 ghost use Rattle.sample_set_msg.specs.Set.{set_field, set_need};
-ghost use Rattle.sample_set_msg.specs.SetFacts.{set_back, set_cost_some, set_encoding_records, set_same, set_sound, set_stays};
+ghost use Rattle.sample_set_msg.specs.SetFacts.{set_back, set_cost_some, set_encoding_records, set_same, set_sound, set_stays, set_valid};
 
 use crate::record::{read_record, record_len, write_record};
 use buffa_ext::ExtensionSet;
@@ -107,6 +107,8 @@ impl MessageSpec for SetMsg {
     ghost normal = { AreItems };
 
     ghost encoding_records = { set_encoding_records };
+
+    ghost valid = { set_valid };
 
     ghost merged_encoding = { λ d v f h l. set_back d v f h l };
 

@@ -4,6 +4,7 @@ mod FieldLemmas
 mod NumberLemmas
 pub mod PassedLemmas
 pub mod TripLemmas
+mod KeepLemmas
 mod TreeLemmas
 mod TreeBackLemmas
 mod TreeNormalLemmas

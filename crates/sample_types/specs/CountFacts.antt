@@ -11,6 +11,8 @@ use Rattle.buffa_bytes.specs.declared.error.EncodeError.TheVariants.{OutOfMemory
 use Rattle.buffa_bytes.specs.declared.wire_type.WireType.TheVariants.{EndGroup, Varint}
 use Rattle.buffa_bytes.specs.declared.error.DecodeError.TheVariants as error
 use Rattle.buffa_wire.specs.Encoding.{records_encoding}
+use Rattle.buffa_wire.specs.Parse.{AreValid}
+use Rattle.buffa_wire.specs.Records.{records_of}
 use Rattle.buffa_bytes.specs.Values.{tag_encoding}
 use Rattle.buffa_bytes.specs.Varint.{varint_encoding}
 use Rattle.buffa_wire.specs.ByField.{merged_by}
@@ -44,6 +46,10 @@ length_one = omega (arith, length-append (tag_encoding 9 Varint) (varint_encodin
 pub length_count : (n : ℕ) → length (count_encoding n) ≡ 2 * n
 length_count zero = refl
 length_count (suc n) = omega (arith, length-append one_encoding (count_encoding n), length_one, length_count n)
+
+pub count_valid : (n : ℕ) → AreValid (records_of (count_records n))
+count_valid zero = tt
+count_valid (suc n) = ((omega arith, omega arith), omega arith, count_valid n)
 
 -- ---- the encoding reads back
 counted : (d k n : ℕ) → k + n < 2 ^ 64 → count_merged d k (count_encoding n) ≡ Some (k + n)

@@ -10,7 +10,7 @@ ghost use Rattle.buffa_bytes.specs.Written.{Writes};
 ghost use Rattle.buffa_wire.specs.Takes.{costs_nothing, taken_by};
 ghost use Rattle.buffa_wire.proofs.TakesLemmas.{merged_by_is, nothing_is};
 ghost use Rattle.sample_types.specs.Count.{IsCountRefused, count_cost, count_field, count_merged, count_records, count_encoding, one_encoding};
-ghost use Rattle.sample_types.specs.CountFacts.{count_back, count_cost_some, count_same, count_sound, count_encoding_records};
+ghost use Rattle.sample_types.specs.CountFacts.{count_back, count_cost_some, count_same, count_sound, count_encoding_records, count_valid};
 
 use buffa_wire::{
     Blank, Buf, DecodeContext, DecodeError, EncodeError, EncodeSink, Message, MessageSpec,
@@ -68,6 +68,8 @@ impl MessageSpec for CountMsg {
     ghost normal = { λ n. n < 2 ^ 64 };
 
     ghost encoding_records = { count_encoding_records };
+
+    ghost valid = { λ n _. count_valid n };
 
     ghost merged_encoding = { λ d n _ h _. count_back d n h };
 

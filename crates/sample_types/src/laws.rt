@@ -4,15 +4,17 @@
 ghost use Rattle.std.specs.Prelude.{◌≡◌, ◌↔◌, ◌<◌, ◌+◌, ◌^◌, ℕ, ℤ, FitsSigned, List, [], ◌++◌, None, Some, if◌then◌else◌, pos, string_bytes};
 ghost use Rattle.std.specs.Hash as fed;
 ghost use Rattle.std.specs.Int.{w32};
+ghost use Rattle.std.specs.List.{AllByRecursion};
 ghost use Rattle.std.specs.Ordering.{int_cmp, int_eq};
 ghost use Rattle.buffa_bytes.specs.Pinned.{IsCopied, SameIsOne};
+ghost use Rattle.buffa_bytes.specs.Varint.{IsByte};
 ghost use Rattle.buffa_fields.specs.Calls.{KeepsFields};
 ghost use Rattle.buffa_fields.specs.Keep.{keep_takes};
 ghost use Rattle.buffa_wire.specs.Takes.{cost_of, merged_of};
 ghost use Rattle.buffa_wire.specs.BudgetLeft.{nothing};
 ghost use Rattle.buffa_wire.specs.Enums.{numbers};
 ghost use Rattle.buffa_wire.specs.Kept.{keep_need};
-ghost use Rattle.buffa_wire.specs.Parse.{Fits};
+ghost use Rattle.buffa_wire.specs.Parse.{AreValid, Fits};
 ghost use Rattle.buffa_wire.specs.Records.{Datum, height, records_of};
 ghost use Rattle.buffa_wire.specs.Encoding.{records_encoding};
 ghost use Rattle.sample_types.specs.Count.{IsCountRefused, count_cost, count_merged, count_records, count_encoding};
@@ -48,6 +50,15 @@ pub fn trees_stay_normal()
     ensures merged { (d : ℕ) (t u : Grown) (bs : List ℕ) → IsNormalTree t → tree_merged d t bs ≡ Some u →
         IsNormalTree u }
     ensures blank { IsNormalTree ⟦<Tree as Blank>⟧.blank_is }
+{}
+
+/// What bytes make of a normal message that keeps its fields is normal, and so is the blank one: the numbers that are read may
+/// be a field's, and the data are in range.
+pub fn kept_fields_stay_normal()
+    ensures merged { (d : ℕ) (rs qs : List (ℕ × Datum)) (bs : List ℕ) → AllByRecursion IsByte bs →
+        ⟦<BudgetMsg as MessageSpec>⟧.normal rs → ⟦<BudgetMsg as MessageSpec>⟧.merged d rs bs ≡ Some qs →
+        ⟦<BudgetMsg as MessageSpec>⟧.normal qs }
+    ensures blank { ⟦<BudgetMsg as MessageSpec>⟧.normal ⟦<BudgetMsg as Blank>⟧.blank_is }
 {}
 
 /// Which message each sample is: what bytes make of it, what they cost, and its encoding. Nothing is left out.
@@ -125,7 +136,7 @@ pub fn levels_are_exact()
         ⟦<Tree as MessageSpec>⟧.normal t → d < ⟦<Tree as MessageSpec>⟧.levels t →
         ⟦<Tree as MessageSpec>⟧.merged d old (⟦<Tree as MessageSpec>⟧.encoding t) ≡ None }
     ensures keep { (d : ℕ) (rs : List (ℕ × Datum)) → Fits (records_of (⟦<BudgetMsg as MessageSpec>⟧.records rs)) →
-        d < ⟦<BudgetMsg as MessageSpec>⟧.levels rs →
+        ⟦<BudgetMsg as MessageSpec>⟧.normal rs → d < ⟦<BudgetMsg as MessageSpec>⟧.levels rs →
         ⟦<BudgetMsg as MessageSpec>⟧.merged d [] (⟦<BudgetMsg as MessageSpec>⟧.encoding rs) ≡ None }
 {}
 
@@ -135,7 +146,7 @@ pub fn messages_are_read_back(flat: &FlatMsg, two: &TestMsg)
     ensures flat { (v : _) → ⟦<FlatMsg as MessageSpec>⟧.normal v ↔ FitsSigned w32 v.0 }
     ensures two { (v : _) → ⟦<TestMsg as MessageSpec>⟧.normal v ↔ (FitsSigned w32 v.0 × FitsSigned w32 v.1.0) }
     ensures count { (n : ℕ) → ⟦<CountMsg as MessageSpec>⟧.normal n ↔ (n < 2 ^ 64) }
-    ensures keep { (rs : List (ℕ × Datum)) → ⟦<BudgetMsg as MessageSpec>⟧.normal rs }
+    ensures keep { (rs : List (ℕ × Datum)) → ⟦<BudgetMsg as MessageSpec>⟧.normal rs ↔ AreValid (records_of rs) }
     ensures tree { (t : Grown) → Fits (records_of (⟦<Tree as MessageSpec>⟧.records t)) →
         (⟦<Tree as MessageSpec>⟧.normal t ↔ IsNormalTree t) }
     ensures tree_long { (t : Grown) → ⟦<Tree as MessageSpec>⟧.normal t → IsNormalTree t }

@@ -11,6 +11,9 @@ returns-clause-flat c = λ v. (λ h. h.1.0.0, λ h. (c.members_read_back.ensures
 pub returns-clause-two : goal.returns-clause-two
 returns-clause-two c = λ v. (λ h. (h.1.0.0, h.1.1.0.0), λ h. (c.members_read_back-2.ensures, ((h.0, tt), ((h.1, tt), tt, tt), tt)))
 
+pub returns-clause-keep : goal.returns-clause-keep
+returns-clause-keep c = λ rs. (λ h. h.1, λ h. (tt, h))
+
 pub returns-clause-tree : goal.returns-clause-tree
 returns-clause-tree c = λ t fits. (as_tree t, as_nest c.members_read_back.ensures t (subst (λ rs. Fits (records_of rs)) (sym (tree_records_are t)) fits))
 
