@@ -14,7 +14,7 @@ use Rattle.buffa_wire.specs.Encoding.{records_encoding}
 use Rattle.buffa_wire.specs.Records.{bytes}
 use Rattle.buffa_map.specs.Codec.{Writing}
 use Rattle.buffa_map.specs.Encoding.{AllHold, HasEncoding, RefusesField, entry_encoding, field_encoding, record_encoding}
-use Rattle.buffa_map.specs.FieldWords.{EnumsAreNumbers, FieldsAreRecords, IsPartOf, MessageFieldsAreRecords, RewritesAreFields, pair_bytes, record_of}
+use Rattle.buffa_map.specs.FieldWords.{EnumsAreNumbers, FieldsAreRecords, IsPartOf, MessageFieldsAreRecords, RewritesAreFields, pair_bytes, record_bytes}
 use Rattle.buffa_map.specs.Merge.{Rules}
 use Rattle.buffa_map.specs.MessageField.{IsSmallField, field_slots}
 use Rattle.buffa_map.specs.Rewrite.{RefusesRewrite}
@@ -35,12 +35,12 @@ module _ {K V : Type 0} (key : Writing K) (val : Writing V) where
   same_pair : (p : K × V) → entry_encoding key val p ≡ pair_bytes key val p
   same_pair p = rw (small_tag 1 key.wire (omega arith), small_tag 2 val.wire (omega arith)) refl
 
-  same_record : (n : ℕ) (p : K × V) → record_encoding key val n p ≡ record_of n (pair_bytes key val p)
-  same_record n p = ap (record_of n) (same_pair p)
+  same_record : (n : ℕ) (p : K × V) → record_encoding key val n p ≡ record_bytes n (pair_bytes key val p)
+  same_record n p = ap (record_bytes n) (same_pair p)
 
-  same_field : (n : ℕ) (l : List (K × V)) → field_encoding key val n l ≡ flat_map (λ p. record_of n (pair_bytes key val p)) l
+  same_field : (n : ℕ) (l : List (K × V)) → field_encoding key val n l ≡ flat_map (λ p. record_bytes n (pair_bytes key val p)) l
   same_field n [] = refl
-  same_field n (p ∷ l) = ap (λ z. z ++ field_encoding key val n l) (same_record n p) ∙ ap (λ z. record_of n (pair_bytes key val p) ++ z) (same_field n l)
+  same_field n (p ∷ l) = ap (λ z. z ++ field_encoding key val n l) (same_record n p) ∙ ap (λ z. record_bytes n (pair_bytes key val p) ++ z) (same_field n l)
 
   lengths_of : (l : List (K × V)) → HasEncoding key val l → AllByRecursion (λ p. length (pair_bytes key val p) < 2 ^ 64) l
   lengths_of [] h = tt
@@ -92,9 +92,9 @@ module _ {K V : Type 0} (key : Writing K) (val : Writing V) where
   }
 
   -- ---- rewrites
-  same_kept : (n : ℕ) (ks : List (List ℕ)) → records_encoding (map (λ e. (n, bytes e)) ks) ≡ flat_map (record_of n) ks
+  same_kept : (n : ℕ) (ks : List (List ℕ)) → records_encoding (map (λ e. (n, bytes e)) ks) ≡ flat_map (record_bytes n) ks
   same_kept n [] = refl
-  same_kept n (k ∷ ks) = ap (λ z. record_of n k ++ z) (same_kept n ks)
+  same_kept n (k ∷ ks) = ap (λ z. record_bytes n k ++ z) (same_kept n ks)
 
   module _ (r : Rules K V) (KeyFits : K → Type 0) (ValFits : V → Type 0) (Walks : List (K × V) → Type 0) where
     refused_behind : (n : ℕ) (es : List (EntryRecord K V)) (old new : List ℕ) (l : List (K × V)) (e : EncodeError) → RefusesRewrite key val n (undeclared_records n es) old new l e → take (length old) new ≡ old

@@ -21,8 +21,8 @@ use Rattle.buffa_map.specs.Run.{EntryRecord, Run, fold_entries, undeclared}
 use Rattle.buffa_map.specs.Scalars.{delimited_writing}
 
 -- a tag of number n for a length and bytes, their length, and they
-abbrev pub record_of : ℕ → List ℕ → List ℕ
-record_of n b = varint_encoding (8 * n + 2) ++ (varint_encoding (length b) ++ b)
+abbrev pub record_bytes : ℕ → List ℕ → List ℕ
+record_bytes n b = varint_encoding (8 * n + 2) ++ (varint_encoding (length b) ++ b)
 
 -- front begins all, and isn't all of it
 abbrev pub IsPartOf : List ℕ → List ℕ → Type 0
@@ -36,7 +36,7 @@ module _ {K V : Type 0} (key : Writing K) (val : Writing V) where
   -- A field is a record for each pair, in order; its size is the sum of their lengths. It is written whole; or up to a pair
   -- whose entry is too long for its length to be a varint; or a beginning of it, where memory runs out.
   pub record FieldsAreRecords (P : K → Type 0) (Q : V → Type 0) : Type 0 where
-    pub encoding : (n : ℕ) (l : List (K × V)) → field_encoding key val n l ≡ flat_map (λ p. record_of n (pair_bytes p)) l
+    pub encoding : (n : ℕ) (l : List (K × V)) → field_encoding key val n l ≡ flat_map (λ p. record_bytes n (pair_bytes p)) l
     pub no_size : (t : ℕ) → field_size key val t [] ≡ 0
     pub size : (t : ℕ) (p : K × V) (l : List (K × V)) →
         field_size key val t (p ∷ l) ≡ t + (length (varint_encoding (length (pair_bytes p))) + length (pair_bytes p)) + field_size key val t l
@@ -57,7 +57,7 @@ module _ {K V : Type 0} (key : Writing K) (val : Writing V) where
     pub record RewritesAreFields : Type 0 where
       pub rewrite : (n : ℕ) (es : List (EntryRecord K V)) (out : List ℕ) → IsRewrite r.same key val KeyFits ValFits n es out ↔
           ((l : List (K × V)) × ListsOnce r.same (fold_entries r.same [] es) l × HasEncoding key val l × AllHold KeyFits ValFits l
-          × (out ≡ field_encoding key val n l ++ flat_map (record_of n) (undeclared es)))
+          × (out ≡ field_encoding key val n l ++ flat_map (record_bytes n) (undeclared es)))
       pub rewritten : (left over : BudgetLeft) (bs rest old written : List ℕ) (new : List (K × V)) (before after : ℕ) →
           RewritesRun r key val KeyFits ValFits Walks left bs new over rest old written before after →
           (es : List (EntryRecord K V)) × (out : List ℕ) × Run r.key r.val r.depth r.number bs es × SamePairs r.same (fold_entries r.same [] es) new
