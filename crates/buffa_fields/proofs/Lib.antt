@@ -26,3 +26,4 @@ pub mod NamedMapLemmas
 pub mod HeldOneLemmas
 pub mod HeldOneLawLemmas
 pub mod HeldOneFieldLemmas
+pub mod RecordLawLemmas

@@ -34,7 +34,6 @@ ghost use Rattle.buffa_fields.specs.Members.{field, field_kept, keep, skip};
 ghost use Rattle.buffa_fields.specs.Groups.{GroupTakesMemory, group_cost, group_datum, group_merged, group_records};
 ghost use Rattle.buffa_fields.specs.Nested.{FitsInside, MessageTakesMemory, message_cost, message_levels, message_merged, message_records, message_slots, taken_behind, taken_there};
 ghost use Rattle.buffa_fields.specs.NestedMaps.{pair_levels, pair_records, pair_slots};
-ghost use Rattle.buffa_fields.specs.Stands.{IsMemberRefused};
 ghost use Rattle.buffa_fields.specs.RepeatedNested.{MessagesTakeMemory, messages_cost, messages_levels, messages_records, messages_slots, messages_taken};
 ghost use Rattle.buffa_fields.specs.OrderedMaps.{KeysAscend};
 ghost use Rattle.buffa_fields.specs.RepeatedGroups.{GroupsTakeMemory, groups_cost};
@@ -73,9 +72,23 @@ pub use crate::proto_type_laws::{
     members_that_lose_nothing_are_these, numbers_are_these, orders_are_these,
     texts_and_enums_are_these,
 };
+pub use crate::record_laws::{
+    elements_are_appended, entries_are_put, entries_of_messages_are_put,
+    fields_go_to_their_members, groups_are_merged, messages_are_merged,
+    packed_elements_are_appended, packed_elements_are_read, values_are_read,
+};
+pub use crate::refusal_laws::{
+    refused_elements_are_not_put, refused_entries_are_not_put, refused_groups_stand,
+    refused_messages_stand, refused_values_stay,
+};
 use crate::repeated::Repeated;
 use crate::repeated_group::RepeatedGroup;
 use crate::repeated_nested::RepeatedNested;
+pub use crate::written_laws::{
+    fields_cost_what_is_in_them, groups_are_written, messages_are_written,
+    packed_elements_are_written, pairs_are_written, pairs_of_messages_are_written,
+    values_are_written,
+};
 use buffa_map::map_codec::{ClosedEnum, MapCodec};
 use buffa_wire::{Enumeration, MapKey, Message, MessageForm, MessageMeaning, WireType};
 use std::hash::Hash;
@@ -553,5 +566,7 @@ pub fn messages_are_these<M: Listing>()
     ensures sure { (v : _) → ⟦<Listed as MessageForm<M>>⟧.sure v ↔ (M.layout.slots v ≡ []) }
     ensures taken { TakeAlike ⟦<Listed as MessageForm<M>>⟧.Taken M.layout.Taken }
     ensures refused { (d : ℕ) (v : _) (n : ℕ) (w : _) (bs : List ℕ) (l : _) (e : _) (u : _) →
-        ⟦<Listed as MessageMeaning<M>>⟧.Refused d v n w bs l e u ↔ IsMemberRefused M.layout d v n w bs l e u }
+        ⟦<Listed as MessageMeaning<M>>⟧.Refused d v n w bs l e u ↔ (M.layout.Apart n v u
+        × ((a : M) × (b : M) × (after : _) × (rest : List ℕ) × (M.layout.meaning a ≡ v) × (M.layout.meaning b ≡ u)
+        × M.layout.Taken d a n w bs l (Err e) b after rest)) }
 {}

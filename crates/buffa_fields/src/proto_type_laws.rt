@@ -3,12 +3,11 @@
 //!
 //! The words of `MapCodec` and `Scalar` that these cite are pinned by the laws of the crates below.
 
-ghost use Rattle.std.specs.Prelude.{◌≡◌, ℕ, ℤ, List, false, true, not};
+ghost use Rattle.std.specs.Prelude.{◌≡◌, ◌↔◌, ℕ, ℤ, List, [], false, true, not, pos};
 ghost use Rattle.std.specs.Cmp.Lexicographic.{slice_cmp};
 ghost use Rattle.std.specs.Int.{cast_unsigned, w64};
 ghost use Rattle.std.specs.Ordering.{bool_cmp, int_cmp, nat_cmp};
 ghost use Rattle.buffa_wire.specs.Records.Datum.{varint, fixed32, fixed64, bytes};
-ghost use Rattle.buffa_fields.specs.BlankFacts.{is_none, is_nought, is_zero};
 
 use crate::group::Group;
 use crate::map_member::MapOf;
@@ -44,45 +43,54 @@ pub fn orders_are_these()
 
 /// The record of a number, and which number is the default: 0, or false.
 pub fn numbers_are_these()
+    ensures zero { (⟦<Int32 as ProtoType>⟧.is_blank (pos 0) ≡ true) × (⟦<Int64 as ProtoType>⟧.is_blank (pos 0) ≡ true)
+        × (⟦<Uint32 as ProtoType>⟧.is_blank 0 ≡ true) × (⟦<Uint64 as ProtoType>⟧.is_blank 0 ≡ true)
+        × (⟦<Sint32 as ProtoType>⟧.is_blank (pos 0) ≡ true) × (⟦<Sint64 as ProtoType>⟧.is_blank (pos 0) ≡ true)
+        × (⟦<Fixed32 as ProtoType>⟧.is_blank 0 ≡ true) × (⟦<Fixed64 as ProtoType>⟧.is_blank 0 ≡ true)
+        × (⟦<Float as ProtoType>⟧.is_blank 0 ≡ true) × (⟦<Double as ProtoType>⟧.is_blank 0 ≡ true)
+        × (⟦<Sfixed32 as ProtoType>⟧.is_blank (pos 0) ≡ true) × (⟦<Sfixed64 as ProtoType>⟧.is_blank (pos 0) ≡ true)
+        × (⟦<Bool as ProtoType>⟧.is_blank false ≡ true) }
     ensures int32 { (v : ℤ) → (⟦<Int32 as ProtoType>⟧.datum v ≡ varint (⟦<Int32 as Scalar>⟧.number_of v))
-        × (⟦<Int32 as ProtoType>⟧.is_blank v ≡ is_zero v) }
+        × ((⟦<Int32 as ProtoType>⟧.is_blank v ≡ true) ↔ (v ≡ pos 0)) }
     ensures int64 { (v : ℤ) → (⟦<Int64 as ProtoType>⟧.datum v ≡ varint (⟦<Int64 as Scalar>⟧.number_of v))
-        × (⟦<Int64 as ProtoType>⟧.is_blank v ≡ is_zero v) }
+        × ((⟦<Int64 as ProtoType>⟧.is_blank v ≡ true) ↔ (v ≡ pos 0)) }
     ensures uint32 { (v : ℕ) → (⟦<Uint32 as ProtoType>⟧.datum v ≡ varint (⟦<Uint32 as Scalar>⟧.number_of v))
-        × (⟦<Uint32 as ProtoType>⟧.is_blank v ≡ is_nought v) }
+        × ((⟦<Uint32 as ProtoType>⟧.is_blank v ≡ true) ↔ (v ≡ 0)) }
     ensures uint64 { (v : ℕ) → (⟦<Uint64 as ProtoType>⟧.datum v ≡ varint (⟦<Uint64 as Scalar>⟧.number_of v))
-        × (⟦<Uint64 as ProtoType>⟧.is_blank v ≡ is_nought v) }
+        × ((⟦<Uint64 as ProtoType>⟧.is_blank v ≡ true) ↔ (v ≡ 0)) }
     ensures sint32 { (v : ℤ) → (⟦<Sint32 as ProtoType>⟧.datum v ≡ varint (⟦<Sint32 as Scalar>⟧.number_of v))
-        × (⟦<Sint32 as ProtoType>⟧.is_blank v ≡ is_zero v) }
+        × ((⟦<Sint32 as ProtoType>⟧.is_blank v ≡ true) ↔ (v ≡ pos 0)) }
     ensures sint64 { (v : ℤ) → (⟦<Sint64 as ProtoType>⟧.datum v ≡ varint (⟦<Sint64 as Scalar>⟧.number_of v))
-        × (⟦<Sint64 as ProtoType>⟧.is_blank v ≡ is_zero v) }
+        × ((⟦<Sint64 as ProtoType>⟧.is_blank v ≡ true) ↔ (v ≡ pos 0)) }
     ensures fixed32 { (v : ℕ) → (⟦<Fixed32 as ProtoType>⟧.datum v ≡ fixed32 (⟦<Fixed32 as Scalar>⟧.number_of v))
-        × (⟦<Fixed32 as ProtoType>⟧.is_blank v ≡ is_nought v) }
+        × ((⟦<Fixed32 as ProtoType>⟧.is_blank v ≡ true) ↔ (v ≡ 0)) }
     ensures fixed64 { (v : ℕ) → (⟦<Fixed64 as ProtoType>⟧.datum v ≡ fixed64 (⟦<Fixed64 as Scalar>⟧.number_of v))
-        × (⟦<Fixed64 as ProtoType>⟧.is_blank v ≡ is_nought v) }
+        × ((⟦<Fixed64 as ProtoType>⟧.is_blank v ≡ true) ↔ (v ≡ 0)) }
     ensures sfixed32 { (v : ℤ) → (⟦<Sfixed32 as ProtoType>⟧.datum v ≡ fixed32 (⟦<Sfixed32 as Scalar>⟧.number_of v))
-        × (⟦<Sfixed32 as ProtoType>⟧.is_blank v ≡ is_zero v) }
+        × ((⟦<Sfixed32 as ProtoType>⟧.is_blank v ≡ true) ↔ (v ≡ pos 0)) }
     ensures sfixed64 { (v : ℤ) → (⟦<Sfixed64 as ProtoType>⟧.datum v ≡ fixed64 (⟦<Sfixed64 as Scalar>⟧.number_of v))
-        × (⟦<Sfixed64 as ProtoType>⟧.is_blank v ≡ is_zero v) }
+        × ((⟦<Sfixed64 as ProtoType>⟧.is_blank v ≡ true) ↔ (v ≡ pos 0)) }
     ensures float { (v : ℕ) → (⟦<Float as ProtoType>⟧.datum v ≡ fixed32 (⟦<Float as Scalar>⟧.number_of v))
-        × (⟦<Float as ProtoType>⟧.is_blank v ≡ is_nought v) }
+        × ((⟦<Float as ProtoType>⟧.is_blank v ≡ true) ↔ (v ≡ 0)) }
     ensures double { (v : ℕ) → (⟦<Double as ProtoType>⟧.datum v ≡ fixed64 (⟦<Double as Scalar>⟧.number_of v))
-        × (⟦<Double as ProtoType>⟧.is_blank v ≡ is_nought v) }
+        × ((⟦<Double as ProtoType>⟧.is_blank v ≡ true) ↔ (v ≡ 0)) }
     ensures bool { (v : _) → (⟦<Bool as ProtoType>⟧.datum v ≡ varint (⟦<Bool as Scalar>⟧.number_of v))
-        × (⟦<Bool as ProtoType>⟧.is_blank v ≡ not v) }
+        × ((⟦<Bool as ProtoType>⟧.is_blank v ≡ true) ↔ (v ≡ false)) }
 {}
 
 /// The record of a string, of bytes and of an enum, and which is the default: the empty one, and the number 0. A closed
 /// enum's value is always written.
 pub fn texts_and_enums_are_these<T: ProtoString, B: ProtoBytes, E: Enumeration>()
+    ensures empty { (k : _) → (⟦<BytesBuf as ProtoType>⟧.is_blank [] ≡ true)
+        × (⟦<OpenEnum<E> as ProtoType>⟧.is_blank (k, pos 0) ≡ true) }
     ensures string { (v : _) → (⟦<ProtoStringMap<T> as ProtoType>⟧.datum v ≡ bytes (T.text v))
-        × (⟦<ProtoStringMap<T> as ProtoType>⟧.is_blank v ≡ is_none (T.text v)) }
+        × ((⟦<ProtoStringMap<T> as ProtoType>⟧.is_blank v ≡ true) ↔ (T.text v ≡ [])) }
     ensures bytes { (v : _) → (⟦<ProtoBytesMap<B> as ProtoType>⟧.datum v ≡ bytes (B.bytes v))
-        × (⟦<ProtoBytesMap<B> as ProtoType>⟧.is_blank v ≡ is_none (B.bytes v)) }
+        × ((⟦<ProtoBytesMap<B> as ProtoType>⟧.is_blank v ≡ true) ↔ (B.bytes v ≡ [])) }
     ensures shared { (v : List ℕ) → (⟦<BytesBuf as ProtoType>⟧.datum v ≡ bytes v)
-        × (⟦<BytesBuf as ProtoType>⟧.is_blank v ≡ is_none v) }
+        × ((⟦<BytesBuf as ProtoType>⟧.is_blank v ≡ true) ↔ (v ≡ [])) }
     ensures open { (v : _) → (⟦<OpenEnum<E> as ProtoType>⟧.datum v ≡ varint (cast_unsigned w64 v.1))
-        × (⟦<OpenEnum<E> as ProtoType>⟧.is_blank v ≡ is_zero v.1) }
+        × ((⟦<OpenEnum<E> as ProtoType>⟧.is_blank v ≡ true) ↔ (v.1 ≡ pos 0)) }
     ensures closed { (v : ℤ) → (⟦<ClosedEnum<E> as ProtoType>⟧.datum v ≡ varint (cast_unsigned w64 v))
         × (⟦<ClosedEnum<E> as ProtoType>⟧.is_blank v ≡ false) }
 {}

@@ -1,0 +1,15 @@
+use Rattle.std.proofs.Common.{refl}
+use Rattle.std.proofs.lemmas.Bool.{eq-eqb, ne_eqb}
+use Rattle.buffa_fields.proofs.record_laws.fields_go_to_their_members.Goals as goal
+
+pub returns-clause-own : goal.returns-clause-own
+returns-clause-own g c = λ d k get v w p. rw (eq-eqb k k refl) refl
+
+pub returns-clause-others : goal.returns-clause-others
+returns-clause-others g c = λ d k n get v w p other. rw (ne_eqb n k other) refl
+
+pub returns-clause-own_aside : goal.returns-clause-own_aside
+returns-clause-own_aside g c = λ d k get v w p. rw (eq-eqb k k refl) refl
+
+pub returns-clause-others_aside : goal.returns-clause-others_aside
+returns-clause-others_aside g c = λ d k n get v w p other. rw (ne_eqb n k other) refl

@@ -1,0 +1,9 @@
+use Rattle.buffa_fields.proofs.RecordLawLemmas.{value_fault}
+use Rattle.buffa_fields.proofs.refusal_laws.refused_elements_are_not_put.Goals as goal
+
+pub returns-clause-one : goal.returns-clause-one
+returns-clause-one g k = λ d v n w bs left e u one h. (h.0 one).0
+
+pub returns-clause-fault : goal.returns-clause-fault
+returns-clause-fault g k = λ d v n w bs left e u one h some.
+    let codec = g.C.MapValueDecode.reading in value_fault codec d codec.blank n w bs e ((h.0 one).1 some)

@@ -1,0 +1,136 @@
+//! Where members may ask for memory, and what stands of a member whose field was refused, in the words of the encoding guide.
+//!
+//! The words of `MapCodec` and `MessageSpec` that these cite are pinned by the laws of the crates below.
+
+ghost use Rattle.std.specs.Prelude.{◌≡◌, ◌≢◌, ◌⊎◌, ◌↔◌, ◌<◌, ◌+◌, ℕ, List, [], ◌++◌, None, Some, Ok, Err, IsOk, suc, true};
+ghost use Rattle.buffa_bytes.specs.Content.{content_at};
+ghost use Rattle.buffa_bytes.specs.Front.{check_wire, delimited_at, skip_at, tag_at};
+ghost use Rattle.buffa_bytes.specs.declared.error.DecodeError.TheVariants.{InvalidEndGroup, OutOfMemory, RecursionLimitExceeded};
+ghost use Rattle.buffa_wire.specs.Message.{BeginsField, MergeFault};
+ghost use Rattle.buffa_map.specs.Codec.{HoldsNothing, ReadingTakesMemory, value_at};
+ghost use Rattle.buffa_map.specs.Entry.{EntryFault, IsEntry};
+ghost use Rattle.buffa_map.specs.Fields.{EntryFieldsTakeMemory};
+ghost use Rattle.buffa_map.specs.declared.map_entry.MapEntry.{MapEntry};
+ghost use Rattle.buffa_fields.specs.Lists.{element_at, elements_in};
+
+use crate::group::Group;
+use crate::map_member::MapOf;
+use crate::member::Member;
+use crate::nested::Nested;
+use crate::optional::Optional;
+use crate::plain::Plain;
+use crate::proto_type::ProtoType;
+use crate::repeated::Repeated;
+use crate::repeated_group::RepeatedGroup;
+use crate::repeated_nested::RepeatedNested;
+use buffa_map::map_codec::MapCodec;
+use buffa_wire::{MapKey, Message, WireType};
+use std::hash::Hash;
+
+/// A refused value is as it was; unless memory ran out, the error is that of the wire type, or of the payload. Memory is asked for
+/// only where the codec takes some, and a payload of its wire type is there, and not empty.
+pub fn refused_values_stay<C: ProtoType>()
+    ensures stays { (d : ℕ) (v : _) (n : ℕ) (w : _) (bs : List ℕ) (left : _) (e : _) (u : _) →
+        ⟦<Plain<C> as Member>⟧.shape.refuses d v n w bs left e u → v ≡ u }
+    ensures fault { (d : ℕ) (v : _) (n : ℕ) (w : _) (bs : List ℕ) (left : _) (e : _) (u : _) →
+        ⟦<Plain<C> as Member>⟧.shape.refuses d v n w bs left e u → e ≢ OutOfMemory →
+        (check_wire n C.reading.wire w ≡ Err e) ⊎ ((w ≡ C.reading.wire) × (value_at C.reading d v bs ≡ Err e)) }
+    ensures optional_stays { (d : ℕ) (v : _) (n : ℕ) (w : _) (bs : List ℕ) (left : _) (e : _) (u : _) →
+        ⟦<Optional<C> as Member>⟧.shape.refuses d v n w bs left e u → v ≡ u }
+    ensures optional_fault { (d : ℕ) (v : _) (n : ℕ) (w : _) (bs : List ℕ) (left : _) (e : _) (u : _) →
+        ⟦<Optional<C> as Member>⟧.shape.refuses d v n w bs left e u → e ≢ OutOfMemory →
+        (check_wire n C.reading.wire w ≡ Err e)
+        ⊎ ((w ≡ C.reading.wire) × (value_at C.reading d C.reading.blank bs ≡ Err e)) }
+    ensures asks { (d n : ℕ) (w : _) (bs : List ℕ) → ⟦<Plain<C> as Member>⟧.shape.asks d n w bs
+        ↔ ((w ≡ C.reading.wire) × ReadingTakesMemory C.reading d bs × (HoldsNothing C.reading d bs → ⊥)) }
+    ensures asks_alike { (d n : ℕ) (w : _) (bs : List ℕ) → ⟦<Optional<C> as Member>⟧.shape.asks d n w bs
+        ↔ ⟦<Plain<C> as Member>⟧.shape.asks d n w bs }
+{}
+
+/// A refused element isn't put. Of packed ones those in front of the refused one are: they stand behind those that stood, and the
+/// error is the next one's.
+pub fn refused_elements_are_not_put<C: ProtoType>()
+    ensures one { (d : ℕ) (v : _) (n : ℕ) (w : _) (bs : List ℕ) (left : _) (e : _) (u : _) →
+        (w ≡ C.reading.wire) ⊎ (w ≢ WireType.LengthDelimited) →
+        ⟦<Repeated<C> as Member>⟧.shape.refuses d v n w bs left e u → v ≡ u }
+    ensures fault { (d : ℕ) (v : _) (n : ℕ) (w : _) (bs : List ℕ) (left : _) (e : _) (u : _) →
+        (w ≡ C.reading.wire) ⊎ (w ≢ WireType.LengthDelimited) →
+        ⟦<Repeated<C> as Member>⟧.shape.refuses d v n w bs left e u → e ≢ OutOfMemory →
+        (check_wire n C.reading.wire w ≡ Err e)
+        ⊎ ((w ≡ C.reading.wire) × (value_at C.reading d C.reading.blank bs ≡ Err e)) }
+    ensures packed { (d : ℕ) (v : _) (n : ℕ) (bs : List ℕ) (left : _) (e : _) (u : _) →
+        WireType.LengthDelimited ≢ C.reading.wire →
+        ⟦<Repeated<C> as Member>⟧.shape.refuses d v n WireType.LengthDelimited bs left e u →
+        ((delimited_at bs ≡ Err e) × (v ≡ u))
+        ⊎ ((b : List ℕ) × (after : List ℕ) × (delimited_at bs ≡ Ok (b, after))
+        × (front : List ℕ) × (rest : List ℕ) × (b ≡ front ++ rest) × (elements_in C.reading d v front ≡ Ok u)
+        × (e ≢ OutOfMemory → element_at C.reading d u rest ≡ Err e)) }
+    ensures asks { (d n : ℕ) (w : _) (bs : List ℕ) → ⟦<Repeated<C> as Member>⟧.shape.asks d n w bs
+        ↔ (((w ≡ C.reading.wire) × IsOk (content_at C.reading.wire bs))
+        ⊎ ((w ≡ WireType.LengthDelimited) × (b : List ℕ) × (rest : List ℕ) × (delimited_at bs ≡ Ok (b, rest))
+        × IsOk (content_at C.reading.wire b))) }
+{}
+
+/// A refused field neither puts a message there nor takes one away. One that stood is as it was where the wire type is another
+/// one, no level is left, or no length and so many bytes are there. Unless memory ran out, the error is that of the wire type, or
+/// one of the level, the length, or the message itself. A refused element isn't put.
+pub fn refused_messages_stand<N: Message>()
+    ensures there { (d : ℕ) (v : _) (n : ℕ) (w : _) (bs : List ℕ) (left : _) (e : _) (u : _) →
+        ⟦<Nested<N> as Member>⟧.shape.refuses d v n w bs left e u → (v ≡ None) ↔ (u ≡ None) }
+    ensures stays { (d : ℕ) (v : _) (n : ℕ) (w : _) (bs : List ℕ) (left : _) (e : _) (u : _) →
+        ⟦<Nested<N> as Member>⟧.shape.refuses d v n w bs left e u →
+        (w ≢ WireType.LengthDelimited → v ≡ u) × (d ≡ 0 → v ≡ u) × ((IsOk (delimited_at bs) → ⊥) → v ≡ u) }
+    ensures no_level { (v : _) (n : ℕ) (w : _) (bs : List ℕ) (left : _) (e : _) (u : _) →
+        ⟦<Nested<N> as Member>⟧.shape.refuses 0 v n w bs left e u → e ≢ OutOfMemory →
+        (check_wire n WireType.LengthDelimited w ≡ Err e)
+        ⊎ ((w ≡ WireType.LengthDelimited) × (e ≡ RecursionLimitExceeded)) }
+    ensures fault { (d : ℕ) (v : N.Meaning) (n : ℕ) (w : _) (bs : List ℕ) (left : _) (e : _) (u : _) →
+        ⟦<Nested<N> as Member>⟧.shape.refuses (suc d) (Some v) n w bs left e u → e ≢ OutOfMemory →
+        (check_wire n WireType.LengthDelimited w ≡ Err e)
+        ⊎ ((w ≡ WireType.LengthDelimited) × ((delimited_at bs ≡ Err e)
+        ⊎ ((b : List ℕ) × (rest : List ℕ) × (delimited_at bs ≡ Ok (b, rest))
+        × MergeFault (N.merged d v b) (N.cost d b) left e))) }
+    ensures element { (d : ℕ) (v : _) (n : ℕ) (w : _) (bs : List ℕ) (left : _) (e : _) (u : _) →
+        ⟦<RepeatedNested<N> as Member>⟧.shape.refuses d v n w bs left e u ↔ (v ≡ u) }
+    ensures asks { (d n : ℕ) (w : _) (bs : List ℕ) → ⟦<Nested<N> as Member>⟧.shape.asks d n w bs
+        ↔ ((w ≡ WireType.LengthDelimited) × (0 < d)
+        × (b : List ℕ) × (rest : List ℕ) × (delimited_at bs ≡ Ok (b, rest)) × (b ≢ [])) }
+    ensures element_asks { (d n : ℕ) (w : _) (bs : List ℕ) → ⟦<RepeatedNested<N> as Member>⟧.shape.asks d n w bs
+        ↔ ((w ≡ WireType.LengthDelimited) × (0 < d) × IsOk (delimited_at bs)) }
+{}
+
+/// The same of groups: one that stood is as it was where no field begins the bytes; and where one does, any error may be told.
+pub fn refused_groups_stand<N: Message>()
+    ensures there { (d : ℕ) (v : _) (n : ℕ) (w : _) (bs : List ℕ) (left : _) (e : _) (u : _) →
+        ⟦<Group<N> as Member>⟧.shape.refuses d v n w bs left e u → (v ≡ None) ↔ (u ≡ None) }
+    ensures stays { (d : ℕ) (v : _) (n : ℕ) (w : _) (bs : List ℕ) (left : _) (e : _) (u : _) →
+        ⟦<Group<N> as Member>⟧.shape.refuses d v n w bs left e u →
+        (w ≢ WireType.StartGroup → v ≡ u) × (d ≡ 0 → v ≡ u) × ((BeginsField bs → ⊥) → v ≡ u) }
+    ensures fault { (d : ℕ) (v : _) (n : ℕ) (w : _) (bs : List ℕ) (left : _) (e : _) (u : _) →
+        ⟦<Group<N> as Member>⟧.shape.refuses (suc d) v n w bs left e u → e ≢ OutOfMemory →
+        (check_wire n WireType.StartGroup w ≡ Err e) ⊎ ((w ≡ WireType.StartGroup)
+        × (BeginsField bs ⊎ ((tag_at bs ≡ Err e) ⊎ ((m : ℕ) × (rest : List ℕ)
+        × (tag_at bs ≡ Ok (m, WireType.EndGroup, rest)) × (m ≢ n) × (e ≡ InvalidEndGroup m))))) }
+    ensures element { (d : ℕ) (v : _) (n : ℕ) (w : _) (bs : List ℕ) (left : _) (e : _) (u : _) →
+        ⟦<RepeatedGroup<N> as Member>⟧.shape.refuses d v n w bs left e u ↔ (v ≡ u) }
+    ensures asks { (d n : ℕ) (w : _) (bs : List ℕ) → ⟦<Group<N> as Member>⟧.shape.asks d n w bs
+        ↔ ((w ≡ WireType.StartGroup) × (0 < d) × BeginsField bs) }
+    ensures element_asks { (d n : ℕ) (w : _) (bs : List ℕ) → ⟦<RepeatedGroup<N> as Member>⟧.shape.asks d n w bs
+        ↔ ((w ≡ WireType.StartGroup) × (0 < d) × (BeginsField bs ⊎ IsOk (skip_at d n w bs))) }
+{}
+
+/// A refused entry isn't put. Unless memory ran out, the error is that of the wire type, or one of the entry's. Memory is asked for
+/// where a field of the entry takes some, or the pair is put.
+pub fn refused_entries_are_not_put<KC: MapCodec, VC: MapCodec>()
+where
+    KC::Value: MapKey + Hash,
+    ensures refuses { (d : ℕ) (v : _) (n : ℕ) (w : _) (bs : List ℕ) (left : _) (e : _) (u : _) →
+        ⟦<MapOf<KC, VC> as Member>⟧.shape.refuses d v n w bs left e u ↔ ((v ≡ u)
+        × (e ≢ OutOfMemory → (check_wire n WireType.LengthDelimited w ≡ Err e) ⊎ ((w ≡ WireType.LengthDelimited)
+        × EntryFault KC.reading VC.reading d (KC.COST + VC.COST) 0 left bs e))) }
+    ensures asks { (d n : ℕ) (w : _) (bs : List ℕ) → ⟦<MapOf<KC, VC> as Member>⟧.shape.asks d n w bs
+        ↔ ((w ≡ WireType.LengthDelimited)
+        × (b : List ℕ) × (rest : List ℕ) × (delimited_at bs ≡ Ok (b, rest))
+        × (EntryFieldsTakeMemory KC.reading VC.reading d b OutOfMemory
+        ⊎ ((s : MapEntry KC.Value.Meaning VC.Value.Meaning) × IsEntry KC.reading VC.reading d b s × (s.known ≡ true)))) }
+{}
