@@ -101,28 +101,28 @@ def codes_of(member):
     return unescaped(said) if member.it.type == Field.TYPE_BYTES else list(said.encode())
 
 
-def text_getter(member, name):
+def text_getter(member, held):
     """A getter of text or bytes: its type, its clause, and the lines of its body."""
-    codes, is_text = codes_of(member), member.it.type == Field.TYPE_STRING
+    name, codes, is_text = member.name, codes_of(member), member.it.type == Field.TYPE_STRING
     part = "string_bytes" if is_text else "(λ it. it.items)"
-    clause = f"result.now ≡ unwrap_or (option_map {part} self.now.{member.in_contract}) {in_contract(codes)[0]}"
+    clause = f"result.now ≡ unwrap_or (option_map {part} {held}) {in_contract(codes)[0]}"
     call = "as_str" if is_text else "as_slice"
     body = [f"match &self.{name} {{", f"    Some(it) => it.{call}(),", f"    None => {literal(codes, is_text)},", "}"]
     return "&str" if is_text else "&[u8]", clause, body
 
 
-def getter(member, enums):
-    """The getter of one member."""
-    name = member.name
+def getter(member, at, enums):
+    """The getter of one member, of what contracts call `at`."""
+    name, held = member.name, f"{at}.{member.in_contract}"
     if member.it.type in TEXTS:
-        rust, clause, body = text_getter(member, name)
+        rust, clause, body = text_getter(member, held)
     else:
         rust = member.rust[len("Option<") : -1]
         if member.it.type == Field.TYPE_ENUM:
             value, means = f"{rust}::{variant(member, enums)[1]}", variant(member, enums)[1]
         else:
             value, means, _ = scalar(member)
-        clause, body = f"result ≡ unwrap_or self.now.{member.in_contract} {means}", [f"self.{name}.unwrap_or({value})"]
+        clause, body = f"result ≡ unwrap_or {held} {means}", [f"self.{name}.unwrap_or({value})"]
     made = [f"    /// `{name}`, or its default where it isn't there: {clean(member.default())}.", f"    pub fn {member.getter}(&self) -> {rust}"]
     return made + [f"        ensures is {{ {clause} }}", "    {"] + [f"        {it}" for it in body] + ["    }"]
 
@@ -135,6 +135,7 @@ def getters(message, enums):
     made = ["", f"impl {message.own} {{"]
     uses = sorted(f"    ghost use {declared(message.world, full)}.{{{', '.join(sorted(of))}}};" for full, of in variants_used(message, enums).items())
     made += uses + [""] * bool(uses)
-    for at, member in enumerate(members):
-        made += [""] * bool(at) + getter(member, enums)
+    at = "self.entry.now" if any(k.name == "now" for k in message.members) else "self.now"
+    for member in members:
+        made += getter(member, at, enums) + [""] * (member is not members[-1])
     return made + ["}"]

@@ -9,7 +9,7 @@ KEYWORDS = set(
 )
 ESCAPED = set(
     "data record module package open unfoldable abbrev axiom unfold unfolding ruleset mutual infix infixl infixr elim coe fcoe "
-    "tcoe hcom com".split()
+    "tcoe hcom com Type".split()
 )
 # Words that can't name an enum's value, beside an upper-case letter: of Rust, of contracts, and those that its file imports.
 VALUES = set("None Some Self Type".split())
@@ -79,6 +79,8 @@ def camel(name):
 
 def is_free_type(name, ending):
     """The name of a type, with this ending where the form or the language has the name, or it isn't one of a type."""
+    if not name[:1].isalpha():
+        return ending + name
     return name + ending if name in TAKEN else name
 
 

@@ -74,6 +74,8 @@ class Member:
             return False
         if not self.is_default(said):
             self.field.refuse(f"its default is none of its type ({clean(said)})")
+        if self.it.type == Field.TYPE_ENUM and not self.world.crate:
+            self.field.refuse("the clause of its default cites the crate that it stands in", "say crate=NAME")
         if "implicit" in self.told and said not in ("0", "false", ""):
             self.field.refuse(f"its default isn't that of its type ({self.default()})", "take implicit= away")
         has = "implicit" not in self.told and "shared" not in self.told and not self.rust.startswith("Option<EnumValue<")
@@ -263,7 +265,11 @@ class Message:
         taken = set(self.world.types.values()) | TAKEN
         if self.held and self.own in taken:
             self.name.refuse(f"what it has beside {self.held.it.name} is to be called {self.own}, as another type is", way)
-        if self.is_opaque and f"{self.rust}Meaning" in taken:
+
+    def see_meaning(self):
+        """Refuses a name of a meaning that another type has."""
+        way = f"give it another name by --buffa_opt=rename={self.name.full}:NAME"
+        if self.is_opaque and f"{self.rust}Meaning" in set(self.world.types.values()) | TAKEN:
             self.name.refuse(f"what it means is to be called {self.rust}Meaning, as another type is", way)
 
     def see_kept(self):

@@ -226,7 +226,8 @@ def head_of_message(world, message, enums):
             names.add("And" if over == 2 else f"And{min(over, 16)}")
             over -= 15
     if message.is_opaque:
-        names = {it for it in names if it not in ("Blank", "KeptFields") and not re.fullmatch(r"And\d*", it)} | {"Model"}
+        names = {it for it in names if it != "KeptFields" and not re.fullmatch(r"And\d*", it)} | {"Model"}
+        names -= {"Blank"} if message.held else set()
     has_set = bool(message.it.extension_range)
     names |= {"ExtensionSet"} if has_set else set()
     layers = ["field"] * any(not k.keeps for k in members) + ["field_kept"] * any(k.keeps for k in members)
@@ -294,8 +295,22 @@ def codes_inside(message, messages):
     return [(holder + "s", f"coded_{snake(holder)}") for holder in sorted(found - {None})]
 
 
+def codes_used(message, codes):
+    """What a meaning of its own cites, by the facade."""
+    wire = ["Datum"] * message.is_keeping + ["coded_datum"]
+    made = [f"    ghost use Rattle.buffa.specs.Wire.{{{', '.join(wire)}}};"]
+    return made + [f"    ghost use Rattle.buffa.specs.Members.{{{', '.join(codes)}}};"] * bool(codes) + [""]
+
+
+def codes_below(message, inside):
+    """The same, by the crates below the facade."""
+    made = ["    ghost use Rattle.buffa_wire.specs.Code.{coded_datum};"]
+    made += ["    ghost use Rattle.buffa_wire.specs.Records.{Datum};"] * message.is_keeping
+    return made + [f"    ghost use Rattle.buffa_fields.specs.{module}.{{{code}}};" for module, code in inside] + [""]
+
+
 def opaque_meaning(message, messages):
-    """What the members of a message that holds itself mean, as a struct that has none of their types in it."""
+    """What the members of a message mean, as a struct that has none of their types in it."""
     inside = codes_inside(message, messages)
     values = [some_value(k.means) for k in message.members] + [("[]", {"[]"}) if message.is_keeping else ("tt", set())]
     words = set().union(*[w for _, w in values]) | ({"List", "ℕ"} if message.is_keeping else set())
@@ -304,9 +319,7 @@ def opaque_meaning(message, messages):
     made += ["#[derive(Drop)]", f"pub struct {name} {{", "    never: (),", "}", "", f"impl Model for {name} {{"]
     made += ["    ghost use Rattle.std.specs.Coded.{codes};"]
     made += [f"    ghost use Rattle.std.specs.Prelude.{{{', '.join(sorted(words))}}};"] * bool(words)
-    made += ["    ghost use Rattle.buffa_wire.specs.Code.{coded_datum};"]
-    made += ["    ghost use Rattle.buffa_wire.specs.Records.{Datum};"] * message.is_keeping
-    made += [f"    ghost use Rattle.buffa_fields.specs.{module}.{{{code}}};" for module, code in inside] + [""]
+    made += codes_used(message, [code for _, code in inside]) if message.world.over == "buffa" else codes_below(message, inside)
     made += ["    ghost Value = { let Means : (P X : Type 0) → (P → X) → Type 0 = λ P X f. X in"]
     made += [f"        Means _ _ ⟦<{k.member_type} as Member>⟧.shape.meaning × (" for k in message.members]
     made += [f"        {'List (ℕ × Datum)' if message.is_keeping else 'Unit {0}'}{')' * len(message.members)} }};", ""]
@@ -348,7 +361,8 @@ def held_form(message, messages):
 
 def listed_form(message, messages):
     name = message.own
-    made = [f"impl Fields for {name} {{"] + head_of_impl(message, messages)
+    made = opaque_meaning(message, messages) if message.is_opaque else []
+    made += [f"impl Fields for {name} {{"] + head_of_impl(message, messages)
     made += layout(message.members, message.is_keeping) + ["", "    ghost sound = { refl };", ""]
     made += visits_of(message) + [""] + take(message) + ["}", ""]
     made += [f"impl Blank for {name} {{", f"    type Meaning = <{name} as Fields>::Meaning;", ""]

@@ -131,7 +131,7 @@ class World:
             if snake(name) in files and files[snake(name)].file.it.package != it.file.it.package:
                 other, name = files[snake(name)], camel(it.file.it.package.replace(".", "_")) + name
                 self.tell(f"{it.at()}: it is called {name}, since {other.full} has the shorter name")
-        elif is_free_type(name, "") != name or not name[0].isupper():
+        elif is_free_type(name, "Message") != name or not name[0].isupper():
             it.refuse(f"no type of one's own can be called {name}", "write another name behind its rename=, one in upper camel case")
         if not self.module and snake(name) in ("lib", "main"):
             it.refuse("its file would be the crate's root", f"say module=NAME, or {way}")

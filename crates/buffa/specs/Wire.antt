@@ -16,6 +16,7 @@ pub use Rattle.buffa_bytes.specs.WireType.{wire_kind, wire_number}
 pub use Rattle.buffa_bytes.specs.Written.{UsesRoom, Writes}
 pub use Rattle.buffa_wire.specs.BudgetLeft.{BudgetLeft, Covers, PaysAtMost, UnknownTaken, UnknownsSpent, budget_left, defaults, nothing, plus}
 pub use Rattle.buffa_wire.specs.Cache.{advanced, appended}
+pub use Rattle.buffa_wire.specs.Code.{coded_datum}
 pub use Rattle.buffa_wire.specs.Enums.{DeclaresBlank, numbers, open_number}
 pub use Rattle.buffa_wire.specs.Message.{BeginsField, FieldRefused, IsMergedAlone, MergesBytes, MergesField, MergesInside, MessageFault, Stands, StandsInside, TakesMessageField, Unchanged, cost_of_payload}
 pub use Rattle.buffa_wire.specs.Parse.{AreValid, Fits}

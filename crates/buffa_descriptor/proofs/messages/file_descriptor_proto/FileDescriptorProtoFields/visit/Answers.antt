@@ -8,3 +8,6 @@ visit-requires-7-clause-comes g c = g.V.Visitor.begins _ _ _ (c.visit-6.ensures.
 
 pub visit-requires-8-clause-comes : goal.visit-requires-8-clause-comes
 visit-requires-8-clause-comes g c = g.V.Visitor.begins _ _ _ (c.visit-7.ensures.waits _ (c.visit-6.ensures.waits _ (c.visit-5.ensures.waits _ (c.visit-4.ensures.waits _ (c.visit-3.ensures.waits _ (c.visit-2.ensures.waits _ (c.visit.ensures.waits _ c.requires)))))))
+
+pub visit-requires-9-clause-comes : goal.visit-requires-9-clause-comes
+visit-requires-9-clause-comes g c = g.V.Visitor.begins _ _ _ (c.visit-8.ensures.waits _ (c.visit-7.ensures.waits _ (c.visit-6.ensures.waits _ (c.visit-5.ensures.waits _ (c.visit-4.ensures.waits _ (c.visit-3.ensures.waits _ (c.visit-2.ensures.waits _ (c.visit.ensures.waits _ c.requires))))))))
