@@ -21,9 +21,9 @@ ghost use Rattle.buffa_map.specs.Pairs.{means};
 ghost use Rattle.buffa_map.specs.FieldWords.{EnumsAreNumbers, FieldsAreRecords, MessageFieldsAreRecords, RewritesAreFields};
 
 use crate::map_codec::{
-    Bool, BytesBuf, BytesVec, ClosedEnum, Fixed32, Fixed64, Int32, Int64, MapCodec, MapStorage,
-    MapValueDecode, Msg, OpenEnum, ProtoBytesMap, ProtoStringMap, Sfixed32, Sfixed64, Sint32,
-    Sint64, Str, Uint32, Uint64,
+    Bool, BytesBuf, BytesVec, ClosedEnum, Double, Fixed32, Fixed64, Float, Int32, Int64, MapCodec,
+    MapStorage, MapValueDecode, Msg, OpenEnum, ProtoBytesMap, ProtoStringMap, Sfixed32, Sfixed64,
+    Sint32, Sint64, Str, Uint32, Uint64,
 };
 use buffa_wire::{Enumeration, Message, MessageSpec, ProtoBytes, ProtoString};
 
@@ -40,6 +40,8 @@ pub fn scalars_are_read_so()
     ensures fixed64 { IsReadAs ⟦<Fixed64 as MapValueDecode>⟧.reading (always fixed64_at) Never }
     ensures sfixed32 { IsReadAs ⟦<Sfixed32 as MapValueDecode>⟧.reading (always sfixed32_at) Never }
     ensures sfixed64 { IsReadAs ⟦<Sfixed64 as MapValueDecode>⟧.reading (always sfixed64_at) Never }
+    ensures float { IsReadAs ⟦<Float as MapValueDecode>⟧.reading (always fixed32_at) Never }
+    ensures double { IsReadAs ⟦<Double as MapValueDecode>⟧.reading (always fixed64_at) Never }
 {}
 
 /// How strings and bytes are read: as a length and so many bytes, which are UTF-8 in a string. Memory may run out only
@@ -98,6 +100,8 @@ pub fn scalars_are_written_so()
     ensures fixed64 { WritesAs ⟦<Fixed64 as MapCodec>⟧.writing wire.Fixed64 fixed64_encoding }
     ensures sfixed32 { WritesAs ⟦<Sfixed32 as MapCodec>⟧.writing wire.Fixed32 sfixed32_encoding }
     ensures sfixed64 { WritesAs ⟦<Sfixed64 as MapCodec>⟧.writing wire.Fixed64 sfixed64_encoding }
+    ensures float { WritesAs ⟦<Float as MapCodec>⟧.writing wire.Fixed32 fixed32_encoding }
+    ensures double { WritesAs ⟦<Double as MapCodec>⟧.writing wire.Fixed64 fixed64_encoding }
 {}
 
 /// How strings, bytes and enums are written: a length and the bytes, or an int32. And which values their types hold: bytes

@@ -34,3 +34,9 @@ returns-clause-sfixed32 c = fours_read _ sfixed32_of
 
 pub returns-clause-sfixed64 : goal.returns-clause-sfixed64
 returns-clause-sfixed64 c = eights_read _ sfixed64_of
+
+pub returns-clause-float : goal.returns-clause-float
+returns-clause-float c = fours_read _ fixed32_of
+
+pub returns-clause-double : goal.returns-clause-double
+returns-clause-double c = eights_read _ fixed64_of
