@@ -16,7 +16,7 @@ VALUES = set("None Some Self Type".split())
 # Modules that a crate reads as its own libraries, or that contracts have.
 MODULES = set("std core buffa bytes anyhow hex indexmap thiserror lib prim".split())
 CODECS = set(
-    "Bool BytesBuf BytesVec ClosedEnum Fixed32 Fixed64 Int32 Int64 Map OpenEnum Sfixed32 Sfixed64 Sint32 Sint64 Str Uint32 Uint64".split()
+    "Bool BytesBuf BytesVec ClosedEnum Double Fixed32 Fixed64 Float Int32 Int64 Map OpenEnum Sfixed32 Sfixed64 Sint32 Sint64 Str Uint32 Uint64".split()
 )
 
 # The module of each name, over the facade.
@@ -26,7 +26,7 @@ FACADE = {
     **{it: "buffa::fields" for it in "Fields Formed Group Keeping KeptFields Listed Listing MapOf MapOfNested Member Nested".split()},
     **{it: "buffa::fields" for it in "Optional OrderedMapOf OrderedMapOfNested Packed Plain Repeated RepeatedGroup".split()},
     **{it: "buffa::fields" for it in "RepeatedNested Visitor Holds Nest MapNest Chain kept".split()},
-    **{it: "buffa" for it in "Blank DecodeContext DecodeError EnumValue Enumeration ExtensionSet Tag UnknownFields".split()},
+    **{it: "buffa" for it in "Blank DoubleBits FloatBits DecodeContext DecodeError EnumValue Enumeration ExtensionSet Tag UnknownFields".split()},
     "Bytes": "bytes",
     "Global": "std::alloc",
     "BTreeMap": "std::collections",
@@ -37,7 +37,7 @@ FACADE = {
 BELOW = {
     **{it: "buffa_map::map_codec" for it in CODECS},
     **{it: "buffa_fields::meaning" for it in ["And"] + [f"And{n}" for n in range(3, 17)]},
-    **{it: "buffa_wire" for it in "Blank DecodeContext DecodeError EnumValue Enumeration Formed Tag UnknownFields".split()},
+    **{it: "buffa_wire" for it in "Blank DoubleBits FloatBits DecodeContext DecodeError EnumValue Enumeration Formed Tag UnknownFields".split()},
     **{it: f"buffa_fields::{it.lower()}" for it in "Fields Group Keeping Member Nested Optional Packed Plain Repeated Visitor".split()},
     "ExtensionSet": "buffa_ext",
     "KeptFields": "buffa_fields::kept",

@@ -20,12 +20,14 @@ SCALARS = {
     Field.TYPE_SFIXED32: ("Sfixed32", "i32", "i32", 8, "0"),
     Field.TYPE_SFIXED64: ("Sfixed64", "i64", "i64", 8, "0"),
     Field.TYPE_BOOL: ("Bool", "bool", "bool", 8, "false"),
+    Field.TYPE_FLOAT: ("Float", "FloatBits", "u32", 8, "FloatBits { bits: 0 }"),
+    Field.TYPE_DOUBLE: ("Double", "DoubleBits", "u64", 8, "DoubleBits { bits: 0 }"),
     Field.TYPE_STRING: ("Str", "String", "[u8; 0]", 24, "String::new(alloc)"),
     Field.TYPE_BYTES: ("BytesVec", "Vec<u8>", "[u8; 0]", 24, "Vec::new(alloc)"),
 }
 # What a message that holds itself is, by the member type of the field in which it does.
 HOLDERS = {"RepeatedNested": "Nest", "MapOfNested": "MapNest", "OrderedMapOfNested": "MapNest", "Nested": "Chain"}
-REALS = {Field.TYPE_FLOAT: "float", Field.TYPE_DOUBLE: "double"}
+REALS = (Field.TYPE_FLOAT, Field.TYPE_DOUBLE)
 # Calls of a message, which a getter would hide.
 CALLS = set(
     "blank clear compute_size extendee_name merge merge_field merge_from_slice merge_length_delimited take the_row try_encode_to_vec "
@@ -78,7 +80,8 @@ class Member:
             self.field.refuse("the clause of its default cites the crate that it stands in", "say crate=NAME")
         if "implicit" in self.told and said not in ("0", "false", ""):
             self.field.refuse(f"its default isn't that of its type ({self.default()})", "take implicit= away")
-        has = "implicit" not in self.told and "shared" not in self.told and not self.rust.startswith("Option<EnumValue<")
+        is_plain = self.it.type not in REALS and not self.rust.startswith("Option<EnumValue<")
+        has = is_plain and "implicit" not in self.told and "shared" not in self.told
         if not has and "implicit" not in self.told:
             self.world.tell(f"{self.field.at()}: it has no getter for its default ({self.default()})")
         return has
@@ -91,7 +94,8 @@ class Member:
             return said in ("true", "false")
         if self.it.type == Field.TYPE_BYTES:
             return re.fullmatch(r"([ -\[\]-~]|\\([0-3][0-7]{2}|[nrt\"'\\]))*", said) is not None
-        return self.it.type == Field.TYPE_STRING or re.fullmatch(r"-?[0-9]+", said, re.ASCII) is not None
+        number = r"-?(inf|nan|[0-9.]+(e[-+]?[0-9]+)?)" if self.it.type in REALS else r"-?[0-9]+"
+        return self.it.type == Field.TYPE_STRING or re.fullmatch(number, said, re.ASCII) is not None
 
     def see_told(self, entry):
         """Refuses a parameter where it is for other fields."""
@@ -112,14 +116,12 @@ class Member:
 
     def codec(self, it):
         """The codec of a field, its Rust type, what it means, its bytes and its default; of a closed enum also that it is one."""
-        if it.type in REALS:
-            self.field.refuse(f"no codec is of the type {REALS[it.type]}")
         if it.type == Field.TYPE_BYTES and "shared" in self.told:
             self.needs |= {"BytesBuf", "Bytes"}
             return "BytesBuf", "Bytes", "[u8; 0]", 32, "Bytes::new()", False
         if it.type != Field.TYPE_ENUM:
             made = SCALARS[it.type]
-            self.needs |= {made[0]} | ({"String"} if made[0] == "Str" else set())
+            self.needs |= {made[0]} | ({"String"} if made[0] == "Str" else set()) | ({made[1]} if it.type in REALS else set())
             return made + (False,)
         name = self.world.type_of(self.field, it.type_name)
         self.inside.append(it.type_name.lstrip("."))
