@@ -365,6 +365,14 @@ pub fn adapted_buffers_are_these<B: bytes::Buf>()
     ensures more_kept { (n : ℕ) (b : List ℕ) (x : List (List ℕ × ℕ)) → kept_beyond ((b, n) ∷ x) ≡ (n, b) ∷ kept_beyond x }
 {}
 
+/// An adapted buffer that was lent, and is let go, leaves its lender as it was.
+pub fn adapted_buffers_let_go_stay<B: bytes::Buf + Drop>(buf: &mut B)
+    ensures { buf.new ≡ buf.old }
+{
+    let adapted = Adapted(&mut *buf);
+    let _left = adapted.remaining();
+}
+
 /// What was written to a vector or to a `BytesMut`, and its spare capacity. It leaves nothing out.
 pub fn sinks_are_these()
     ensures written { (v : Vec ℕ Global) → ⟦<Vec<u8> as EncodeSink>⟧.written v ≡ v.items }
