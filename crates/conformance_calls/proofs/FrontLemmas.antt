@@ -4,7 +4,7 @@ use Rattle.std.specs.List.{AllByRecursion}
 use Rattle.std.proofs.lemmas.List.{drop_all, drop_more}
 use Rattle.buffa_wire.specs.BudgetLeft.{BudgetLeft, Pays}
 use Rattle.buffa_bytes.specs.Number.{IsNumber}
-use Rattle.buffa_wire.specs.Parse.{FitsDatum}
+use Rattle.buffa_wire.specs.Parse.{FitsDatum, IsValidDatum}
 use Rattle.buffa_wire.specs.Records.{Datum, datum_height}
 use Rattle.buffa_wire.specs.View.{datum_of, records_in}
 use Rattle.buffa_wire.specs.declared.unknown_fields.UnknownField.{UnknownField}
@@ -18,14 +18,14 @@ from_place : {X : Type 0} (xs : List X) (i : ℕ) (x : X) → i < length xs → 
 from_place xs i x lt e = ap (λ y. y ∷ drop (i + 1) xs) e ∙ sym (drop_more xs i x lt)
 
 pub written_from : (levels : ℕ) (xs : List UnknownField) (i : ℕ) (x : UnknownField) → i < length xs → x ≡ get_or xs i x
-    → IsNumber x.number → FitsDatum (datum_of x.payload) × (datum_height (datum_of x.payload) ≤ levels)
+    → IsNumber x.number → IsValidDatum (datum_of x.payload) × FitsDatum (datum_of x.payload) × (datum_height (datum_of x.payload) ≤ levels)
     → AreWritten levels (records_in (drop (i + 1) xs)) → AreWritten levels (records_in (drop i xs))
 written_from levels xs i x lt e number payload rest =
-    subst (λ l. AreWritten levels (records_in l)) (from_place xs i x lt e) ((number, payload.0, rest.0), omega (arith, payload.1, rest.1))
+    subst (λ l. AreWritten levels (records_in l)) (from_place xs i x lt e) ((number, payload.0, rest.0), (payload.1, rest.1), omega (arith, payload.2, rest.2))
 
 -- behind the last place there are none
 pub written_none : (levels : ℕ) (xs : List UnknownField) (i : ℕ) → length xs ≤ i → AreWritten levels (records_in (drop i xs))
-written_none levels xs i over = subst (λ l. AreWritten levels (records_in l)) (sym (drop_all i xs over)) (tt, omega arith)
+written_none levels xs i over = subst (λ l. AreWritten levels (records_in l)) (sym (drop_all i xs over)) (tt, tt, omega arith)
 
 pub each_none : {V M : Type 0} (P : M → Type 0) (meaning : V → M) (xs : List V) (i : ℕ) → length xs ≤ i → AllByRecursion P (map meaning (drop i xs))
 each_none P meaning xs i over = subst (λ l. AllByRecursion P (map meaning l)) (sym (drop_all i xs over)) tt

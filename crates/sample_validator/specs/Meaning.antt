@@ -9,7 +9,8 @@ use Rattle.buffa_bytes.specs.declared.wire_type.WireType.TheVariants.{Varint}
 use Rattle.buffa_wire.specs.BudgetLeft.{BudgetLeft}
 use Rattle.buffa_wire.specs.Kept.{keep_need}
 use Rattle.buffa_wire.specs.Message.{FieldTaken}
-use Rattle.buffa_wire.specs.Records.{Datum, varint}
+use Rattle.buffa_wire.specs.Parse.{AreValid}
+use Rattle.buffa_wire.specs.Records.{Datum, records_of, varint}
 use Rattle.buffa_wire.specs.Takes.{Need, Taker}
 use Rattle.buffa_map.specs.Codec.{Reading}
 use Rattle.buffa_map.specs.Scalars.{number_reading}
@@ -31,9 +32,9 @@ options_need = both_need 3 free keep_need
 abbrev pub options_records : Option Bool × List (ℕ × Datum) → List (ℕ × Datum)
 options_records v = some_records (λ b. varint (from_bool b)) 3 v.0 ++ v.1
 
--- no record that is kept has its number
+-- the records that are kept are valid, and none has its number
 abbrev pub OthersAreKept : Option Bool × List (ℕ × Datum) → Type 0
-OthersAreKept v = AllNumbers (λ n. not (n == 3)) v.1
+OthersAreKept v = AreValid (records_of v.1) × AllNumbers (λ n. not (n == 3)) v.1
 
 -- the declared field is read by itself, or refused by the fault of its bytes, and then it stays
 abbrev pub ReadsDeprecated : ℕ → ℕ → Option Bool → WireType → List ℕ → Result (Unit {0}) DecodeError → Option Bool → List ℕ → Type 0

@@ -11,7 +11,8 @@ ghost use Rattle.buffa_wire.specs.BudgetLeft.{BudgetLeft, nothing};
 ghost use Rattle.buffa_wire.specs.Found.{varint_in};
 ghost use Rattle.buffa_wire.specs.Encoding.{records_encoding};
 ghost use Rattle.buffa_wire.specs.Kept.{keep_need};
-ghost use Rattle.buffa_wire.specs.Records.{Datum, Held, height, varint};
+ghost use Rattle.buffa_wire.specs.Parse.{AreValid};
+ghost use Rattle.buffa_wire.specs.Records.{Datum, Held, height, records_of, varint};
 ghost use Rattle.buffa_wire.specs.Takes.{cost_of, merged_of};
 ghost use Rattle.buffa_codec.specs.Packed.{numbers_in};
 ghost use Rattle.buffa_codec.specs.Decoded.{last_read};
@@ -119,7 +120,7 @@ pub fn messages_are_these()
 /// Which values are read back from their encoding, and how deep it nests. Nothing is left out.
 pub fn messages_are_read_back(options: &FieldOptions)
     ensures options { (v : _) → ⟦<FieldOptions as MessageSpec>⟧.normal v ↔ OthersAreKept v }
-    ensures carrier { (rs : List (ℕ × Datum)) → ⟦<Carrier as MessageSpec>⟧.normal rs }
+    ensures carrier { (rs : List (ℕ × Datum)) → ⟦<Carrier as MessageSpec>⟧.normal rs ↔ AreValid (records_of rs) }
     ensures levels { (v : _) → ⟦<FieldOptions as MessageSpec>⟧.levels v ≡ height v.1 }
     ensures carrier_levels { ⟦<Carrier as MessageSpec>⟧.levels ≡ height }
 {

@@ -2,7 +2,7 @@
 
 ghost use Rattle.std.specs.Prelude.{◌≤◌, IsTrue};
 ghost use Rattle.buffa_bytes.specs.Number.{IsNumber};
-ghost use Rattle.buffa_wire.specs.Parse.{FitsDatum};
+ghost use Rattle.buffa_wire.specs.Parse.{FitsDatum, IsValidDatum};
 ghost use Rattle.buffa_wire.specs.Records.{datum_height};
 ghost use Rattle.buffa_wire.specs.View.{datum_of};
 ghost use Rattle.conformance_calls.specs.Normal.{AreWritten};
@@ -19,7 +19,8 @@ fn is_number(number: u32) -> bool
 // Whether what a field holds can be written: a number or bytes always can, the records of a group by each of them.
 #[cycle(walk)]
 fn is_payload_written(payload: &UnknownFieldData, levels: u32) -> bool
-    ensures { IsTrue result → FitsDatum (datum_of payload.now) × (datum_height (datum_of payload.now) ≤ levels) }
+    ensures { IsTrue result → IsValidDatum (datum_of payload.now) × FitsDatum (datum_of payload.now)
+        × (datum_height (datum_of payload.now) ≤ levels) }
 {
     match payload {
         UnknownFieldData::Varint(value) => {

@@ -1,6 +1,5 @@
 use Rattle.std.proofs.Common.{[], arith}
 use Rattle.std.specs.Int.{cast_unsigned, w64}
-use Rattle.buffa_bytes.proofs.IntLemmas.{int32_below}
 use Rattle.buffa_fields.specs.BlankFacts.{is_zero}
 use Rattle.buffa_fields.specs.MemberRecords.{plain_records}
 use Rattle.conformance.proofs.NumberLemmas.{unless_fits}
@@ -11,4 +10,4 @@ unfolding plain_records
 returns c = λ _.
     let v = c.args.self.now.value in
     let fits = c.encoded_len-value.ensures.fits in
-    ((c.members_read_back.ensures, ((fits, tt), tt, tt)), omega arith, unless_fits (is_zero v) 1 (cast_unsigned w64 v) [] (omega arith, omega arith) (int32_below v fits) tt)
+    ((c.members_read_back.ensures, ((fits, tt), tt, tt)), omega arith, unless_fits (is_zero v) 1 (cast_unsigned w64 v) [] tt)

@@ -1,6 +1,5 @@
 use Rattle.std.proofs.Common.{[], ◌∷◌, ◌++◌, arith}
 use Rattle.std.specs.Int.{cast_unsigned, w64}
-use Rattle.buffa_bytes.proofs.IntLemmas.{int32_below}
 use Rattle.buffa_fields.specs.BlankFacts.{is_zero}
 use Rattle.buffa_fields.specs.MemberRecords.{plain_records}
 use Rattle.buffa_fields.specs.Values.{records_unless}
@@ -18,6 +17,5 @@ returns c = λ _.
     let more = records_unless (is_zero b) ((2, varint (cast_unsigned w64 b)) ∷ []) ++ [] in (
       (c.members_read_back.ensures, ((first, tt), ((second, tt), tt, tt), tt)),
       omega arith,
-      unless_fits (is_zero a) 1 (cast_unsigned w64 a) more (omega arith, omega arith) (int32_below a first)
-          (unless_fits (is_zero b) 2 (cast_unsigned w64 b) [] (omega arith, omega arith) (int32_below b second) tt),
+      unless_fits (is_zero a) 1 (cast_unsigned w64 a) more (unless_fits (is_zero b) 2 (cast_unsigned w64 b) [] tt),
     )

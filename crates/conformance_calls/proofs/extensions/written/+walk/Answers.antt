@@ -1,6 +1,6 @@
 use Rattle.std.proofs.Common.{◌≤◌, sym, ap, subst, ◌∙◌, arith}
 use Rattle.buffa_wire.specs.DepthFacts.{height-records}
-use Rattle.buffa_wire.specs.Parse.{FitsDatum}
+use Rattle.buffa_wire.specs.Parse.{FitsDatum, IsValidDatum}
 use Rattle.buffa_wire.specs.Records.{datum_height}
 use Rattle.buffa_wire.specs.View.{datum_of, records_in}
 use Rattle.conformance_calls.specs.Normal.{AreWritten}
@@ -10,8 +10,8 @@ use Rattle.conformance_calls.proofs.extensions.written.+walk.Goals as goal
 pub is_payload_written-returns-then-levels-gt0 : goal.is_payload_written-returns-then-levels-gt0
 is_payload_written-returns-then-levels-gt0 t c =
     λ yes. let inner = c.are_written.ensures yes in
-    subst (λ p. FitsDatum (datum_of p) × (datum_height (datum_of p) ≤ c.args.levels)) (sym c.in-Group.is)
-    (inner.0, omega (arith, inner.1, height-records c.in-Group.fields.records))
+    subst (λ p. IsValidDatum (datum_of p) × FitsDatum (datum_of p) × (datum_height (datum_of p) ≤ c.args.levels)) (sym c.in-Group.is)
+    (inner.0, inner.1, omega (arith, inner.2, height-records c.in-Group.fields.records))
 
 pub are_written-loop-field-preserved : goal.are_written-loop-field-preserved
 are_written-loop-field-preserved t c =
