@@ -6,7 +6,7 @@ cases the calls that its rows make.
 
     tests/index.py          sees that docs/INDEX.md is what the sources give; that each name in code that stands in a page of PAGES is
                             there; that each link of README.md and docs/ leads to a file and, behind `#`, to a heading; that
-                            the words in code of a link to a file stand in that file; and that each walk of docs/MAP.md names what
+                            the words in code of a link to a file of code, or to the index, stand there; and that each walk of docs/MAP.md names what
                             stands in its file; status 1 where not
     tests/index.py write    writes docs/INDEX.md
 
@@ -176,7 +176,7 @@ def wrong_links(path, text):
             wrong.append(f"{path}: no {target}")
         elif anchor and (not to.endswith(".md") or anchor not in anchors_of(to)):
             wrong.append(f"{path}: no heading {target}")
-        elif to.endswith((".rt", ".antt")):
+        elif to.endswith((".rt", ".antt", "INDEX.md")):
             there = set(WORD.findall(read(to)))
             named = [it for it in re.findall(r"`([^`]+)`", words) if not to.endswith(it)]
             wrong += [f"{path}: no {it} in {to}" for name in named for it in WORD.findall(name) if it not in there]
