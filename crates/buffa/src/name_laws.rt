@@ -1,26 +1,29 @@
 //! What the names of this crate stand for: no two limits, codecs, member types or samples can be exchanged while these laws hold.
 
-ghost use Rattle.std.specs.Prelude.{◌≡◌, ◌∷◌, ◌++◌, ◌-◌, ◌^◌, [], ℕ, List, false, map, option_map, pos, true};
+ghost use Rattle.std.specs.Prelude.{◌≡◌, ◌∷◌, ◌++◌, ◌-◌, ◌^◌, [], ℕ, List, Ok, Some, false, map, option_map, pos, take, true};
 ghost use Rattle.buffa_bytes.specs.Scalars.{bool_of, fixed32_of, fixed64_of, int64_of, sfixed32_of, sfixed64_of};
 ghost use Rattle.buffa_bytes.specs.Scalars.{sint32_of, sint64_of, uint32_of, uint64_of};
+ghost use Rattle.buffa_bytes.specs.Front.{delimited_at};
 ghost use Rattle.buffa_bytes.specs.Values.{int32_of};
+ghost use Rattle.buffa_bytes.specs.WireType.{same_wire};
 ghost use Rattle.buffa_bytes.specs.declared.wire_type.WireType.TheVariants as wire;
 ghost use Rattle.buffa_wire.specs.BudgetLeft.{BudgetLeft};
+ghost use Rattle.buffa_wire.specs.ByField.{value_of};
 ghost use Rattle.buffa_wire.specs.Enums.{numbers, open_number};
 ghost use Rattle.buffa_wire.specs.Found.{fixed32_in, fixed64_in, varint_in};
 ghost use Rattle.buffa_wire.specs.Records.{Datum, bytes as held_bytes};
 ghost use Rattle.buffa_codec.specs.Decoded.{bytes_held, packed_record, string_held};
 ghost use Rattle.buffa_ext.specs.Messages.{group_of};
 ghost use Rattle.std.specs.BTreeMap.{insert_entry};
-ghost use Rattle.buffa_fields.specs.Groups.{group_datum, group_records};
+ghost use Rattle.buffa_fields.specs.Groups.{group_datum, group_merged, group_records};
 ghost use Rattle.buffa_fields.specs.Held.{nest_encoding};
 ghost use Rattle.buffa_fields.specs.HeldMap.{keys_by, map_nest_records};
 ghost use Rattle.buffa_fields.specs.HeldOne.{chain_encoding};
 ghost use Rattle.buffa_fields.specs.Layout.{both_take};
-ghost use Rattle.buffa_fields.specs.Lists.{element_records, packed_records};
+ghost use Rattle.buffa_fields.specs.Lists.{element_records, elements_in, packed_records};
 ghost use Rattle.buffa_fields.specs.MapFields.{pair_taken};
 ghost use Rattle.buffa_fields.specs.MemberRecords.{optional_records, plain_records};
-ghost use Rattle.buffa_fields.specs.Nested.{message_records};
+ghost use Rattle.buffa_fields.specs.Nested.{message_merged, message_records};
 ghost use Rattle.buffa_fields.specs.RepeatedNested.{messages_records};
 ghost use Rattle.buffa_map.specs.Enums.{closed_reading, open_reading};
 ghost use Rattle.buffa_map.specs.Message.{message_reading};
@@ -33,9 +36,9 @@ use crate::fields::{
 };
 use crate::map_codec::{MapCodec, MapStorage, MapValueDecode};
 use crate::{
-    Blank, DEFAULT_ELEMENT_MEMORY_LIMIT, DEFAULT_UNKNOWN_FIELD_LIMIT, Enumeration,
-    MAX_FIELD_NUMBER, MAX_MESSAGE_BYTES, Map, MapKey, Message, MessageSpec, RECURSION_LIMIT,
-    fields, map_codec, samples,
+    Blank, Buf, DEFAULT_ELEMENT_MEMORY_LIMIT, DEFAULT_UNKNOWN_FIELD_LIMIT, Enumeration, Limited,
+    MAX_FIELD_NUMBER, MAX_MESSAGE_BYTES, Map, MapKey, Message, MessageSpec, Pieces,
+    RECURSION_LIMIT, fields, laws, map_codec, samples,
 };
 use buffa_codec::laws::{numbers_are_read, the_last_record_is_read};
 use buffa_wire::MessageMeaning;
@@ -49,6 +52,20 @@ pub fn limits_are_these()
     ensures field_number { MAX_FIELD_NUMBER ≡ 2 ^ 29 - 1 }
     ensures message_bytes { MAX_MESSAGE_BYTES ≡ 2 ^ 31 - 1 }
 {}
+
+/// Which buffers the names are: `Pieces` shows its bytes, and `Limited` the front of the buffer that it was lent.
+pub fn buffers_are_these<B: Buf>()
+    ensures pieces { (s : _) → ⟦<Pieces<'static> as Buf>⟧.unread s ≡ s }
+    ensures limited { (s : _) → ⟦<Limited<'static, B> as Buf>⟧.unread s ≡ take s.limit (B.unread s.inner.now) }
+{}
+
+/// Which laws the names of the modules in [`laws`] are: each has those of the form that it is named for.
+pub fn law_modules_are_these<KC: MapCodec<Value = K>, K: OrderedKey, O: Holds, H: HoldingMap>() {
+    laws::fields::messages_that_hold_themselves_are_these::<O>();
+    laws::held_maps::maps_of_themselves_are_these::<KC, K, O>();
+    laws::held_messages::held_messages_are_these::<H>();
+    laws::held_ones::messages_inside_themselves_are_these::<O>();
+}
 
 /// How each codec of extensions of one value reads a record, and which records lists and messages have. What the laws of
 /// numbers and of last records say holds of these names.
@@ -133,6 +150,26 @@ pub fn map_codecs_are_these<E: Enumeration, M: Message, K: MapKey + Hash, V: Bla
     ensures open { ⟦<map_codec::OpenEnum<E> as MapValueDecode>⟧.reading ≡ open_reading E.of_number }
     ensures message { ⟦<map_codec::Msg<M> as MapValueDecode>⟧.reading ≡ message_reading M.blank_is M.merged M.cost }
     ensures map { ⟦<Map<K, V> as MapStorage>⟧.keeps_order ≡ true }
+{}
+
+/// What a record of a member does where something stands: a message takes it in, and a list has its elements behind those that
+/// stand. A default is no record, of an unsigned number as of any.
+#[tactic(auto, unfolding(buffa_fields::specs::Groups::group_merged, buffa_fields::specs::Lists::elements_taken, buffa_fields::specs::Nested::message_merged))]
+pub fn records_of_members_are_these<N: Message, P: Packable>()
+    ensures nested { (d n : ℕ) (v : N.Meaning) (w : _) (p : List ℕ) →
+        ⟦<fields::Nested<N> as Member>⟧.shape.takes d (Some v) n w p
+        ≡ option_map (λ u. Some u) (message_merged N.merged d v n w p) }
+    ensures group { (d n : ℕ) (v : N.Meaning) (w : _) (p : List ℕ) →
+        ⟦<fields::Group<N> as Member>⟧.shape.takes d (Some v) n w p
+        ≡ option_map (λ u. Some u) (group_merged N.merged d v n w p) }
+    ensures packed { (d n : ℕ) (vs : List P.Value.Meaning) (p b : List ℕ) → delimited_at p ≡ Ok (b, []) →
+        same_wire P.reading.wire wire.LengthDelimited ≡ false →
+        ⟦<fields::Packed<P> as Member>⟧.shape.takes d vs n wire.LengthDelimited p
+        ≡ value_of (elements_in P.reading d vs b) }
+    ensures unsigned { (⟦<map_codec::Uint32 as ProtoType>⟧.is_blank 0 ≡ true)
+        × (⟦<map_codec::Uint64 as ProtoType>⟧.is_blank 0 ≡ true)
+        × (⟦<map_codec::Fixed32 as ProtoType>⟧.is_blank 0 ≡ true)
+        × (⟦<map_codec::Fixed64 as ProtoType>⟧.is_blank 0 ≡ true) }
 {}
 
 /// Which sample each name is, by what an element of it costs.
