@@ -285,6 +285,8 @@ def slow_streams(program, room, seen):
     """Inputs that come a byte at a time, and outputs and errors that take a byte at a time."""
     for words, given, text, errors, status in rows_of("program.tsv"):
         pairs = [socket.socketpair(socket.AF_UNIX, socket.SOCK_SEQPACKET) for _ in range(3)]
+        # a new socket holds 278 bytes that are sent one by one, and the longest row has 412
+        pairs[0][0].setsockopt(socket.SOL_SOCKET, socket.SO_SNDBUF, 1 << 20)
         for byte in given:
             pairs[0][0].send(bytes([byte]))
         pairs[0][0].close()
