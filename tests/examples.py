@@ -1,9 +1,13 @@
 #!/usr/bin/env python3
-"""Compares examples with code that is proved: each line of code in the `///` and `//!` comments of the crates, in README.md and
-in docs/GUIDE.md has to stand in a file of a crate, its `src/` or, for a definition, its `specs/`.
+"""Compares examples with code that is proved: the blocks of docs, and the lines of code in the `///` and `//!` comments of the crates.
 
-Lines are compared as tokens, so layout and comments don't count, nor does a comma before a closing bracket; a statement may
-be broken over lines there. What may differ:
+**A block** between fences in README.md, docs/GUIDE.md, docs/BY_HAND.md or docs/CONTRACTS.md is a run of lines of one file: of `src/` or
+`specs/` of a crate (`rust`, `antt`), of a crate's `.proto` (`proto`), or of what a program has to print, its file `stdout` (`text`).
+Spaces at a line's beginning and end don't count, nor do comments and empty lines. A line `..` alone stands for lines that are left out:
+what follows it stands further down in the same file, and in the same item, unless the item has ended there and another begins.
+
+**A line** of a comment has to stand in a file of a crate, its `src/` or, for a definition, its `specs/`. Lines are compared as tokens, so
+layout and comments don't count, nor does a comma before a closing bracket; a statement may be broken over lines there. What may differ:
 
 - the names of plain variables, one for one within a line. `self`, what is called, what follows a dot, the members of a struct,
   types, constants and literals are as they are.
@@ -15,15 +19,17 @@ be broken over lines there. What may differ:
 Of a `use` each name has to be imported from that path somewhere.
 
 So an expression may stand within a longer one, but not a function behind another type or value. A line of one word, or of
-brackets alone, is passed over. REFUSED has lines that are nearly right: the script sees that it refuses each.
+brackets alone, is passed over. REFUSED has lines that are nearly right, and REFUSED_BLOCKS such blocks: the script sees that it refuses
+each.
 
-    tests/examples.py          lists the lines that no file says
+    tests/examples.py          lists the blocks and the lines that no file says
     tests/examples.py -q       counts them alone
-    tests/examples.py -v       lists where each line is said
+    tests/examples.py -v       lists where each is said
 
-The last line is 'N lines, M that no proved function says'; the status is 1 where M isn't 0.
+The last line is 'N lines, B blocks, M that no proved function says'; the status is 1 where M isn't 0.
 """
 import bisect
+import collections
 import glob
 import itertools
 import os
@@ -44,7 +50,14 @@ NAME = re.compile(r"[a-z_][a-z_0-9]*$")
 KEPT = set("""self super crate let mut if else match for in while loop return break continue fn pub struct enum impl trait type
 use mod as where move ref ghost const static true false alloc _ u8 u16 u32 u64 usize i8 i16 i32 i64 isize bool str char f32
 f64""".split())
-PAGES = ("README.md", "docs/GUIDE.md")
+PAGES = ("README.md", "docs/GUIDE.md", "docs/BY_HAND.md", "docs/CONTRACTS.md")
+# The files that a block is a part of, by the word behind its fence.
+PLACES = {
+    "rust": ("crates/*/src/**/*.rt", "crates/*/specs/*.antt"),
+    "antt": ("crates/*/src/**/*.rt", "crates/*/specs/*.antt", "crates/*/proofs/**/*.antt"),
+    "proto": ("crates/*/*.proto",),
+    "text": ("crates/*/stdout",),
+}
 # Lines that no proved function can say: what the line is, and why.
 ALLOWED = {}
 # Lines that are wrong, each of which has to be refused.
@@ -62,6 +75,14 @@ REFUSED = (
     "let number = counts.decode_varint(&mut rest)?;",
     "let mut message: Stock = Blank::blank(alloc);",
     "use buffa::map_codec::{Int32, Integer};",
+)
+# Blocks that are wrong: a line is left out, or two functions are joined.
+REFUSED_BLOCKS = (
+    ("rust", ["let mut info = ErrorInfo::blank(alloc);", "info.domain = domain;"]),
+    ("rust", ["info.domain = domain;", "..", "let mut info = ErrorInfo::blank(alloc);"]),
+    ("rust", ["info.merge_from_slice(alloc, bytes)?;", "..", "info.merge_from_slice(alloc, BYTES)?;"]),
+    ("proto", ["string reason = 1;", "map<string, string> metadata = 3;"]),
+    ("text", ["NO_STOCK, now 36 bytes"]),
 )
 
 
@@ -110,6 +131,77 @@ def doc_line(line):
     return found.group(1) if found else None
 
 
+def bare(line):
+    """A line without its comment and the spaces around it."""
+    return COMMENT.sub("", line).strip()
+
+
+def blocks():
+    """Each block of a page: the page, the number of its first line, its word, its lines."""
+    for page in PAGES:
+        word, lines, start = None, [], 0
+        for number, line in enumerate(open(f"{TOP}/{page}", encoding="utf-8"), 1):
+            text = line.strip()
+            if not text.startswith("```"):
+                lines.append(line)
+            elif word is None:
+                word, lines, start = text[3:], [], number + 1
+            else:
+                yield page, start, word, [it for it in map(bare, lines) if it]
+                word = None
+
+
+def items_of(lines):
+    """For each line of a file the number of the item that it belongs to: one begins where no bracket is open."""
+    found, depth, item = [], 0, 0
+    for line in lines:
+        found.append(item)
+        plain_line = re.sub(r"b?\"(?:\\.|[^\"\\])*\"|b?'(?:\\.|[^'\\])'", "", line)
+        depth += sum(plain_line.count(it) for it in "({[") - sum(plain_line.count(it) for it in ")}]")
+        item += depth <= 0 and line.endswith(("}", ";"))
+    return found
+
+
+class Lines:
+    """The lines of the files that blocks may be parts of."""
+
+    def __init__(self):
+        self.files, self.places = {}, {}
+        for word, patterns in PLACES.items():
+            paths = sorted({it for each in patterns for it in glob.glob(f"{TOP}/{each}", recursive=True) if "/out/" not in it})
+            for path in paths:
+                if path not in self.files:
+                    lines = [it for it in map(bare, open(path, encoding="utf-8")) if it]
+                    self.files[path] = (lines, items_of(lines))
+            self.places[word] = collections.defaultdict(list)
+            for path in paths:
+                for at, line in enumerate(self.files[path][0]):
+                    self.places[word][line].append((path, at))
+
+    def follow(self, path, at, parts):
+        """Whether parts stand in a file one below the other, the first of them at a line."""
+        lines, items = self.files[path]
+        end = at + len(parts[0])
+        if lines[at:end] != parts[0]:
+            return False
+        if not parts[1:]:
+            return True
+        whole = end == len(lines) or items[end] != items[end - 1]
+        return any(
+            self.follow(path, to, parts[1:])
+            for to in range(end, len(lines))
+            if lines[to] == parts[1][0] and (items[to] == items[end - 1] or whole and items[to] != items[to - 1])
+        )
+
+    def said_in(self, word, block):
+        """The file that a block is a part of, or nothing."""
+        parts = [list(part) for is_gap, part in itertools.groupby(block, lambda it: it == "..") if not is_gap]
+        for path, at in self.places.get(word, {}).get(parts[0][0] if parts else None, []):
+            if self.follow(path, at, parts):
+                return os.path.relpath(path, TOP)
+        return None
+
+
 def fenced(path, strip):
     """The lines of code between fences, with their numbers."""
     inside = False
@@ -124,13 +216,10 @@ def fenced(path, strip):
 
 
 def examples():
-    """Each line of an example: the file, its number, the line."""
+    """Each line of an example in a comment: the file, its number, the line."""
     for path in sorted(glob.glob(f"{TOP}/crates/*/src/**/*.rt", recursive=True)):
         for number, text in fenced(path, doc_line):
             yield os.path.relpath(path, TOP), number, text
-    for page in PAGES:
-        for number, text in fenced(f"{TOP}/{page}", str.rstrip):
-            yield page, number, text
 
 
 def imports_of(text):
@@ -282,10 +371,20 @@ def main():
             print(f"{path}:{number}: {text}")
         elif "-v" in sys.argv[1:]:
             print(f"{path}:{number}: {text}\n    {known[text]}")
+    files, count = Lines(), 0
+    for page, number, word, block in blocks():
+        count += 1
+        path = files.said_in(word, block)
+        missing += path is None
+        if path is None and "-q" not in sys.argv[1:]:
+            print(f"{page}:{number}: this {word or 'nameless'} block is no part of one file: {block[0] if block else ''}")
+        elif "-v" in sys.argv[1:]:
+            print(f"{page}:{number}: {path}")
     passed = [line for line in REFUSED if said_in(line, sources)]
+    passed += [" / ".join(block) for word, block in REFUSED_BLOCKS if files.said_in(word, block)]
     for line in passed:
         print(f"not refused: {line}")
-    print(f"{len(lines)} lines, {missing} that no proved function says")
+    print(f"{len(lines)} lines, {count} blocks, {missing} that no proved function says")
     return 1 if missing or passed else 0
 
 

@@ -1,17 +1,19 @@
 #!/usr/bin/env python3
-"""Writes the tables of docs/INDEX.md and of docs/MAP.md from the sources, and sees that docs/PROMISES.md names what is there.
+"""Writes docs/INDEX.md from the sources, and sees that the other pages name what is there.
 
-docs/INDEX.md has each public call of the product and of the samples with the names of its clauses and the first sentence of its comment, each
-law with its first sentence, and for each table of cases the calls that its rows make. docs/MAP.md has, behind its line
-`<!-- files -->`, a row for each file of `crates/*/src`, with what its first sentence says and the definitions of its
-crate that it cites, and a row for each file of `crates/*/specs`.
+docs/INDEX.md has each public call of the product and of the samples, and each law, with the names of its clauses; and for each table of
+cases the calls that its rows make.
 
-    tests/index.py          sees that both pages are what the sources give, that each name in code that stands in
-                            docs/PROMISES.md, docs/LIMITS.md and docs/MAP.md is there, and that docs/PROMISES.md names
-                            each law of the product; status 1 where not
-    tests/index.py write    writes both pages
+    tests/index.py          sees that docs/INDEX.md is what the sources give; that each name in code that stands in a page of PAGES is
+                            there; that each link of README.md and docs/ leads to a file and, behind `#`, to a heading; that
+                            the words in code of a link to a file of code, or to the index, stand there; and that each walk of docs/MAP.md names what
+                            stands in its file; status 1 where not
+    tests/index.py write    writes docs/INDEX.md
 
-The last line says how many calls, laws and files there are, and how many names aren't there.
+A walk is a list whose lines begin with a file, as "1. `crates/buffamap/src/main.rt`: ..": each name in code in such a line stands in that
+file. PLANTED has a line that is wrong: the script sees that it finds the fault.
+
+The last line says how many calls, laws, links and steps of walks there are, and how many things aren't right.
 """
 import glob
 import os
@@ -23,24 +25,12 @@ WORD = re.compile(r"[A-Za-z_][A-Za-z_0-9]*")
 HEAD = re.compile(r"(?:pub(?:\([a-z]+\))? )?(?:unsafe )?(trait|impl)\b([^{]*)\{?")
 CALL = re.compile(r"(pub )?(?:pub\([a-z]+\) )?(?:final |const )*fn ([a-z_0-9]+)")
 CLAUSE = re.compile(r"(?:where )?(?:,\s*)?(requires|ensures)\*?(?: ([a-z_]+))? \{")
-MARK = "<!-- files -->"
 # Pages whose names in code have to be there.
-PAGES = ("docs/PROMISES.md", "docs/LIMITS.md", "docs/MAP.md")
-# Where to start reading, marked by an arrow.
-START = {
-    f"crates/{it}.rt"
-    for it in (
-        "buffa_bytes/src/varint buffa_wire/src/message buffa_map/src/map_codec buffa_map/src/run buffa_codec/src/codec buffa_ext/src/set "
-        "buffa_message_set/src/message_set buffa_fields/src/fields buffa_fields/src/held_map buffa/src/lib buffamap/src/engine sample_stock/src/stock "
-        "test_facade/src/guide conformance_rows/src/tables"
-    ).split()
-}
-PARTS = (
-    ("buffa", "Product", "what a program stands on"),
-    ("sample", "Samples", "types and programs as a user writes them"),
-    ("test", "Tests", "of what is no row of a table"),
-    ("conformance", "Conformance", "the programs that run the rows, and what they are made of"),
-)
+PAGES = ("docs/PROMISES.md", "docs/MAP.md", "docs/CONTRACTS.md", "docs/DEFINITIONS.md", "docs/DECISIONS.md")
+STEP = re.compile(r"(?:\d+\.|-) `(crates/[^`]+)`:(.*)")
+LINK = re.compile(r"\[([^\]]*)\]\(([^)\s]+)\)")
+# A step and a link that are wrong.
+PLANTED = "1. `crates/buffa_wire/src/message.rt`: `merge_from_slice` calls `no_such_call`, see [`read_map_field`](../crates/buffa_map/src/entry.rt#x).\n"
 
 
 def read(path):
@@ -61,45 +51,11 @@ def files_of(crate, part, end):
     return sorted(found, key=lambda it: (os.path.basename(it) not in roots or it.count("/") > 3, it.replace(".", "/")))
 
 
-def sentence(text):
-    """The first sentence of a text, on one line, without links."""
-    text = re.sub(r"\[(`[^`]*`|[^\]]*)\](?:\([^)]*\)|\[[^\]]*\])?", r"\1", " ".join(text.split()))
-    found = re.match(r"(.*?[^.][^.]\.)(?= |$)", text)
-    return (found[1] if found else text).rstrip(":").replace("|", "\\|")
-
-
-def comment_above(lines, at, mark):
-    """The first paragraph of the comment that stands above a line, attributes between."""
-    end = at
-    while end and re.match(r"\s*#\[", lines[end - 1]):
-        end -= 1
-    start = end
-    while start and lines[start - 1].strip().startswith(mark):
-        start -= 1
-    said = [it.strip()[len(mark):].strip() for it in lines[start:end]]
-    return " ".join(said[: said.index("")] if "" in said else said)
-
-
-def first_line(path):
-    """What the head of a file says, up to its first empty line."""
-    said = []
-    for line in read(path).split("\n"):
-        found = re.match(r"(?://!|//|--) ?(.*)", line)
-        if not found or not found[1].strip() or found[1].startswith(("Source:", "```")):
-            break
-        said.append(found[1])
-    made = re.search(r"made of (\S+) by protoc-gen-buffa", " ".join(said))
-    about = made and re.search(r"^/// (?!message |enum )((?:.+\n/// )*.+)\n///$", read(path), re.M)
-    if about:
-        return f"{sentence(' '.join(about[1].replace(chr(10) + '///', '').split()))} Made of `{made[1]}`."
-    return sentence(" ".join(said))
-
-
 class Call:
-    """A function: its file, its name with its type or trait, its clauses, what is said of it, and whether it is public."""
+    """A function: its file, its name with its type or trait, its clauses, and whether it is public."""
 
-    def __init__(self, file, owner, name, is_public, said):
-        self.file, self.owner, self.name, self.is_public, self.said, self.clauses = file, owner, name, is_public, said, []
+    def __init__(self, file, owner, name, is_public):
+        self.file, self.owner, self.name, self.is_public, self.clauses = file, owner, name, is_public, []
 
     def title(self):
         return f"{self.owner}::{self.name}" if self.owner else self.name
@@ -142,7 +98,7 @@ def calls_of(file):
         if call:
             in_body = line.endswith("{")
             is_public = (in_trait or bool(call[1]) and not is_of_trait) and not is_test
-            found.append(Call(file, owner, call[2], is_public, comment_above(lines, at, "///")))
+            found.append(Call(file, owner, call[2], is_public))
             continue
         clause = CLAUSE.match(text)
         if clause and found and not in_body and clause[1] == "ensures":
@@ -154,77 +110,94 @@ def is_law(file):
     return "law" in os.path.relpath(file, "crates").split("/", 2)[2]
 
 
+def rows_of(crate, laws):
+    """The rows of the calls of a crate, or of its laws, and how many these are."""
+    rows = []
+    for file in files_of(crate, "src", "rt"):
+        if is_law(file) == laws:
+            for it in calls_of(file):
+                if it.is_public and it.name != "main":
+                    clauses = ", ".join("*only*" if name == "only" else f"`{name}`" for name in it.clauses)
+                    rows.append(f"[`{it.title()}`](../{file}) | {clauses}".rstrip())
+    return rows
+
+
 def index(crates):
     """The text of docs/INDEX.md, and how many calls and laws it has."""
     out = [
         "# Index of calls, laws and cases",
         "",
-        "This page is made from the sources by `tests/index.py write`; don't edit it. The gate sees that it is up to date.",
-        "[PROMISES.md](PROMISES.md) says in prose what is promised. A clause is a name behind `ensures` in a call's contract;",
-        "*only* is a clause without a name, and a call with no clause promises that it returns.",
-        "",
-        "## Calls",
+        "`tests/index.py write` makes this page from the sources. A clause is a name behind `ensures` in a contract, and *only* a clause",
+        "without a name. A call with no clause promises that it returns.",
     ]
-    calls = laws = 0
-    for crate in crates:
-        rows = []
-        for file in files_of(crate, "src", "rt"):
-            if is_law(file):
-                continue
-            for it in calls_of(file):
-                if it.is_public and not it.name.startswith("main"):
-                    clauses = ", ".join("*only*" if name == "only" else f"`{name}`" for name in it.clauses)
-                    rows.append(f"`{it.title()}` | {clauses} | {sentence(it.said)} | `{file.split('/src/')[1]}`")
-        if rows:
-            calls += len(rows)
-            out += ["", f"### `{crate}`", "", "Call | Clauses | What it does | File", "---|---|---|---", *rows]
-    out += ["", "## Laws", "", "Each law is a function with nothing to do, whose contract is the law. `buffa::laws` hands on those of the",
-        "crates below it."]
-    for crate in crates:
-        rows = []
-        for file in files_of(crate, "src", "rt"):
-            if is_law(file):
-                rows += [f"`{it.name}` | {sentence(it.said)} | `{file.split('/src/')[1]}`" for it in calls_of(file) if it.is_public]
-        if rows:
-            laws += len(rows)
-            out += ["", f"### `{crate}`", "", "Law | What it says | File", "---|---|---", *rows]
+    count = {}
+    for title, head, is_of_law in (("Calls", "Call", False), ("Laws", "Law", True)):
+        out += ["", f"## {title}"]
+        if is_of_law:
+            out += ["", "A law is a function with nothing to do, whose contract is the law. `buffa::laws` hands on those of the crates below it."]
+        count[title] = 0
+        for crate in crates:
+            rows = rows_of(crate, is_of_law)
+            count[title] += len(rows)
+            if rows:
+                out += ["", f"### {title} of `{crate}`", "", f"{head} | Clauses", "---|---", *rows]
     out += ["", "## Cases", "", "The rows of each table of `vectors/cases`, by the call that they make; each table's head says what its words mean.", ""]
     out += ["Table | Calls, each with the number of its rows", "---|---"]
     for path in sorted(glob.glob(f"{TOP}/vectors/cases/*.tsv")):
-        count = {}
+        rows = {}
         for line in read(os.path.relpath(path, TOP)).split("\n"):
             if line and not line.startswith("#"):
-                count[line.split("\t")[1]] = count.get(line.split("\t")[1], 0) + 1
-        out.append(f"`{os.path.basename(path)}` | " + ", ".join(f"`{name}` {number}" for name, number in sorted(count.items())))
-    return "\n".join(out) + "\n", calls, laws
+                rows[line.split("\t")[1]] = rows.get(line.split("\t")[1], 0) + 1
+        out.append(f"`{os.path.basename(path)}` | " + ", ".join(f"`{name}` {number}" for name, number in sorted(rows.items())))
+    return "\n".join(out) + "\n", count["Calls"], count["Laws"]
 
 
-def definitions_of(crate, file):
-    """The files of the crate's own specs/ that a file of its src/ cites."""
-    found = re.findall(rf"Rattle\.{crate}\.specs\.([A-Z]\w*)\.", read(file))
-    return sorted({it for it in found if os.path.exists(f"{TOP}/crates/{crate}/specs/{it}.antt")})
+def anchors_of(path):
+    """The places of a page that a link may lead to: its headings, as GitHub names them."""
+    found, inside = set(), False
+    for line in read(path).split("\n"):
+        inside ^= line.strip().startswith("```")
+        if line.startswith("#") and not inside:
+            plain = re.sub(r"[`*]|\[|\]\([^)]*\)", "", line.lstrip("#").strip().lower())
+            found.add(re.sub(r"[^\w\- ]", "", plain).replace(" ", "-"))
+    return found
 
 
-def file_rows(crates):
-    """The tables of files for docs/MAP.md, and how many files there are."""
-    out, count = [], 0
-    for prefix, title, what in PARTS:
-        own = [it for it in crates if it.startswith(prefix)]
-        out += ["", f"### {title}: {what}"]
-        for crate in own:
-            out += ["", f"**`{crate}`**", "", "File | What is in it | Definitions", "---|---|---"]
-            for file in files_of(crate, "src", "rt"):
-                name, words = file.split("/", 3)[3], definitions_of(crate, file)
-                mark = "→ " if file in START else ""
-                specs = ", ".join(f"[`{it}`](../crates/{crate}/specs/{it}.antt)" for it in words)
-                out.append(f"{mark}[`{name}`](../{file}) | {first_line(file)} | {specs}".rstrip())
-                count += 1
-            for file in files_of(crate, "specs", "antt"):
-                name = os.path.basename(file)[:-5]
-                if name != "Lib":
-                    out.append(f"[`specs/{name}`](../{file}) | {first_line(file)} |")
-                    count += 1
-    return "\n".join(out) + "\n", count
+def wrong_links(path, text):
+    """The links of a page that lead nowhere, or to a file that doesn't have the words in code; and how many links there are."""
+    wrong, count = [], 0
+    for words, target in LINK.findall(text):
+        if "://" in target:
+            continue
+        count += 1
+        file, _, anchor = target.partition("#")
+        to = os.path.normpath(os.path.join(os.path.dirname(path), file)) if file else path
+        if not os.path.exists(f"{TOP}/{to}"):
+            wrong.append(f"{path}: no {target}")
+        elif anchor and (not to.endswith(".md") or anchor not in anchors_of(to)):
+            wrong.append(f"{path}: no heading {target}")
+        elif to.endswith((".rt", ".antt", "INDEX.md")):
+            there = set(WORD.findall(read(to)))
+            named = [it for it in re.findall(r"`([^`]+)`", words) if not to.endswith(it)]
+            wrong += [f"{path}: no {it} in {to}" for name in named for it in WORD.findall(name) if it not in there]
+    return wrong, count
+
+
+def wrong_steps(path, text):
+    """The names of walks that don't stand in the file of their step; and how many steps there are."""
+    wrong, count, step = [], 0, None
+    for line in text.split("\n"):
+        found = STEP.match(line)
+        if found:
+            step, count, line = found[1], count + 1, found[2]
+            if not os.path.exists(f"{TOP}/{step}"):
+                wrong, step = wrong + [f"{path}: no file {step}"], None
+        elif not line.startswith("  "):
+            step = None
+        if step:
+            there = set(WORD.findall(read(step)))
+            wrong += [f"{path}: no {it} in {step}" for name in re.findall(r"`([^`]+)`", line) for it in WORD.findall(name) if it not in there]
+    return wrong, count
 
 
 def names_there():
@@ -259,33 +232,29 @@ def missing(words, path, text):
 
 
 def main():
-    crates = listed()
-    product = [it for it in crates if it.startswith("buffa")]
-    page, calls, laws = index([it for it in crates if it.startswith(("buffa", "sample"))])
-    rows, files = file_rows(crates)
-    page_of_files = read("docs/MAP.md").partition(MARK)[0] + MARK + "\n" + rows
-    wanted = {"docs/INDEX.md": page, "docs/MAP.md": page_of_files}
-    wrong = []
-    for path, text in wanted.items():
-        old = read(path) if os.path.exists(f"{TOP}/{path}") else ""
-        if old != text and sys.argv[1:] == ["write"]:
-            with open(f"{TOP}/{path}", "w", encoding="utf-8") as it:
-                it.write(text)
-        elif old != text:
-            wrong.append(f"{path} is not what the sources give: run tests/index.py write")
-    said = set(WORD.findall(read("docs/PROMISES.md")))
-    for crate in product:
-        for file in files_of(crate, "src", "rt"):
-            if is_law(file):
-                wrong += [f"{file}: docs/PROMISES.md doesn't name the law {it.name}" for it in calls_of(file) if it.is_public and it.name not in said]
+    page, calls, laws = index([it for it in listed() if it.startswith(("buffa", "sample"))])
+    old = read("docs/INDEX.md") if os.path.exists(f"{TOP}/docs/INDEX.md") else ""
+    wrong, links, steps = [], 0, 0
+    if old != page and sys.argv[1:] == ["write"]:
+        with open(f"{TOP}/docs/INDEX.md", "w", encoding="utf-8") as it:
+            it.write(page)
+    elif old != page:
+        wrong.append("docs/INDEX.md is not what the sources give: run tests/index.py write")
     words = names_there()
-    for path in PAGES:
-        text = wanted.get(path) or read(path)
-        wrong += missing(words, path, text.partition(MARK)[0])
+    for path in ["README.md", *sorted(os.path.relpath(it, TOP) for it in glob.glob(f"{TOP}/docs/*.md"))]:
+        text = read(path)
+        faults, count = wrong_links(path, text)
+        wrong, links = wrong + faults, links + count
+        faults, count = wrong_steps(path, text)
+        wrong, steps = wrong + faults, steps + count
+        if path in PAGES:
+            wrong += missing(words, path, text)
+    if not wrong_links("docs/MAP.md", PLANTED)[0] or not wrong_steps("docs/MAP.md", PLANTED)[0]:
+        wrong.append("what was planted is not found")
     for it in wrong:
         print(f"index: {it}")
-    print(f"index: {calls} calls, {laws} laws, {files} files, {len(wrong)} that aren't right")
-    return 1 if wrong or not calls else 0
+    print(f"index: {calls} calls, {laws} laws, {links} links, {steps} steps, {len(wrong)} that aren't right")
+    return 1 if wrong or not calls or not steps else 0
 
 
 if __name__ == "__main__":

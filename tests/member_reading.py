@@ -1,6 +1,6 @@
 """What messages that are made of a list of their members read, hold and write, beside the rules of `rules.py`.
 
-Written from the encoding guide and from GUIDE's table of member types: a plain member is written unless it is the
+Written from the encoding guide and from the table of member types in docs/BY_HAND.md: a plain member is written unless it is the
 default, an optional one where it is there; elements of a list come one in a field, or packed; a message that stands is
 merged into, an element of a list and a value of a map is new; a group is its fields and its end tag. Of a closed enum what isn't
 declared goes behind what the message keeps: a number as a field of its own, of a packed list too, an entry of a map as it came.

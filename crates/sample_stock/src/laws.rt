@@ -2,7 +2,7 @@
 
 ghost use Rattle.std.specs.Prelude.{◌≡◌, ◌++◌};
 
-use crate::stock::Stock;
+use crate::messages::stock::Stock;
 use buffa::MessageSpec;
 use buffa::fields::{MapOf, Member, Plain};
 use buffa::map_codec::{Int32, Str};

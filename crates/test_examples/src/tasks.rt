@@ -1,76 +1,19 @@
-//! The tasks of README and of docs/GUIDE.md, run: a message that is read, changed and written, bytes that aren't trusted,
-//! unknown fields, steps that are taken later, closed enums, and a loop over fields.
+//! Tasks of docs/GUIDE.md and of docs/BY_HAND.md, run: steps that are taken later, closed enums, and a loop over fields.
 
 use buffa::extension::codecs::Int32;
 use buffa::extension::{Extension, ExtensionCodec, Step, replay};
 use buffa::{
-    Blank, Budget, Buf, DecodeContext, DecodeError, EnumValue, Message, Tag, UnknownFieldData,
-    UnknownFields, skip_field_depth,
+    Blank, Buf, DecodeError, EnumValue, Message, Tag, UnknownFieldData, UnknownFields,
+    skip_field_depth,
 };
-use sample_error_info::messages::error_info::ErrorInfo;
-use sample_error_info::with_domain;
 use sample_palette::palette::Palette;
 use sample_palette::shade::Shade;
 use sample_palette::swatch::Swatch;
 use std::alloc::Global;
 use std::test::Fail;
 
-// An `ErrorInfo` whose reason is x, and the fields 9, 5, and 8, 1, which it doesn't declare.
+// Three fields, one of a text and two of numbers.
 const BYTES: [u8; 7] = [0x0A, 0x01, 0x78, 0x48, 0x05, 0x40, 0x01];
-
-// Reads a message, changes it, writes it.
-fn changed(alloc: Global, bytes: &[u8]) -> Result<Vec<u8>, Fail> {
-    let mut info: ErrorInfo = Blank::blank(alloc);
-    info.merge_from_slice(alloc, bytes)?;
-    info.domain = String::from_str(alloc, "example.com")?;
-    let encoding = info.try_encode_to_vec(alloc)?;
-    Ok(encoding)
-}
-
-#[test]
-fn a_message_is_read_changed_and_written(rt: HostRuntime) -> Result<(), Fail> {
-    let alloc = rt.alloc();
-    let encoding = changed(alloc, &BYTES)?;
-    let written: &[u8] = &[
-        0x0A, 0x01, 0x78, 0x12, 0x0B, 0x65, 0x78, 0x61, 0x6D, 0x70, 0x6C, 0x65, 0x2E, 0x63, 0x6F,
-        0x6D, 0x48, 0x05, 0x40, 0x01,
-    ];
-    assert!(rt; encoding.as_slice() == written);
-    let bytes: &[u8] = &BYTES;
-    let answer = with_domain(alloc, &bytes, String::from_str(alloc, "example.com")?)?;
-    assert!(rt; answer.as_slice() == written);
-    Ok(())
-}
-
-// Reads a message under smaller limits.
-fn within_limits(alloc: Global, bytes: &[u8]) -> Result<ErrorInfo, DecodeError> {
-    let mut info: ErrorInfo = Blank::blank(alloc);
-    let mut budget = Budget::new(1_000).with_element_memory(1_000_000);
-    let mut rest = bytes;
-    info.merge(alloc, &mut rest, DecodeContext::new(20, &mut budget))?;
-    Ok(info)
-}
-
-// Whether there is a field 9.
-fn has_nine(info: &ErrorInfo) -> bool {
-    let mut found = false;
-    for field in info.rest.iter() {
-        if field.number == 9 {
-            found = true;
-        }
-    }
-    found
-}
-
-#[test]
-fn unknown_fields_are_looked_at(rt: HostRuntime) -> Result<(), Fail> {
-    let mut info = within_limits(rt.alloc(), &BYTES)?;
-    assert!(rt; has_nine(&info));
-    info.rest.retain(|field| field.number != 9);
-    assert!(rt; !has_nine(&info));
-    assert!(rt; info.rest.len() == 1);
-    Ok(())
-}
 
 // What the records of number 7 are after two steps.
 fn after_steps(alloc: Global) -> Result<Option<i32>, Fail> {

@@ -1,4 +1,4 @@
-//! buffa.sample.Stock, made of stock.proto by protoc-gen-buffa.
+//! shop.Stock, made of stock.proto by protoc-gen-buffa.
 
 ghost use Rattle.std.proofs.Common.{lit<, refl};
 ghost use Rattle.buffa.specs.Members.{field, keep};

@@ -1,0 +1,88 @@
+//! shop.Line, made of stock.proto by protoc-gen-buffa.
+
+ghost use Rattle.std.proofs.Common.{lit<, refl};
+ghost use Rattle.buffa.specs.Members.{field, keep};
+
+use buffa::fields::{
+    And3, Fields, Formed, KeptFields, Listed, Listing, Member, Optional, Plain, Visitor, kept,
+};
+use buffa::map_codec::{Int32, Str};
+use buffa::{Blank, DecodeContext, DecodeError, Tag, UnknownFields};
+use std::alloc::Global;
+use std::string::String;
+
+/// A row of an order.
+///
+/// message Line {
+///     string good = 1;
+///     optional int32 count = 2;
+/// }
+#[derive(Drop)]
+pub struct Line {
+    pub good: String,
+    pub count: Option<i32>,
+    /// The fields that aren't declared, in order.
+    pub rest: UnknownFields,
+}
+
+impl Fields for Line {
+    type Meaning = And3<[u8; 0], Option<i32>, KeptFields>;
+
+    const COST: usize = 64;
+
+    ghost COST = { 64 };
+
+    ghost positive = { lit< tt };
+
+    ghost layout = { field 1 (λ m. m.good) ⟦<Plain<Str> as Member>⟧.shape (
+        field 2 (λ m. m.count) ⟦<Optional<Int32> as Member>⟧.shape (
+        keep (λ m. m.rest.records))) };
+
+    ghost sound = { refl };
+
+    fn visit<V: Visitor>(&self, visitor: &mut V) {
+        visitor.visit::<Plain<Str>>(1, &self.good);
+        visitor.visit::<Optional<Int32>>(2, &self.count);
+        visitor.visit_kept(&self.rest);
+    }
+
+    fn take(
+        &mut self,
+        alloc: Global,
+        tag: Tag,
+        buf: &mut &[u8],
+        ctx: DecodeContext<'_>,
+    ) -> Result<(), DecodeError> {
+        match tag.field_number() {
+            1 => Plain::<Str>::merge(&mut self.good, alloc, tag, buf, ctx),
+            2 => Optional::<Int32>::merge(&mut self.count, alloc, tag, buf, ctx),
+            _ => kept::keep(alloc, &mut self.rest, tag, buf, ctx),
+        }
+    }
+}
+
+impl Blank for Line {
+    type Meaning = <Line as Fields>::Meaning;
+
+    ghost meaning = { ⟦<Line as Fields>⟧.layout.meaning };
+
+    ghost blank_is = { ⟦<Line as Fields>⟧.layout.blank };
+
+    fn blank(alloc: Global) -> Line {
+        Line {
+            good: String::new(alloc),
+            count: None,
+            rest: UnknownFields::new(alloc),
+        }
+    }
+}
+
+impl Listing for Line {
+    ghost means = { λ m. refl };
+
+    ghost starts = { refl };
+}
+
+impl Formed for Line {
+    type Form = Listed;
+}

@@ -1,0 +1,109 @@
+//! shop.Order, made of stock.proto by protoc-gen-buffa.
+
+ghost use Rattle.std.proofs.Common.{lit<, refl};
+ghost use Rattle.buffa.specs.Members.{field, keep};
+
+use crate::messages::line::Line;
+use crate::messages::state::State;
+use buffa::fields::{
+    And, And5, Fields, Formed, KeptFields, Listed, Listing, MapOfNested, Member, Optional, Plain,
+    RepeatedNested, Visitor, kept,
+};
+use buffa::map_codec::{Map, OpenEnum, Str};
+use buffa::{Blank, DecodeContext, DecodeError, EnumValue, Tag, UnknownFields};
+use std::alloc::Global;
+use std::string::String;
+
+/// What somebody orders.
+///
+/// message Order {
+///     State state = 1;
+///     optional string note = 2;
+///     repeated Line lines = 3;
+///     map<string, Line> gifts = 4;
+/// }
+#[derive(Drop)]
+pub struct Order {
+    pub state: EnumValue<State>,
+    pub note: Option<String>,
+    pub lines: Vec<Line>,
+    pub gifts: Map<String, Line>,
+    /// The fields that aren't declared, in order.
+    pub rest: UnknownFields,
+}
+
+impl Fields for Order {
+    type Meaning = And5<
+        (bool, i32),
+        Option<[u8; 0]>,
+        [<Line as Blank>::Meaning; 0],
+        [And<[u8; 0], <Line as Blank>::Meaning>; 0],
+        KeptFields,
+    >;
+
+    const COST: usize = 200;
+
+    ghost COST = { 200 };
+
+    ghost positive = { lit< tt };
+
+    ghost layout = { field 1 (λ m. m.state) ⟦<Plain<OpenEnum<State>> as Member>⟧.shape (
+        field 2 (λ m. m.note) ⟦<Optional<Str> as Member>⟧.shape (
+        field 3 (λ m. m.lines) ⟦<RepeatedNested<Line> as Member>⟧.shape (
+        field 4 (λ m. m.gifts) ⟦<MapOfNested<Str, Line> as Member>⟧.shape (
+        keep (λ m. m.rest.records))))) };
+
+    ghost sound = { refl };
+
+    fn visit<V: Visitor>(&self, visitor: &mut V) {
+        visitor.visit::<Plain<OpenEnum<State>>>(1, &self.state);
+        visitor.visit::<Optional<Str>>(2, &self.note);
+        visitor.visit::<RepeatedNested<Line>>(3, &self.lines);
+        visitor.visit::<MapOfNested<Str, Line>>(4, &self.gifts);
+        visitor.visit_kept(&self.rest);
+    }
+
+    fn take(
+        &mut self,
+        alloc: Global,
+        tag: Tag,
+        buf: &mut &[u8],
+        ctx: DecodeContext<'_>,
+    ) -> Result<(), DecodeError> {
+        match tag.field_number() {
+            1 => Plain::<OpenEnum<State>>::merge(&mut self.state, alloc, tag, buf, ctx),
+            2 => Optional::<Str>::merge(&mut self.note, alloc, tag, buf, ctx),
+            3 => RepeatedNested::<Line>::merge(&mut self.lines, alloc, tag, buf, ctx),
+            4 => MapOfNested::<Str, Line>::merge(&mut self.gifts, alloc, tag, buf, ctx),
+            _ => kept::keep(alloc, &mut self.rest, tag, buf, ctx),
+        }
+    }
+}
+
+impl Blank for Order {
+    type Meaning = <Order as Fields>::Meaning;
+
+    ghost meaning = { ⟦<Order as Fields>⟧.layout.meaning };
+
+    ghost blank_is = { ⟦<Order as Fields>⟧.layout.blank };
+
+    fn blank(alloc: Global) -> Order {
+        Order {
+            state: EnumValue::<State>::blank(alloc),
+            note: None,
+            lines: Vec::new(alloc),
+            gifts: Map::new(alloc),
+            rest: UnknownFields::new(alloc),
+        }
+    }
+}
+
+impl Listing for Order {
+    ghost means = { λ m. refl };
+
+    ghost starts = { refl };
+}
+
+impl Formed for Order {
+    type Form = Listed;
+}

@@ -1,0 +1,93 @@
+//! The members of a message: an enum, an optional one, a list of messages and a map of messages.
+
+use crate::messages::line::Line;
+use crate::messages::order::Order;
+use crate::messages::state::State;
+use buffa::map_codec::{MapStorage, MapWalk};
+use buffa::{Blank, EnumValue};
+use std::alloc::{AllocError, Global};
+
+/// Whether an order is sent; a number that the enum doesn't declare isn't.
+pub fn is_sent(order: &Order) -> bool {
+    match order.state {
+        EnumValue::Known(State::Sent) => true,
+        EnumValue::Known(State::Open) => false,
+        EnumValue::Unknown(_number) => false,
+    }
+}
+
+/// Says that an order is sent.
+pub fn send(order: &mut Order) {
+    order.state = EnumValue::Known(State::Sent);
+}
+
+/// The note of an order, where there is one: an empty one is there, too.
+pub fn note(order: &Order) -> Option<&str> {
+    order.note.as_ref().map(|note| note.as_str())
+}
+
+/// Sets the note of an order.
+///
+/// # Errors
+/// Where memory runs out.
+pub fn set_note(alloc: Global, order: &mut Order, note: &str) -> Result<(), AllocError> {
+    order.note = Some(String::from_str(alloc, note)?);
+    Ok(())
+}
+
+/// Adds a row to an order.
+///
+/// # Errors
+/// Where memory runs out.
+pub fn add_line(
+    alloc: Global,
+    order: &mut Order,
+    good: &str,
+    count: i32,
+) -> Result<(), AllocError> {
+    let mut line = Line::blank(alloc);
+    line.good = String::from_str(alloc, good)?;
+    line.count = Some(count);
+    order.lines.push(line)?;
+    Ok(())
+}
+
+/// How many rows of an order have no count.
+pub fn lines_without_count(order: &Order) -> u64 {
+    let mut found: u64 = 0;
+    for line in order.lines.iter() {
+        if line.count.is_none() {
+            found = found.saturating_add(1);
+        }
+    }
+    found
+}
+
+/// Puts a gift for somebody into an order, in the place of the one that was there.
+///
+/// # Errors
+/// Where memory runs out.
+pub fn give(alloc: Global, order: &mut Order, name: &str, good: &str) -> Result<(), AllocError> {
+    let mut gift = Line::blank(alloc);
+    gift.good = String::from_str(alloc, good)?;
+    order
+        .gifts
+        .storage_insert(String::from_str(alloc, name)?, gift)?;
+    Ok(())
+}
+
+/// What is given to somebody, where there is a gift.
+pub fn gift_of<'a>(order: &'a Order, name: &str) -> Option<&'a str> {
+    order.gifts.get(name).map(|gift| gift.good.as_str())
+}
+
+/// How many gifts of this kind there are.
+pub fn gifts_of_kind(order: &Order, good: &str) -> u64 {
+    let mut found: u64 = 0;
+    for (_name, gift) in order.gifts.storage_iter() {
+        if gift.good.as_str() == good {
+            found = found.saturating_add(1);
+        }
+    }
+    found
+}

@@ -1,0 +1,19 @@
+//! What a proxy may do with the fields that a message doesn't declare.
+
+use crate::messages::stock::Stock;
+
+/// Whether a stock has a field of this number that it doesn't declare.
+pub fn has_unknown(stock: &Stock, number: u32) -> bool {
+    let mut found = false;
+    for field in stock.rest.iter() {
+        if field.number == number {
+            found = true;
+        }
+    }
+    found
+}
+
+/// Drops the fields of number 9, which a stock doesn't declare; all others stay.
+pub fn drop_nine(stock: &mut Stock) {
+    stock.rest.retain(|field| field.number != 9);
+}
