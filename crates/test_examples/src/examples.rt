@@ -6,13 +6,13 @@ use buffa::extension::codecs::{
 };
 use buffa::extension::{Extension, ExtensionCodec, ExtensionSet};
 use buffa::map_codec::{
-    Bool, Fixed32, Fixed64, Int32, Int64, Sfixed32, Sfixed64, Sint64, Uint32, Uint64,
+    Bool, Double, Fixed32, Fixed64, Float, Int32, Int64, Sfixed32, Sfixed64, Sint64, Uint32, Uint64,
 };
 use buffa::message_set::{ITEM_START_TAG, merge_item, write_item};
 use buffa::samples::{Node, SetMsg, Shade};
 use buffa::{
-    Blank, Budget, DecodeContext, EnumValue, Message, RECURSION_LIMIT, SizeCache, UnknownFields,
-    decode_varint,
+    Blank, Budget, DecodeContext, DoubleBits, EnumValue, FloatBits, Message, RECURSION_LIMIT,
+    SizeCache, UnknownFields, decode_varint,
 };
 use buffa_fields::merge::merge_fields;
 use buffa_fields::message::messages_read_back;
@@ -158,10 +158,29 @@ fn extensions_name_their_codec(rt: HostRuntime) {
         Extension::<Fixed64>::new(7, "test.Carrier").number(),
         Extension::<Sfixed32>::new(7, "test.Carrier").number(),
         Extension::<Sfixed64>::new(7, "test.Carrier").number(),
+        Extension::<Float>::new(7, "test.Carrier").number(),
+        Extension::<Double>::new(7, "test.Carrier").number(),
         Extension::<BytesCodec>::new(7, "test.Carrier").number(),
         Extension::<MessageCodec<FlatMsg>>::new(7, "test.Carrier").number(),
     ];
     for number in numbers {
         assert!(rt; number == 7);
     }
+}
+
+#[test]
+fn a_float_is_its_bits(rt: HostRuntime) {
+    let half = FloatBits::new(0.5);
+    let number = half.number(); // 0.5
+    assert!(rt; number == 0.5);
+    assert!(rt; half.bits == 0x3F00_0000);
+    assert!(rt; FloatBits { bits: 0x7FA0_0001 }.number().is_nan());
+}
+
+#[test]
+fn a_double_is_its_bits(rt: HostRuntime) {
+    let half = DoubleBits::new(0.5);
+    let number = half.number(); // 0.5
+    assert!(rt; number == 0.5);
+    assert!(rt; half.bits == 0x3FE0_0000_0000_0000);
 }
