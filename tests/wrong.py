@@ -383,6 +383,11 @@ def chosen(crates, options):
     return {crate: [path for of, path in edits if of == crate] for crate, _ in edits}
 
 
+def is_at(goal, told, end):
+    """Whether a goal is the one that is told, of which the line may have the beginning alone."""
+    return goal == told if end else goal.startswith(told)
+
+
 def gate(file):
     """How many must-fail edits `rt ci` refused at the goals that they name, and what is said of the others. It tells the first goal that is
     open, and cuts a long line."""
@@ -391,7 +396,7 @@ def gate(file):
     for path in (it for crate in listed() for it in paths_of(crate) if "/must-fail/" in it):
         goal, line = Edit(path).goal, told.get(f"{path.split('/')[-3]}/{os.path.basename(path)}", "it wasn't tried")
         seen = TOLD.search(line)
-        if goal and seen and (goal == seen[1] if seen[2] else goal.startswith(seen[1])):
+        if seen and (is_at(goal, *seen.groups()) if goal else not PRECONDITION.search(seen[1])):
             passed += 1
         else:
             failed.append(f"wrong: {os.path.relpath(path, TOP)}: its goal is {goal}: {line}")
