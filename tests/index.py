@@ -1,8 +1,8 @@
 #!/usr/bin/env python3
 """Writes docs/INDEX.md from the sources, and sees that the other pages name what is there.
 
-docs/INDEX.md has each public call of the product and of the samples, and each law, with the names of its clauses; and for each table of
-cases the calls that its rows make.
+docs/INDEX.md has each public call of the product and of the samples, and each law, with the names of its clauses; for each table of
+cases the calls that its rows make; and each wrong body that `rt ci` tries, with the goal that refuses it.
 
     tests/index.py          sees that docs/INDEX.md is what the sources give; that each name in code that stands in a page of PAGES is
                             there; that each link of README.md and docs/ leads to a file and, behind `#`, to a heading; that
@@ -122,6 +122,18 @@ def rows_of(crate, laws):
     return rows
 
 
+def wrong_bodies(crates):
+    """A row for each wrong body of a folder must-fail: its function, or its crate, what is wrong, and the goal that refuses it."""
+    rows = []
+    for path in (it for crate in crates for it in sorted(glob.glob(f"{TOP}/crates/{crate}/must-fail/*.edit"))):
+        file = os.path.relpath(path, TOP)
+        name, _, wrong = os.path.basename(path)[:-5].rpartition("-")
+        name = name or file.split("/")[1]
+        goal = re.search(r"^goal: (.*)$", read(file), re.M)
+        rows.append(f"[`{name}`](../{file}) | {wrong.replace('_', ' ')} | {f'`{goal[1]}`' if goal else ''}".rstrip())
+    return rows
+
+
 def index(crates):
     """The text of docs/INDEX.md, and how many calls and laws it has."""
     out = [
@@ -149,6 +161,8 @@ def index(crates):
             if line and not line.startswith("#"):
                 rows[line.split("\t")[1]] = rows.get(line.split("\t")[1], 0) + 1
         out.append(f"`{os.path.basename(path)}` | " + ", ".join(f"`{name}` {number}" for name, number in sorted(rows.items())))
+    out += ["", "## Wrong bodies that the gate tries", "", "The checker refuses each of them, at the goal that it names: `tests/wrong.py gate`. Others are in `tests/wrong`.", ""]
+    out += ["Function | What is wrong | The goal that is open then", "---|---|---", *wrong_bodies(crates)]
     return "\n".join(out) + "\n", count["Calls"], count["Laws"]
 
 

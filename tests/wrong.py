@@ -47,6 +47,8 @@ from wrong_look import look
 # what the checker says of a name in a proof file that isn't there
 VANISHED = re.compile(r"has no field|has no `|is not in scope|was not admitted|is no name")
 GOAL = re.compile(r"note: (?:\./)?(src/\S+?):(\d+):\d+: it is not proved that(?:.*?\(`([^`]+)`\))?")
+# what `rt ci` tells of a refused edit: an open goal, or a fact of a type that doesn't hold
+TOLD = re.compile(r"(?:it is not proved that.*?\(|: error: )`([^`]+)(`?)")
 # a goal that is a precondition of a call
 PRECONDITION = re.compile(r"(^|-)requires(-|$)")
 PROOF_ERROR = re.compile(r"(?:\./)?proofs/(\S+)/\w+\.antt:\d+:\d+: error")
@@ -381,6 +383,11 @@ def chosen(crates, options):
     return {crate: [path for of, path in edits if of == crate] for crate, _ in edits}
 
 
+def is_at(goal, told, end):
+    """Whether a goal is the one that is told, of which the line may have the beginning alone."""
+    return goal == told if end else goal.startswith(told)
+
+
 def gate(file):
     """How many must-fail edits `rt ci` refused at the goals that they name, and what is said of the others. It tells the first goal that is
     open, and cuts a long line."""
@@ -388,8 +395,8 @@ def gate(file):
     passed, failed = 0, []
     for path in (it for crate in listed() for it in paths_of(crate) if "/must-fail/" in it):
         goal, line = Edit(path).goal, told.get(f"{path.split('/')[-3]}/{os.path.basename(path)}", "it wasn't tried")
-        seen = re.search(r"\(`([^`]+)(`?)", line)
-        if goal and seen and (goal == seen[1] if seen[2] else goal.startswith(seen[1])):
+        seen = TOLD.search(line)
+        if seen and (is_at(goal, *seen.groups()) if goal else not PRECONDITION.search(seen[1])):
             passed += 1
         else:
             failed.append(f"wrong: {os.path.relpath(path, TOP)}: its goal is {goal}: {line}")

@@ -7,7 +7,7 @@ import sys
 
 
 def protoc(plugin, words):
-    """The call of protoc: -I and its folder are protoc's, and NAME=VALUE is a parameter of the plugin."""
+    """The call of protoc: -I and its folder are protoc's, and NAME=VALUE, also behind --buffa_opt=, is a parameter of the plugin."""
     folders, parameters, files, at = [], [], [], 0
     while at < len(words):
         word, at = words[at], at + 1
@@ -19,7 +19,7 @@ def protoc(plugin, words):
         elif word.endswith(".proto") and "=" not in word:
             files.append(word)
         else:
-            parameters.append(word)
+            parameters.append(word.removeprefix("--buffa_opt="))
     folders = folders or list(dict.fromkeys(os.path.dirname(it) or "." for it in files))
     call = ["protoc", f"--plugin=protoc-gen-buffa={plugin}", "--buffa_out=src", *(f"--proto_path={it}" for it in folders)]
     return call + [f"--buffa_opt={','.join(parameters)}"] * bool(parameters) + files
@@ -38,6 +38,7 @@ def see_root(module):
     if not roots:
         with open("src/lib.rt", "w", encoding="utf-8") as it:
             it.write(f"//! What is made of .proto files.\n\n#![tactic(auto)]\n\npub mod {module};\n")
+        print("protoc-gen-buffa: src/lib.rt is made, for a library; a program has src/main.rt in its place", file=sys.stderr)
         return
     with open(roots[0], encoding="utf-8") as it:
         if not re.search(rf"^(pub )?mod {module};", it.read(), re.M):

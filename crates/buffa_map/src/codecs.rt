@@ -1,7 +1,7 @@
 //! The codecs of strings, bytes and enums, and the names of those of scalars.
 //!
 //! Strings and bytes are a length and so many bytes, an enum is written as [`Int32`] is; [`buffa_wire::scalars`] has
-//! the forms of scalars, docs/GUIDE.md, "Which codec", the values and the units of element memory.
+//! the forms of scalars, docs/BY_HAND.md, "Codecs and storages", the values and the units of element memory.
 //!
 //! Each of them replaces the value that stood, and leaves it where a payload is refused; a closed enum also where it
 //! declares no such value.

@@ -4,7 +4,7 @@
 //! key field and a value field. [`map_codec`] has the public surface, and [`laws`] what the definitions say
 //! together.
 //!
-//! Read: records from the buffer (`run`), of each its entry (`entry`), of that its fields (`fields`), by the codecs of
+//! Read: records from the buffer (`run`), of each its entry (`entry`), of that its fields (`entry_fields`), by the codecs of
 //! key and value (`codec`, `codecs`, `message`); and the pair is put into a storage (`storage`). Written:
 //! from a walk of a storage by way of a size (`size`) into an encoding (`write`).
 #![tactic(auto)]

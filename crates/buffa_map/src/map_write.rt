@@ -14,7 +14,7 @@ use std::hash::{BuildHasher, Hash};
 /// A map that can be written by a method of its own, as [`write_field`] writes it.
 ///
 /// A function that both fills and writes a map asks for it: [`write_field`] walks the map (`MapWalk<'a>`), and a
-/// function can't ask for a walk of every lifetime `'a`.
+/// function can't ask for a walk of every lifetime `'a`, nor for one of its `&'a mut` and say what the map holds then.
 ///
 /// ```ignore
 /// map.storage_write::<KC, VC, S>(number, sink)?;

@@ -1,4 +1,4 @@
-//! A census, the worked example of docs/GUIDE.md: a count for each name, in a map field.
+//! A census, a worked example of docs/BY_HAND.md: a count for each name, in a map field.
 
 ghost use Rattle.std.specs.Prelude.{◌≡◌, []};
 ghost use Rattle.buffa_map.specs.Encoding.{UsesRoomOf, WritesField, field_size, field_encoding, saturated};

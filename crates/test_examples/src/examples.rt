@@ -1,4 +1,4 @@
-//! Examples of README, of docs/GUIDE.md and of comments, run, but for those on map fields: calls that no other proved
+//! Examples of comments, run, but for those on map fields: calls that no other proved
 //! function makes in this way.
 
 use buffa::extension::codecs::{

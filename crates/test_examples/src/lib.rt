@@ -1,4 +1,4 @@
-//! Examples of README, of docs/GUIDE.md and of comments, run: those whose lines no other proved function says. No
+//! Examples of comments, run: those whose lines no other proved function says. No
 //! crate depends on this one.
 #![tactic(auto)]
 

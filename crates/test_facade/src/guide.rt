@@ -1,4 +1,4 @@
-//! The worked examples of docs/GUIDE.md, run.
+//! Worked examples of docs/BY_HAND.md, run.
 
 use buffa::map_codec::{
     Int32, Map, MapStorage, Msg, Str, merge_entry, message_field_len, read_map_field,

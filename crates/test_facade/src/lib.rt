@@ -1,5 +1,5 @@
 //! Tests of what crosses crates, by the names of the facade, and of what is no case of a table: the cases are in
-//! `vectors`, and the programs `conformance..` run them. Then the worked examples of docs/GUIDE.md, run. No crate depends
+//! `vectors`, and the programs `conformance..` run them. Then worked examples of docs/BY_HAND.md, run. No crate depends
 //! on this one.
 //!
 //! Expected values come from outside: from the protobuf encoding guide, worked out by hand, or from a table. The
