@@ -11,7 +11,7 @@ use Rattle.buffamap.specs.Forms.{hex_bytes}
 use Rattle.buffamap.specs.Lines.{Pair, key_of, pair_of, pair_of_parts, with_pair, put_line, put_lines}
 
 -- lines after one that is no pair change nothing
-put_none : (lines : List (List ℕ)) → put_lines lines None ≡ None
+pub put_none : (lines : List (List ℕ)) → put_lines lines None ≡ None
 put_none [] = refl
 put_none (line ∷ more) = put_none more
 

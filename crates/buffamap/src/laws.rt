@@ -1,13 +1,12 @@
 //! What the definitions of the program say together: each law is a function with nothing to do, whose contract is
 //! the law.
 
-ghost use Rattle.std.specs.Prelude.{◌≡◌, ℤ, None, Some, if◌then◌else◌, pos, false};
+ghost use Rattle.std.specs.Prelude.{◌≡◌, ◌≢◌, ℤ, None, Some, if◌then◌else◌, pos, false};
 ghost use Rattle.std.specs.Ordering.{int_eq};
 ghost use Rattle.buffa_bytes.specs.Number.{IsNumber};
 ghost use Rattle.buffamap.specs.Again.{RepliesToAgain};
 ghost use Rattle.buffamap.specs.Choice.{choice_of, choice_number};
 ghost use Rattle.buffamap.specs.Ext.{RepliesToExt};
-ghost use Rattle.buffamap.specs.Fault.{IsOfBytes, IsOfDigits, IsOfRewrite, IsOfEncoding};
 ghost use Rattle.buffamap.specs.Item.{RepliesToItem};
 ghost use Rattle.buffamap.specs.Pinned.{CallIsPinned, HasReply, ReplyIsPinned, ReplyIsPinnedButForFaults};
 ghost use Rattle.buffamap.specs.Read.{RepliesToRead};
@@ -88,10 +87,21 @@ pub fn faults_are_these<T: Drop>()
     ensures none { (e : AllocError) (f : Fault) → ⟦<Fault as From<AllocError>>⟧.from_gives e f → f ≡ Fault.OutOfMemory }
     ensures failed { (e : AllocFailed T) (f : Fault) → ⟦<Fault as From<AllocFailed<T>>>⟧.from_gives e f →
         f ≡ Fault.OutOfMemory }
-    ensures digits { (e : FromHexError) (f : Fault) → ⟦<Fault as From<FromHexError>>⟧.from_gives e f → IsOfDigits e f }
-    ensures bytes { (e : DecodeError) (f : Fault) → ⟦<Fault as From<DecodeError>>⟧.from_gives e f → IsOfBytes e f }
-    ensures encoding { (e : EncodeError) (f : Fault) → ⟦<Fault as From<EncodeError>>⟧.from_gives e f → IsOfEncoding e f }
-    ensures rewrite { (e : RewriteError) (f : Fault) → ⟦<Fault as From<RewriteError>>⟧.from_gives e f → IsOfRewrite e f }
+    ensures digits { (e : FromHexError) (f : Fault) → ⟦<Fault as From<FromHexError>>⟧.from_gives e f →
+        (e ≡ FromHexError.OutOfMemory → f ≡ Fault.OutOfMemory) × (e ≢ FromHexError.OutOfMemory → f ≡ Fault.Form) }
+    ensures bytes { (e : DecodeError) (f : Fault) → ⟦<Fault as From<DecodeError>>⟧.from_gives e f →
+        (e ≡ DecodeError.OutOfMemory → f ≡ Fault.OutOfMemory)
+        × (e ≢ DecodeError.OutOfMemory → f ≡ Fault.RefusedBytes e) }
+    ensures encoding { (e : EncodeError) (f : Fault) → ⟦<Fault as From<EncodeError>>⟧.from_gives e f →
+        (e ≡ EncodeError.OutOfMemory → f ≡ Fault.OutOfMemory)
+        × (e ≢ EncodeError.OutOfMemory → f ≡ Fault.RefusedEncoding e) }
+    ensures read { (e : DecodeError) (f : Fault) → ⟦<Fault as From<RewriteError>>⟧.from_gives (RewriteError.Decode e) f →
+        (e ≡ DecodeError.OutOfMemory → f ≡ Fault.OutOfMemory)
+        × (e ≢ DecodeError.OutOfMemory → f ≡ Fault.RefusedBytes e) }
+    ensures written { (e : EncodeError) (f : Fault) →
+        ⟦<Fault as From<RewriteError>>⟧.from_gives (RewriteError.Encode e) f →
+        (e ≡ EncodeError.OutOfMemory → f ≡ Fault.OutOfMemory)
+        × (e ≢ EncodeError.OutOfMemory → f ≡ Fault.RefusedEncoding e) }
 {}
 
 /// A call of bytes in memory, as a reader, or of a sink that keeps nothing, as a writer, never fails; what is left to read is
