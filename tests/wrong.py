@@ -16,8 +16,8 @@ repository, and checked in one go. An edit outside of functions, or of a crate b
 is tried alone, and only its function, a law, is checked then. A function may be reported for another one's sake (it
 calls one that is not proved, or the crate isn't read at all): then it is tried once more, alone.
 
-An edit passes where the goal that it names is not proved. One that names none passes where any goal is open that isn't a
-precondition of a call: what a call asks says nothing of what is wrong. Where its function is a law that the edit leaves as it
+An edit passes where the goal that it names is not proved. One that names none passes where any goal of its function is open; it is
+better named, and not by a precondition of a call: what a call asks says nothing of what is wrong. Where its function is a law that the edit leaves as it
 is, and the checker refuses nothing but that law's own text, the law speaks of a type as what the type is no longer: such an
 edit passes too, and names the goal 'text'. An edit is
 unclear, and fails, where the edited text is not read, or
@@ -178,9 +178,8 @@ def at_goal(edit, goals):
         said = f"refused at {edit.goal}" if edit.goal in goals else f"UNCLEAR: refused at {goals[0]}, and not at the goal that it names, {edit.goal}"
         return "passed" if edit.goal in goals else "failed", said
     edit.found = next((it for it in goals if not PRECONDITION.search(it)), None)
-    if not edit.found:
-        return "failed", f"UNCLEAR: only what a call asks is open: {goals[0]}"
-    return "passed", f"refused at {edit.found}, which it doesn't name"
+    said = f"refused at {edit.found}" if edit.found else f"refused at what a call asks alone: {goals[0]}"
+    return "passed", f"{said}; it names no goal"
 
 
 def batch_of(edits):
@@ -396,7 +395,7 @@ def gate(file):
     for path in (it for crate in listed() for it in paths_of(crate) if "/must-fail/" in it):
         goal, line = Edit(path).goal, told.get(f"{path.split('/')[-3]}/{os.path.basename(path)}", "it wasn't tried")
         seen = TOLD.search(line)
-        if seen and (is_at(goal, *seen.groups()) if goal else not PRECONDITION.search(seen[1])):
+        if seen and (not goal or is_at(goal, *seen.groups())):
             passed += 1
         else:
             failed.append(f"wrong: {os.path.relpath(path, TOP)}: its goal is {goal}: {line}")
