@@ -3,7 +3,8 @@
 
 Definitions are what a file of specs/ hands out: `abbrev`, `unfoldable`, `record`, `data`, and lemmas. A relation is
 what answers a `Type`. Fields of records, ghosts, clauses and code aren't looked at. What a file hands on of another one
-keeps its name, so that a word is the same wherever it is cited.
+keeps its name, so that a word is the same wherever it is cited. So does an item of code, but for the modules of laws in
+the facade, and for a codec that has two names; laws say which these are.
 """
 import collections
 import glob
@@ -14,6 +15,10 @@ import sys
 TOP = os.path.dirname(os.path.dirname(os.path.abspath(__file__)))
 WORD = re.compile(r"( *)(?:pattern )?(?:(abbrev|unfoldable) )?pub (?:(abbrev|unfoldable|record|data) )?([A-Za-z_][^\s:({]*)(.*)")
 NO_WORD = {"use", "mod", "module", "open"}
+# what a file of code hands on, and an item of it under another name
+HANDED = re.compile(r"^ *pub use [^;]*;", re.M)
+RENAMED = re.compile(r"\w+ as \w+")
+SAID_BY_LAWS = {"crates/buffa/src/laws.rt": r"\w+ as \w+", "crates/buffa_ext/src/codecs.rt": "Int32 as EnumI32"}
 # what a relation answers, at the end of its type
 RELATION = re.compile(r"Type [01]\s*$")
 
@@ -51,8 +56,21 @@ def words_of(file):
             inside = space
 
 
+def renamed(file):
+    """The items of code that a file hands on under another name, but for those of which laws say what they are."""
+    path = os.path.relpath(file, TOP)
+    with open(file, encoding="utf-8") as it:
+        text = it.read()
+    for handed in HANDED.finditer(text):
+        for item in RENAMED.findall(handed[0]):
+            if not re.fullmatch(SAID_BY_LAWS.get(path, "$."), item):
+                yield f"{path}:{text.count(chr(10), 0, handed.start()) + 1}: {item}: an item is handed on under another name"
+
+
 def main():
     wrong, places = [], collections.defaultdict(list)
+    for file in sorted(glob.glob(f"{TOP}/crates/*/src/**/*.rt", recursive=True)):
+        wrong += renamed(file)
     for file in sorted(glob.glob(f"{TOP}/crates/*/specs/**/*.antt", recursive=True)):
         with open(file, encoding="utf-8") as it:
             for at, line in enumerate(it, 1):

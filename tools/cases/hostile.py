@@ -16,7 +16,7 @@ ENDS = ["\n", "\r", "\r\n", "\v", "\f", "\t", "\0", "\x85", "\u2028", "\u2029", 
 
 
 def request():
-    """A message with an enum, a number, a text, bytes and a bool, each with a default, a service and an extension."""
+    """A message with an enum, a number, a text, bytes and a bool, each with a default, and a oneof; a service and an extension."""
     it = plugin_pb2.CodeGeneratorRequest(file_to_generate=["x.proto"], parameter="crate=cases")
     file = it.proto_file.add(name="x.proto", package="cases", syntax="proto2")
     message = file.message_type.add(name="Host")
@@ -25,6 +25,9 @@ def request():
     for at, (name, kind, default) in enumerate(kinds):
         message.field.add(name=name, number=at + 1, type=kind, label=Field.LABEL_OPTIONAL, default_value=default)
     message.field[4].type_name = ".cases.Kind"
+    message.oneof_decl.add(name="which")
+    for at, name in enumerate(("first", "second")):
+        message.field.add(name=name, number=at + 10, type=Field.TYPE_INT32, label=Field.LABEL_OPTIONAL, oneof_index=0)
     message.extension_range.add(start=100, end=200)
     enum = file.enum_type.add(name="Kind")
     enum.value.add(name="KIND_OLD", number=0)
@@ -54,10 +57,14 @@ def put(place, name):
 WAYS = {
     "a comment of a message": comment([4, 0]),
     "a comment of a field": comment([4, 0, 2, 0]),
+    "a comment of a oneof": comment([4, 0, 8, 0]),
+    "a comment of a case": comment([4, 0, 2, 5]),
     "a comment of an enum": comment([5, 0]),
     "a comment of a value": comment([5, 0, 2, 0]),
     "the name of a message": put(lambda f: f.message_type[0], "name"),
     "the name of a field": put(lambda f: f.message_type[0].field[0], "name"),
+    "the name of a oneof": put(lambda f: f.message_type[0].oneof_decl[0], "name"),
+    "the name of a case": put(lambda f: f.message_type[0].field[5], "name"),
     "the name of an enum": put(lambda f: f.enum_type[0], "name"),
     "the name of a value": put(lambda f: f.enum_type[0].value[0], "name"),
     "the name of a service": put(lambda f: f.service[0], "name"),

@@ -13,33 +13,42 @@ class Edge:
         self.field = Name(message.file, message.path + (2, at), f"{message.full}.{self.it.name}", self.it)
         entry = world.entries.get(self.it.type_name)
         value = entry.field[1] if entry else self.it
-        is_in_oneof = self.it.HasField("oneof_index") and not self.it.proto3_optional
+        self.is_case = self.it.HasField("oneof_index") and not self.it.proto3_optional
         is_told = self.field.full in world.left | world.fields["encoded"]
-        self.to = None if is_told or is_in_oneof or value.type not in MESSAGES else world.target(self.it)
+        self.to = None if is_told or value.type not in MESSAGES else world.target(self.it)
         self.is_group = not entry and (self.it.type == Field.TYPE_GROUP or self.field.full in world.fields["delimited"])
 
 
 def hold_as_encodings(world):
     """Finds the fields that messages can't have as messages, since they would hold themselves: these are held as encodings, and told.
 
-    A message that holds itself in one list, one map or one message alone has a form of its own. Where it does in several,
-    all of these are held as encodings. Of messages that hold one another, the field that comes last on the way around is.
+    A message that holds itself in one list, one map or one message alone has a form of its own. Where it does in several, or in a
+    oneof, all of these are held as encodings. Of messages that hold one another, the field that comes last on the way around is,
+    and one in no oneof before one that is in one.
     """
     messages = [it for it in world.order if not hasattr(it.it, "value")]
     edges = {it.full: [Edge(world, it, at) for at in range(len(it.it.field))] for it in messages}
     for full, out in edges.items():
         own = [e for e in out if e.to == full]
         edges[full] = [e for e in out if e.to and e.to != full]
-        if len(own) > 1:
+        if len(own) > 1 or own and own[0].is_case:
             encode(world, [e for e in own if not e.is_group])
     done = set()
 
-    def walk(full, above):
+    def walk(full, way):
+        """Goes on from a message, to which these fields led, each with the message that has it."""
+        above = [it for it, _ in way] + [full]
         for edge in edges[full]:
-            if edge.to in above + [full] and not edge.is_group:
-                encode(world, [edge])
-            elif edge.to not in done and edge.to not in above + [full]:
-                walk(edge.to, above + [full])
+            if edge.to not in above:
+                if edge.to not in done:
+                    walk(edge.to, way + [(full, edge)])
+                continue
+            around = [it for _, it in way[above.index(edge.to) :]] + [edge]
+            if any(it.field.full in world.encoded for it in around):
+                continue
+            can_be = [it for it in around if not it.is_group]
+            alone = [it for it in can_be if not it.is_case]
+            encode(world, (alone or can_be)[-1:])
         done.add(full)
 
     for message in messages:

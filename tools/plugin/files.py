@@ -45,7 +45,7 @@ class Name:
         self.file, self.path, self.full, self.it, self.outer = file, path, full, it, outer
         place = file.places.get(path)
         self.line = place.span[0] + 1 if place else 0
-        self.said = lines_of(place.leading_comments + place.trailing_comments) if place else []
+        self.said = lines_of(place.leading_comments) + lines_of(place.trailing_comments) if place else []
         if not NAME.fullmatch(it.name):
             raise Refused(f"{file.shown}: {clean(full)}: it is no name of a .proto: write it with letters, digits and `_`")
 

@@ -90,10 +90,15 @@ def words(message, enums):
     found = {"◌≡◌", "unwrap_or"} if with_getter(message) else set()
     for member in with_getter(message):
         if member.it.type in TEXTS:
-            found |= {"option_map"} | in_contract(codes_of(member))[1] | ({"string_bytes"} if member.it.type == Field.TYPE_STRING else set())
+            found |= {"option_map"} | in_contract(codes_of(member))[1] | ({"string_bytes"} if is_text(member) else set())
         elif member.it.type != Field.TYPE_ENUM:
             found |= scalar(member)[2]
     return found
+
+
+def is_text(member):
+    """Whether a member is a text, and not one that is held as bytes."""
+    return member.it.type == Field.TYPE_STRING and not member.is_bytes
 
 
 def codes_of(member):
@@ -103,12 +108,12 @@ def codes_of(member):
 
 def text_getter(member, held):
     """A getter of text or bytes: its type, its clause, and the lines of its body."""
-    name, codes, is_text = member.name, codes_of(member), member.it.type == Field.TYPE_STRING
-    part = "string_bytes" if is_text else "(λ it. it.items)"
+    name, codes, is_string = member.name, codes_of(member), is_text(member)
+    part = "string_bytes" if is_string else "(λ it. it.items)"
     clause = f"result.now ≡ unwrap_or (option_map {part} {held}) {in_contract(codes)[0]}"
-    call = "as_str" if is_text else "as_slice"
-    body = [f"match &self.{name} {{", f"    Some(it) => it.{call}(),", f"    None => {literal(codes, is_text)},", "}"]
-    return "&str" if is_text else "&[u8]", clause, body
+    call = "as_str" if is_string else "as_slice"
+    body = [f"match &self.{name} {{", f"    Some(it) => it.{call}(),", f"    None => {literal(codes, is_string)},", "}"]
+    return "&str" if is_string else "&[u8]", clause, body
 
 
 def getter(member, at, enums):

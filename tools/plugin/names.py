@@ -25,7 +25,8 @@ FACADE = {
     **{it: "buffa::fields" for it in ["And"] + [f"And{n}" for n in range(3, 17)]},
     **{it: "buffa::fields" for it in "Fields Formed Group Keeping KeptFields Listed Listing MapOf MapOfNested Member Nested".split()},
     **{it: "buffa::fields" for it in "Optional OrderedMapOf OrderedMapOfNested Packed Plain Repeated RepeatedGroup".split()},
-    **{it: "buffa::fields" for it in "RepeatedNested Visitor Holds Nest MapNest Chain kept".split()},
+    **{it: "buffa::fields" for it in "RepeatedNested Required Visitor Holds Nest MapNest Chain kept".split()},
+    **{it: "buffa::fields" for it in "Case OneOf Or Set case_reads_back visit_one_of".split()},
     **{it: "buffa" for it in "Blank DoubleBits FloatBits DecodeContext DecodeError EnumValue Enumeration ExtensionSet Tag UnknownFields".split()},
     "Bytes": "bytes",
     "Global": "std::alloc",
@@ -39,6 +40,9 @@ BELOW = {
     **{it: "buffa_fields::meaning" for it in ["And"] + [f"And{n}" for n in range(3, 17)]},
     **{it: "buffa_wire" for it in "Blank DoubleBits FloatBits DecodeContext DecodeError EnumValue Enumeration Formed Tag UnknownFields".split()},
     **{it: f"buffa_fields::{it.lower()}" for it in "Fields Group Keeping Member Nested Optional Packed Plain Repeated Visitor".split()},
+    **{it: "buffa_fields::one_of" for it in ("OneOf", "visit_one_of")},
+    **{it: "buffa_fields::case" for it in ("Case", "Set", "case_reads_back")},
+    "Or": "buffa_fields::meaning",
     "ExtensionSet": "buffa_ext",
     "KeptFields": "buffa_fields::kept",
     "Listed": "buffa_fields::message",
@@ -49,6 +53,7 @@ BELOW = {
     "OrderedMapOfNested": "buffa_fields::ordered_nested",
     "RepeatedGroup": "buffa_fields::repeated_group",
     "RepeatedNested": "buffa_fields::repeated_nested",
+    "Required": "buffa_fields::required",
     "Bytes": "bytes",
     "Global": "std::alloc",
     "BTreeMap": "std::collections",
@@ -97,9 +102,14 @@ def member(name):
     return name + "_" if name in KEYWORDS | {"rest"} else name
 
 
+def place(name):
+    """Where rt fmt puts a name among others: by its letters, and by what its digits mean."""
+    return [int(part) if part.isdigit() else part for part in re.split(r"([0-9]+)", name)]
+
+
 def ordered(names):
-    """As rt fmt sorts them: by their letters, and by what their digits mean."""
-    return sorted(names, key=lambda it: [int(p) if p.isdigit() else p for p in re.split(r"(\d+)", it)])
+    """As rt fmt sorts them."""
+    return sorted(names, key=place)
 
 
 def path(by, *names):

@@ -3,8 +3,10 @@ import re
 
 from google.protobuf.descriptor_pb2 import FieldDescriptorProto as Field
 
+from depths import own_depth
 from files import Name, Refused, clean, quoted
 from names import ESCAPED, TAKEN, member, snake, variant
+from oneof import MOST_CASES, OneOf
 from world import FIELD_KEYS, MESSAGES
 
 # What is written for a scalar: its codec, its Rust type, what it means, its bytes, and its default.
@@ -30,7 +32,7 @@ HOLDERS = {"RepeatedNested": "Nest", "MapOfNested": "MapNest", "OrderedMapOfNest
 REALS = (Field.TYPE_FLOAT, Field.TYPE_DOUBLE)
 # Calls of a message, which a getter would hide.
 CALLS = set(
-    "blank clear compute_size extendee_name merge merge_field merge_from_slice merge_length_delimited take the_row try_encode_to_vec "
+    "blank clear compute_size extendee_name is_initialized merge merge_field merge_from_slice merge_length_delimited take the_row try_encode_to_vec "
     "unknown_fields unknown_fields_mut visit write_to TheLaws".split()
 )
 # As many members of one message are proved.
@@ -52,12 +54,11 @@ class Member:
         self.told = {key for key in FIELD_KEYS if field.full in world.fields[key]}
         entry = world.entries.get(self.it.type_name)
         self.is_list = self.it.label == Field.LABEL_REPEATED
-        if self.it.HasField("oneof_index") and not self.it.proto3_optional:
-            name = message.it.oneof_decl[self.it.oneof_index].name
-            field.refuse(f"it is in the oneof {name}, of whose fields one alone may be there, which no list of members says")
+        self.is_case = is_case(self.it)
         self.see_told(entry)
         self.is_required = self.it.label == Field.LABEL_REQUIRED and "optional" not in self.told
         self.is_encoded = "encoded" in self.told or field.full in world.encoded
+        self.is_bytes = self.see_bytes(entry, message)
         if self.is_encoded:
             self.as_encodings(entry)
         elif entry:
@@ -66,8 +67,25 @@ class Member:
             self.as_message()
         else:
             self.as_value()
+        self.imports, self.own_depth = self.inside, own_depth(self.means)
         self.has_getter = self.see_default()
         self.getter = self.name + "_" if self.name in CALLS else self.name
+
+    def see_bytes(self, entry, message):
+        """Whether its texts are held as bytes, and whether a map's keys stay texts: those of an ordered map do, as no bytes are ordered."""
+        kinds = [it.type for it in (entry.field if entry else [self.it])]
+        is_its_own = not self.is_encoded and self.world.target(self.it) == message.full
+        is_ordered = entry and (self.world.maps or "ordered" in self.told or is_its_own)
+        self.has_text_keys = bool(is_ordered) and kinds[0] == Field.TYPE_STRING
+        is_asked = "bytes" in self.told or self.world.strings and self.field.file.is_closed
+        if not is_asked or Field.TYPE_STRING not in kinds:
+            return False
+        if self.has_text_keys:
+            why = "its keys are texts, and have to be UTF-8: a map in the order of its keys has no keys of bytes"
+            if "bytes" in self.told and kinds[1] != Field.TYPE_STRING:
+                self.field.refuse(why, "take bytes= away")
+            self.world.tell(f"{self.field.at()}: {why}")
+        return kinds[-1] == Field.TYPE_STRING or not self.has_text_keys
 
     def see_default(self):
         """Whether there is a getter, which says the declared default."""
@@ -81,7 +99,7 @@ class Member:
         if "implicit" in self.told and said not in ("0", "false", ""):
             self.field.refuse(f"its default isn't that of its type ({self.default()})", "take implicit= away")
         is_plain = self.it.type not in REALS and not self.rust.startswith("Option<EnumValue<")
-        has = is_plain and "implicit" not in self.told and "shared" not in self.told
+        has = is_plain and not self.is_case and "implicit" not in self.told and "shared" not in self.told
         if not has and "implicit" not in self.told:
             self.world.tell(f"{self.field.at()}: it has no getter for its default ({self.default()})")
         return has
@@ -102,8 +120,10 @@ class Member:
         value = entry.field[1] if entry else self.it
         is_message = self.it.type in MESSAGES and not entry
         is_group = self.it.type == Field.TYPE_GROUP or "delimited" in self.told
-        is_single = not self.is_list and self.it.type not in MESSAGES and "optional" not in self.told
+        is_single = not self.is_list and not self.is_case and self.it.type not in MESSAGES and "optional" not in self.told
+        texts = [it for it in (entry.field if entry else [self.it]) if it.type == Field.TYPE_STRING]
         others = {
+            "bytes": None if texts else "no text, and no map with texts",
             "delimited": None if is_message else "no message and no list of messages",
             "encoded": None if value.type in MESSAGES and not is_group else "no message, and no list or map of messages",
             "implicit": None if is_single and self.field.file.is_closed else "no optional number, text or enum of proto2",
@@ -114,8 +134,11 @@ class Member:
             if others[key]:
                 self.field.refuse(f"it is {others[key]}, and {key}= is for these alone", f"take {key}= away")
 
-    def codec(self, it):
+    def codec(self, it, is_text=False):
         """The codec of a field, its Rust type, what it means, its bytes and its default; of a closed enum also that it is one."""
+        if it.type == Field.TYPE_STRING and self.is_bytes and not is_text:
+            self.needs |= {"BytesVec"}
+            return SCALARS[Field.TYPE_BYTES] + (False,)
         if it.type == Field.TYPE_BYTES and "shared" in self.told:
             self.needs |= {"BytesBuf", "Bytes"}
             return "BytesBuf", "Bytes", "[u8; 0]", 32, "Bytes::new()", False
@@ -131,6 +154,12 @@ class Member:
         self.needs |= {"OpenEnum", "EnumValue"}
         return f"OpenEnum<{name}>", f"EnumValue<{name}>", "(bool, i32)", 8, f"EnumValue::<{name}>::blank(alloc)", False
 
+    def be_case(self, member_type, of, rust, means, cost):
+        """A case of a oneof: what it holds, and what that means."""
+        self.value, self.said, self.cost_alone, self.is_message = rust, means, cost, member_type != "Optional"
+        self.is_number = not self.is_message and means != SCALARS[Field.TYPE_BYTES][2]
+        self.be(member_type, of, f"Option<{rust}>", f"Option<{means}>", cost and cost + 8, "None")
+
     def be(self, member_type, of, rust, means, cost, blank):
         self.member_type, self.rust, self.means, self.cost, self.blank = f"{member_type}<{of}>", rust, means, cost, blank
         self.needs.add(member_type)
@@ -144,6 +173,10 @@ class Member:
             can_be = codec not in ("Str", "BytesVec")
             packed = can_be and (self.it.options.packed if self.it.options.HasField("packed") else not self.field.file.is_closed)
             self.be("Packed" if packed else "Repeated", codec, f"Vec<{rust}>", f"[{means}; 0]", 24, "Vec::new(alloc)")
+        elif self.is_case:
+            if is_closed:
+                self.field.refuse("its enum is closed, and no case of a oneof keeps what that doesn't declare")
+            self.be_case("Optional", codec, rust, means, cost)
         elif "implicit" in self.told:
             if is_closed:
                 self.field.refuse("its enum is closed, and implicit= is for those that aren't", "take implicit= away")
@@ -159,7 +192,9 @@ class Member:
         self.inside.append(self.it.type_name.lstrip("."))
         member_type = "Group" if self.it.type == Field.TYPE_GROUP or "delimited" in self.told else "Nested"
         means = f"<{name} as Blank>::Meaning"
-        if self.is_list:
+        if self.is_case:
+            self.be_case(member_type, name, name, means, None)
+        elif self.is_list:
             self.be(f"Repeated{member_type}", name, f"Vec<{name}>", f"[{means}; 0]", 24, "Vec::new(alloc)")
         else:
             self.be(member_type, name, f"Option<{name}>", f"Option<{means}>", None, "None")
@@ -169,12 +204,14 @@ class Member:
         self.needs.add("BytesVec")
         if entry:
             self.as_map(entry)
+        elif self.is_case:
+            self.be_case("Optional", "BytesVec", *SCALARS[Field.TYPE_BYTES][1:4])
         else:
             self.be("Repeated", "BytesVec", "Vec<Vec<u8>>", "[[u8; 0]; 0]", 24, "Vec::new(alloc)")
 
     def as_map(self, entry):
         key, value = entry.field
-        codec, rust, means = self.codec(key)[:3]
+        codec, rust, means = self.codec(key, self.has_text_keys)[:3]
         self.key, self.key_type = codec, rust
         is_ordered = self.world.maps or "ordered" in self.told
         into, cost = ("BTreeMap", 24) if is_ordered else ("Map", 112)
@@ -190,6 +227,10 @@ class Member:
         else:
             of, held, held_means, _, _, self.keeps = self.codec(value)
         self.be(member_type, f"{codec}, {of}", f"{into}<{rust}, {held}>", f"[And<{means}, {held_means}>; 0]", cost, f"{into}::new(alloc)")
+
+    def cost_of(self, messages):
+        """The bytes of the member."""
+        return self.cost or messages[self.inside[-1]].cost(messages) + 8
 
     def default(self):
         """The declared default as the .proto has it, on one line."""
@@ -209,7 +250,7 @@ class Member:
         if entry:
             return f"map<{type_name(entry.field[0])}, {type_name(entry.field[1])}> {self.it.name} = {self.number};"
         label = {Field.LABEL_REPEATED: "repeated ", Field.LABEL_REQUIRED: "required "}.get(self.it.label, "")
-        if not label and (self.field.file.is_closed or self.it.proto3_optional):
+        if not label and not self.is_case and (self.field.file.is_closed or self.it.proto3_optional):
             label = "optional "
         options = [f"default = {self.default()}"] if self.it.HasField("default_value") else []
         if self.it.options.HasField("packed"):
@@ -218,6 +259,11 @@ class Member:
         if self.it.type == Field.TYPE_GROUP:
             return f"{label}group {type_name(self.it)} = {self.number};"
         return f"{label}{type_name(self.it)} {self.it.name} = {self.number}{said};"
+
+
+def is_case(field):
+    """Whether a field is in a oneof, which that of an optional field of proto3 isn't."""
+    return field.HasField("oneof_index") and not field.proto3_optional
 
 
 class Message:
@@ -232,12 +278,32 @@ class Message:
         self.listed = [world.tries(Member, world, f, name) for f in fields if f.full not in world.left]
         self.listed = sorted(filter(None, self.listed), key=lambda k: k.number)
         self.held, self.holder = self.member_of_itself()
-        self.members = [k for k in self.listed if k is not self.held]
+        self.fields = [k for k in self.listed if k is not self.held]
+        self.oneofs = list(filter(None, (world.tries(self.one_of, it) for it in world.oneofs.get(name.full, []))))
+        self.members = sorted([k for k in self.fields if not k.is_case] + self.oneofs, key=lambda k: k.number)
         self.own = self.rust + "Own" if self.held else self.rust
         self.is_keeping = name.full not in world.dropping
         self.is_opaque = name.full in world.opaque
         for see in (self.see_names, self.see_own, self.see_count, self.see_kept):
             world.tries(see)
+
+    def one_of(self, field):
+        """The member of a oneof: its cases have to stand together, and their enum's file cites the crate."""
+        cases = [k for k in self.listed if k.field.full in field.cases]
+        if not cases:
+            return None
+        leave = [k.field.full for k in cases]
+        way = "leave out its cases by --buffa_opt=" + ",".join(f"leave={it}" for it in leave)
+        first, last = min(k.number for k in cases), max(k.number for k in cases)
+        between = [k for k in self.listed if first < k.number < last and k not in cases]
+        if between:
+            why = f"{between[0].field.full} has a number between those of its cases, which are written together"
+            raise Refused(f"{field.at()}: {why}: {way}", leave)
+        if len(cases) > MOST_CASES:
+            raise Refused(f"{field.at()}: it has {len(cases)} cases, of which {MOST_CASES} are written: {way}", leave)
+        if not self.world.crate and not self.world.is_mapped(self.name.full):
+            field.refuse("the file of its enum cites the crate that it stands in", "say crate=NAME")
+        return OneOf(self.world, field, member(field.it.name), cases)
 
     def see_names(self):
         """Refuses two members of one name."""
@@ -247,10 +313,19 @@ class Message:
             if other is not member:
                 way = f"give it another by --buffa_opt=rename={member.field.full}:NAME"
                 member.field.refuse(f"the name of its member is that of {other.field.full}, too", way)
+        self.name_getters()
+
+    def name_getters(self):
+        """Gives each call a name of its own: the checker makes a file of each, whose names may not differ in the case of letters alone."""
+        names = set()
+        for member in self.members:
+            while member.has_getter and member.getter.lower() in names:
+                member.getter += "_"
+            names |= {member.getter.lower()} if member.has_getter else set()
 
     def see_count(self):
         """Refuses more members than are proved."""
-        over = [k.field.full for k in self.members[MOST:]]
+        over = [it.field.full for k in self.members[MOST:] for it in getattr(k, "cases", [k])]
         if over:
             way = f"leave out those behind the {MOST}th, by --buffa_opt=" + ",".join(f"leave={name}" for name in over)
             raise Refused(f"{self.name.at()}: it has {len(self.members)} fields, of which {MOST} are proved in one message: {way}", over)
@@ -287,7 +362,7 @@ class Message:
         """What is told, or the bytes of the struct, by the rule at the head of the plugin."""
         if self.name.full in self.world.costs:
             return self.world.costs[self.name.full]
-        parts = [k.cost or messages[k.inside[-1]].cost(messages) + 8 for k in self.members]
+        parts = [k.cost_of(messages) for k in self.members]
         inside = 8 if self.holder == "Chain" else 24 * bool(self.held)
         return sum(parts) + 24 * self.is_keeping + inside or 8
 

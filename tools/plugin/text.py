@@ -1,8 +1,10 @@
 """The text of a file: a message from its fields, or an enum, laid out as rt fmt has it."""
 import re
 
+import oneof
+import required
 from getters import declared, getters, variants_used, words
-from names import BELOW, FACADE, ordered, snake
+from names import BELOW, FACADE, ordered, place, snake
 
 WIDTH = 100
 CALL_WIDTH = 60
@@ -19,8 +21,8 @@ def uses(world, names, own):
         by_module["buffa_fields::kept"] |= {"self"}
         by_module["buffa_fields::kept"].discard("kept")
     for full in own:
-        by_module[world.module_of(full)] = {world.types[full]}
-    modules = sorted(by_module, key=lambda m: (not m.startswith("crate::"), [(1, p) for p in m.split("::")] + [(9, "")]))
+        by_module.setdefault(world.module_of(full), set()).add(world.types[full])
+    modules = sorted(by_module, key=lambda m: (not m.startswith("crate::"), [(1, place(p)) for p in m.split("::")] + [(9, [])]))
     made = []
     for module in modules:
         made += use_line(module, ["self"] * ("self" in by_module[module]) + ordered(by_module[module] - {"self"}))
@@ -79,7 +81,8 @@ def docs(lines, indent=""):
 
 def message_docs(message):
     made = list(message.name.said) + ([""] if message.name.said else [])
-    made += [f"message {message.it.name} {{"] + [f"    {k.declared()}" for k in message.listed]
+    parts = sorted(message.members + [message.held] * bool(message.held), key=lambda k: k.number)
+    made += [f"message {message.it.name} {{"] + [f"    {line}" for k in parts for line in lines_of(k.declared())]
     made += [f"    {r};" for r in ranges(message)] + ["}"]
     for said, fields in remarks(message):
         if fields:
@@ -87,20 +90,33 @@ def message_docs(message):
     return docs(made + [] if message.is_keeping else made + ["", "The fields that aren't declared are passed over."])
 
 
+def lines_of(declared):
+    return [declared] if isinstance(declared, str) else declared
+
+
 def remarks(message):
     """What the .proto doesn't say of fields, and of which."""
     def told(key):
-        return [k.it for k in message.members if key in k.told]
+        return [k.it for k in message.fields if key in k.told]
 
     where = "Left among the fields that aren't declared" if message.is_keeping else "Passed over"
     yield where, [f.it for f in message.left]
-    yield "Read where it isn't there, too", [k.it for k in message.members if k.is_required]
-    held = [k for k in message.members if k.is_encoded]
+    there = message.asked.there if message.asked else []
+    yield "Read where it isn't there, too", [k.it for k in message.fields if k.is_required and k not in there]
+    yield "Read where it isn't there, too, and `is_initialized` says whether it is", [k.it for k in there]
+    if message.asked:
+        looked = [it for k in message.asked.looked for it in (k.asked if isinstance(k, oneof.OneOf) else [k])]
+        yield "`is_initialized` looks into the messages of these", [k.it for k in looked]
+        yield "`is_initialized` doesn't look into these", [k.it for k in message.asked.passed]
+    held = [k for k in message.fields if k.is_encoded and not k.is_case]
     yield "Held as the encodings of its messages, which merge_from_slice reads", [k.it for k in held if k.is_list]
     one = "Held as the encodings of its records, which merge_from_slice reads one after the other into one message"
     yield one, [k.it for k in held if not k.is_list]
+    cases = [k.it for k in message.fields if k.is_encoded and k.is_case]
+    yield "Held as the encoding of its last record, which merge_from_slice reads", cases
+    yield "Held as bytes, which needn't be UTF-8", [k.it for k in message.fields if k.is_bytes]
     yield "Written as groups", told("delimited")
-    yield "Written in the order of their keys", [k.it for k in message.members if k.member_type.startswith("Ordered")]
+    yield "Written in the order of their keys", [k.it for k in message.fields if k.member_type.startswith("Ordered")]
     yield "Not written where it is the default", told("implicit")
 
 
@@ -121,6 +137,9 @@ def ranges(message):
 def layout(members, is_keeping):
     made = []
     for member in members:
+        if isinstance(member, oneof.OneOf):
+            made.append(f"one_of (λ m. m.{member.in_contract}) ⟦<{member.enum} as OneOf>⟧.cases (")
+            continue
         shape = f"⟦<{member.member_type} as Member>⟧.shape"
         word = "field_kept" if member.keeps else "field"
         made.append(f"{word} {member.number} (λ m. m.{member.in_contract}) {shape}")
@@ -135,6 +154,9 @@ def visits(name, members, is_keeping):
     """The function that visits some members, one after the other, and then the fields that are kept."""
     made = []
     for member in members:
+        if isinstance(member, oneof.OneOf):
+            made.append(f"        visit_one_of(&self.{member.name}, visitor);")
+            continue
         word = "visit_keeping" if member.keeps else "visit"
         made += called("        ", f"visitor.{word}::<{member.member_type}>", [str(member.number), f"&self.{member.name}"], ";")
     made += ["        visitor.visit_kept(&self.rest);"] * is_keeping
@@ -164,6 +186,10 @@ def take(message):
         return made + [f"        {other}", "    }"]
     made += ["        match tag.field_number() {"]
     for member in members:
+        if isinstance(member, oneof.OneOf):
+            numbers = " | ".join(str(k.number) for k in member.cases)
+            made += called("            ", f"{numbers} => {member.enum}::take", [f"&mut self.{member.name}", "alloc", "tag", "buf", "ctx"], ",")
+            continue
         beside = ["&mut self.rest"] if member.keeps else []
         call = f"{member.member_type.replace('<', '::<', 1)}::{'merge_kept' if member.keeps else 'merge'}"
         args = [f"&mut self.{member.name}"] + beside + ["alloc", "tag", "buf", "ctx"]
@@ -211,14 +237,15 @@ def outer(message):
     return {"Holds", message.holder} | ({key} if key else set()) | ({"String"} if key == "Str" else set())
 
 
-def head_of_message(world, message, enums):
+def names_of(message, fields):
+    """The names that the file of a message imports, but for types of the .proto's."""
     members = message.members
     names = set("Visitor kept DecodeContext DecodeError Tag Global".split())
     names = names.union(*[k.needs for k in members])
     names |= {"KeptFields", "UnknownFields"} if message.is_keeping else set()
     names |= outer(message) if message.held else {"Blank", "Fields", "Formed", "Listed", "Listing"}
     names |= {"Blank"} if any(" as Blank>" in k.means for k in members) else set()
-    names |= {"Member"} if members else set()
+    names |= {"Member"} if fields else set()
     if members:
         names.add("And" if len(members) == 1 else f"And{min(len(members) + 1, 16)}")
         over = len(members) + 1 - 15
@@ -228,17 +255,23 @@ def head_of_message(world, message, enums):
     if message.is_opaque:
         names = {it for it in names if it != "KeptFields" and not re.fullmatch(r"And\d*", it)} | {"Model"}
         names -= {"Blank"} if message.held else set()
-    has_set = bool(message.it.extension_range)
-    names |= {"ExtensionSet"} if has_set else set()
-    layers = ["field"] * any(not k.keeps for k in members) + ["field_kept"] * any(k.keeps for k in members)
+    names |= {"ExtensionSet"} if message.it.extension_range else set()
+    return names | ({"Required"} if message.asked else set())
+
+
+def head_of_message(world, message, enums):
+    fields = [k for k in message.members if not isinstance(k, oneof.OneOf)]
+    has_one, has_set = len(fields) < len(message.members), bool(message.it.extension_range)
+    layers = ["field"] * any(not k.keeps for k in fields) + ["field_kept"] * any(k.keeps for k in fields)
     layers += ["keep"] if message.is_keeping else ["skip"]
-    own = {i for k in members for i in k.inside}
+    layers += ["one_of"] * (has_one and world.over == "buffa")
     made = [f"//! {message.name.full}, made of {message.name.file.shown} by protoc-gen-buffa.", ""]
     made += ["ghost use Rattle.std.proofs.Common.{lit<, refl};"]
-    prelude = words(message, enums) | ({"codes"} if has_set else set())
+    prelude = words(message, enums) | required.words(message) | ({"codes"} if has_set else set())
     made += [f"ghost use Rattle.std.specs.Prelude.{{{', '.join(sorted(prelude))}}};"] * bool(prelude)
-    made += [f"ghost use Rattle.{world.over}.specs.Members.{{{', '.join(layers)}}};", ""]
-    return made + uses(world, names, own)
+    made += [f"ghost use Rattle.{world.over}.specs.Members.{{{', '.join(layers)}}};"]
+    made += ["ghost use Rattle.buffa_fields.specs.OneOf.{one_of};"] * (has_one and world.over != "buffa") + [""]
+    return made + uses(world, names_of(message, fields), {i for k in message.members for i in k.imports})
 
 
 def struct(message):
@@ -321,10 +354,17 @@ def opaque_meaning(message, messages):
     made += [f"    ghost use Rattle.std.specs.Prelude.{{{', '.join(sorted(words))}}};"] * bool(words)
     made += codes_used(message, [code for _, code in inside]) if message.world.over == "buffa" else codes_below(message, inside)
     made += ["    ghost Value = { let Means : (P X : Type 0) → (P → X) → Type 0 = λ P X f. X in"]
-    made += [f"        Means _ _ ⟦<{k.member_type} as Member>⟧.shape.meaning × (" for k in message.members]
+    made += [f"        Means _ _ {meaning_of(k)} × (" for k in message.members]
     made += [f"        {'List (ℕ × Datum)' if message.is_keeping else 'Unit {0}'}{')' * len(message.members)} }};", ""]
     made += [f"    ghost coded = {{ Prim.hlevel ({', '.join(['codes', 'coded_datum'] + [code for _, code in inside])}) }};", ""]
     return made + pairs("    ghost view = { λ m. ", [v for v, _ in values]) + ["}", ""]
+
+
+def meaning_of(member):
+    """The function by which contracts say what a member means."""
+    if isinstance(member, oneof.OneOf):
+        return f"⟦<{member.enum} as OneOf>⟧.cases.all.cases.meaning"
+    return f"⟦<{member.member_type} as Member>⟧.shape.meaning"
 
 
 def pairs(head, parts):
@@ -376,7 +416,18 @@ def write_message(world, message, messages, enums):
     made = head_of_message(world, message, enums) + [""] + struct(message) + [""]
     made += held_form(message, messages) if message.held else listed_form(message, messages)
     made += extension_set(message) if message.it.extension_range else []
-    return "\n".join(made + getters(message, enums)) + "\n"
+    return "\n".join(made + required.initialized(message) + getters(message, enums)) + "\n"
+
+
+def write_oneof(world, one, message):
+    """The file of a oneof's enum."""
+    module = [it for it in (world.module, snake(one.enum)) if it]
+    made = [f"//! The oneof {one.field.full}, made of {message.name.file.shown} by protoc-gen-buffa.", ""]
+    made += required.head_of_enum(one) + oneof.head(one, world.crate, module, world.over)
+    needs = oneof.uses_of_enum(one) | ({"Required"} if one.asked else set())
+    made += uses(world, needs, {i for k in one.cases for i in k.imports}) + [""] + oneof.enum(one, docs)
+    made += [f"impl OneOf for {one.enum} {{"] + oneof.meaning(one) + [""] + oneof.cases(one) + oneof.visit(one) + oneof.take(one) + oneof.reads_back(one) + ["}"]
+    return "\n".join(made + required.initialized_enum(one)) + "\n"
 
 
 def cases(head, parts):

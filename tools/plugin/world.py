@@ -4,11 +4,11 @@ import re
 
 from google.protobuf.descriptor_pb2 import FieldDescriptorProto as Field
 
-from files import File, Refused, clean
+from files import File, Name, Refused, clean
 from names import camel, is_free_type, snake
 
 # Parameters that are of a field.
-FIELD_KEYS = ("delimited", "encoded", "implicit", "optional", "ordered", "shared")
+FIELD_KEYS = ("bytes", "delimited", "encoded", "implicit", "optional", "ordered", "shared")
 MESSAGES = (Field.TYPE_MESSAGE, Field.TYPE_GROUP)
 PATH = re.compile(r"[a-z_][a-z0-9_]*(::[a-z_][a-z0-9_]*)*")
 
@@ -24,10 +24,23 @@ class World:
         self.asked = [it for it in files if it.name in request.file_to_generate]
         self.found = {it.full: it for f in files for it in f.messages + f.enums}
         self.entries = {name: entry for f in files for name, entry in f.entries.items()}
+        self.oneofs = {}
+        for message in [it for f in files for it in f.messages]:
+            self.add_oneofs(message)
         self.see_names()
         if self.refused:
             raise all_of(self.refused)
         self.order = self.reached()
+
+    def add_oneofs(self, message):
+        """Notes the oneofs of a message, but those that protoc makes of optional fields of proto3."""
+        real = {it.oneof_index for it in message.it.field if it.HasField("oneof_index") and not it.proto3_optional}
+        for at, it in enumerate(message.it.oneof_decl):
+            if at in real:
+                one = Name(message.file, message.path + (8, at), f"{message.full}.{it.name}", it, message)
+                one.cases = {f"{message.full}.{f.name}" for f in message.it.field if f.HasField("oneof_index") and f.oneof_index == at}
+                self.oneofs.setdefault(message.full, []).append(one)
+                self.found[one.full] = one
 
     def tries(self, make, *args):
         """What a step makes, or nothing where it refuses: all refusals of a run are told at once."""
@@ -42,7 +55,7 @@ class World:
         self.notes.append(f"protoc-gen-buffa: {line}\n")
 
     def read_parameters(self, text):
-        self.crate, self.module, self.over, self.maps = folder_name(), "messages", "buffa", ""
+        self.crate, self.module, self.over, self.maps, self.strings = folder_name(), "messages", "buffa", "", ""
         self.left, self.dropping, self.opaque, self.costs, self.renamed, self.mapped = set(), set(), set(), {}, {}, {}
         self.fields = {key: set() for key in FIELD_KEYS}
         for word in filter(None, text.split(",")):
@@ -64,7 +77,7 @@ class World:
             self.mapped[file] = path
         elif key in ("crate", "module") and re.fullmatch(r"[a-z_][a-z0-9_]*", value) or word == "module=":
             setattr(self, key, value)
-        elif (key, value) in (("over", "buffa"), ("over", "buffa_fields"), ("maps", "ordered")):
+        elif (key, value) in (("over", "buffa"), ("over", "buffa_fields"), ("maps", "ordered"), ("strings", "bytes")):
             setattr(self, key, value)
         else:
             raise Refused(f"no parameter is {clean(word)}: PLUGIN --help lists them all")
@@ -75,7 +88,7 @@ class World:
         fields = {f"{full}.{f.name}" for full in messages for f in self.found[full].it.field}
         enums = [it for f in self.by_name.values() for it in f.enums]
         values = {f"{it.full}.{v.name}" for it in enums for v in it.it.value}
-        known = messages | fields | {it.full for it in enums} | {it.full for f in self.by_name.values() for it in f.others}
+        known = messages | fields | {it.full for ones in self.oneofs.values() for it in ones} | {it.full for it in enums} | {it.full for f in self.by_name.values() for it in f.others}
         told = [("thing", name) for name in self.left - known] + [("file", name) for name in self.mapped if name not in self.by_name]
         told += [("field", name) for name in set().union(*self.fields.values()) - fields]
         told += [("message", name) for name in (self.dropping | self.opaque | set(self.costs)) - messages]
@@ -119,6 +132,8 @@ class World:
         files = {}
         for it in sorted(self.order, key=lambda it: not self.is_mapped(it.full)):
             self.tries(self.name_type, it, files)
+        for one in [one for it in self.order for one in self.oneofs.get(it.full, []) if one.cases - self.left]:
+            self.tries(self.name_type, one, files)
 
     def name_type(self, it, files):
         names, at = [it.it.name], it.outer
@@ -127,7 +142,9 @@ class World:
         name = self.renamed.get(it.full) or "".join(camel(n) for n in names)
         way = f"give it another name by --buffa_opt=rename={it.full}:NAME"
         if it.full not in self.renamed:
-            name = is_free_type(name, "Enum" if hasattr(it.it, "value") else "Message")
+            is_one = hasattr(it, "cases")
+            name = is_free_type(name, "Enum" if hasattr(it.it, "value") else "OneOf" if is_one else "Message")
+            name += "OneOf" * (is_one and snake(name) in files)
             if snake(name) in files and files[snake(name)].file.it.package != it.file.it.package:
                 other, name = files[snake(name)], camel(it.file.it.package.replace(".", "_")) + name
                 self.tell(f"{it.at()}: it is called {name}, since {other.full} has the shorter name")

@@ -1,15 +1,17 @@
 //! Messages by their fields: a struct of one's own is a [`Message`](crate::Message), and its author writes no proof.
 //!
 //! A struct is one by [`Fields`], [`Blank`](crate::Blank), [`Listing`] and [`Formed`]; what these cite is handed on in
-//! `specs/` under the name `Members`. One that holds a list of itself, a map of itself or one message of itself is a [`Nest`],
-//! a [`MapNest`] or a [`Chain`] of a struct that has [`Holds`]. A struct of one's own with a map of itself is one by [`HoldsMap`],
-//! [`HoldingMap`] and [`Held`]. [`crate::laws::fields`], [`crate::laws::held_maps`], [`crate::laws::held_messages`] and
-//! [`crate::laws::held_ones`] say what each member type and each form is.
+//! `specs/` under the name `Members`. An enum of which a message has one case is a [`OneOf`]. A struct that holds a list of
+//! itself, a map of itself or one message of itself is a [`Nest`], a [`MapNest`] or a [`Chain`] of a struct that has [`Holds`].
+//! A struct of one's own with a map of itself is one by [`HoldsMap`], [`HoldingMap`] and [`Held`]. [`crate::laws::fields`],
+//! [`crate::laws::held_maps`], [`crate::laws::held_messages`], [`crate::laws::held_ones`] and [`crate::laws::oneofs`] say what
+//! each member type and each form is.
 //!
 //! ```ignore
 //! impl Fields for Stock { .. }
 //! ```
 
+pub use buffa_fields::case::{Case, Set, case_reads_back};
 pub use buffa_fields::fields::Fields;
 pub use buffa_fields::group::Group;
 pub use buffa_fields::held::{self, Holds, Inside, Nest};
@@ -22,10 +24,12 @@ pub use buffa_fields::map_member::MapOf;
 pub use buffa_fields::map_nested::MapOfNested;
 pub use buffa_fields::meaning::{
     And, And3, And4, And5, And6, And7, And8, And9, And10, And11, And12, And13, And14, And15, And16,
+    Or,
 };
 pub use buffa_fields::member::Member;
 pub use buffa_fields::message::{Listed, Listing};
 pub use buffa_fields::nested::Nested;
+pub use buffa_fields::one_of::{OneOf, visit_one_of};
 pub use buffa_fields::optional::Optional;
 pub use buffa_fields::ordered_key::OrderedKey;
 pub use buffa_fields::ordered_map::OrderedMapOf;
@@ -36,5 +40,6 @@ pub use buffa_fields::proto_type::ProtoType;
 pub use buffa_fields::repeated::Repeated;
 pub use buffa_fields::repeated_group::RepeatedGroup;
 pub use buffa_fields::repeated_nested::RepeatedNested;
+pub use buffa_fields::required::Required;
 pub use buffa_fields::visitor::Visitor;
 pub use buffa_wire::Formed;

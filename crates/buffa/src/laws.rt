@@ -43,6 +43,8 @@ pub use buffa_fields::held_map_laws as held_maps;
 pub use buffa_fields::holds_map_laws as held_messages;
 /// Laws of messages that may hold one message of themselves.
 pub use buffa_fields::held_one_laws as held_ones;
+/// Laws of oneofs and of their cases.
+pub use buffa_fields::one_of_laws as oneofs;
 /// Laws of map fields: codecs, entries, runs, sizes, encodings and rewrites.
 pub use buffa_map::laws as map_fields;
 /// Laws of Items of a MessageSet.

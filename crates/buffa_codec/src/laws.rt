@@ -34,9 +34,9 @@ ghost use Rattle.buffa_codec.specs.PackedGrammar.{ArePacked};
 ghost use Rattle.buffa_codec.specs.Through.{ListsThrough, ReadsThrough, WritesThrough};
 
 pub use crate::word_laws::{
-    additions_are_these, bytes_of_a_record_are_these, elements_are_these,
-    faults_of_a_record_are_these, lists_are_written_so, records_of_a_number_are_these,
-    strict_refusals_are_these,
+    additions_are_these, bytes_of_a_record_are_these, costs_are_these, elements_are_these,
+    faults_of_a_record_are_these, laws_of_readings_are_these, lists_are_written_so,
+    readings_in_contexts_are_these, records_of_a_number_are_these, strict_refusals_are_these,
 };
 use crate::{
     BytesCodec, EnumCodec, ExtensionCodec, LastWins, Numbered, PackableCodec, PackedRepeated,

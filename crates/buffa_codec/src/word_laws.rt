@@ -1,7 +1,8 @@
 //! What the words say by which codecs are described: each law is a function with nothing to do, whose contract is the law.
 
 ghost use Rattle.std.specs.Prelude.{◌≡◌, ◌≢◌, ◌↔◌, ◌<◌, ◌≤◌, ◌+◌, ◌==◌, ◌⊎◌, ℕ, List, [], ◌∷◌, ◌++◌, if◌then◌else◌};
-ghost use Rattle.std.specs.Prelude.{Err, None, Ok, Option, Some, filter, length, map, not, take};
+ghost use Rattle.std.specs.Prelude.{◌^◌, Err, None, Ok, Option, Some, filter, length, map, not, take};
+ghost use Rattle.std.specs.Option.{option_map, option_or};
 ghost use Rattle.std.specs.Str.{is_utf8};
 ghost use Rattle.std.specs.declared.alloc.AllocError.{AllocError};
 ghost use Rattle.buffa_bytes.specs.declared.error.DecodeError.{DecodeError};
@@ -10,18 +11,24 @@ ghost use Rattle.buffa_bytes.specs.declared.error.EncodeError.{EncodeError};
 ghost use Rattle.buffa_bytes.specs.declared.error.EncodeError.TheVariants.{OutOfMemory};
 ghost use Rattle.buffa_bytes.specs.declared.wire_type.WireType.{WireType};
 ghost use Rattle.buffa_bytes.specs.declared.wire_type.WireType.TheVariants.{Fixed32, Fixed64, LengthDelimited, StartGroup, Varint};
-ghost use Rattle.buffa_wire.specs.BudgetLeft.{BudgetLeft, Covers, defaults, minus};
+ghost use Rattle.buffa_wire.specs.BudgetLeft.{BudgetLeft, Covers, PaysAtMost, defaults, minus, nothing, plus};
+ghost use Rattle.buffa_wire.specs.declared.context.DecodeContext.{DecodeContext};
+ghost use Rattle.buffa_codec.specs.Costs.{Costs, StaysWithin, cost_if};
 ghost use Rattle.buffa_wire.specs.Encoding.{encodings, wire_of};
 ghost use Rattle.buffa_wire.specs.Records.{Datum, Held, Records, bytes, fixed32, fixed64, group, varint};
 ghost use Rattle.buffa_codec.specs.Decoded.{Adds, AddsSome, AddsSomeValues, AddsValues, CoversAll, HasByte, KeepsCapacity};
 ghost use Rattle.buffa_codec.specs.Decoded.{ReadsAll, ReadsList, Refuses, UsesVecRoom, bytes_held, elements, first_refusal};
-ghost use Rattle.buffa_codec.specs.Decoded.{packed_record, string_held};
+ghost use Rattle.buffa_codec.specs.Decoded.{LaterReadingsWin, LeavesIn, ReadAlike, ReadingsJoin, SpendsIn, one_in, packed_record, string_held};
 ghost use Rattle.buffa_codec.specs.Strict.{AreElements, IsFaultOrFull, bytes_fault, number_list_fault, packed_fault};
 ghost use Rattle.buffa_codec.specs.Strict.{string_fault, unless_found};
 ghost use Rattle.buffa_codec.specs.Sub.{sub, tagged, without};
+ghost use Rattle.buffa_codec.specs.Through.{ListsThrough, ReadsThrough, WritesThrough};
 
-use crate::codec::{PackableCodec, SingularCodec};
+use crate::codec::{ExtensionCodec, PackableCodec, SingularCodec};
+use crate::last::LastWins;
 use crate::number::Numbered;
+use crate::packed::PackedRepeated;
+use crate::repeated::Repeated;
 use crate::strict::{StrictCodec, StrictElementCodec};
 use buffa_wire::Form;
 
@@ -149,4 +156,54 @@ pub fn strict_refusals_are_these<C: StrictCodec, E: StrictElementCodec>()
         AreElements (E.IsElement n) (E.leaves 100) b (d ∷ ds) left
         ↔ ((mid : BudgetLeft) × E.IsElement n b d × E.leaves 100 b d mid
         × AreElements (E.IsElement n) (E.leaves 100) mid ds left) }
+{}
+
+/// What a record is read as in a context, and what that leaves and spends of its budget, is what the codec says of it at the
+/// context's depth, and of what its budget has left.
+pub fn readings_in_contexts_are_these<C: SingularCodec>()
+    ensures read { (ctx : DecodeContext) (d : Datum) → one_in C.one ctx d ≡ C.one ctx.depth ctx.budget.now d }
+    ensures left { (ctx : DecodeContext) (d : Datum) (left : BudgetLeft) → LeavesIn C.leaves ctx d left
+        ↔ C.leaves ctx.depth ctx.budget.now d left }
+    ensures spent { (ctx : DecodeContext) (d : Datum) (left : BudgetLeft) → SpendsIn C.most ctx d left
+        ↔ PaysAtMost ctx.budget.now (C.most ctx.depth d) left }
+{}
+
+/// What the records of a list cost together that are read as values, each from what those before it leave; any other record costs
+/// nothing. They stay within a budget where that is no more than the default budgets have: 1,000,000 and 2^28.
+pub fn costs_are_these<C: SingularCodec>()
+    ensures end { (b total : BudgetLeft) → Costs (C.one 100) (C.leaves 100) C.cost b [] total ↔ (total ≡ nothing) }
+    ensures next { (b total : BudgetLeft) (d : Datum) (ds : List Datum) →
+        Costs (C.one 100) (C.leaves 100) C.cost b (d ∷ ds) total ↔ ((mid : BudgetLeft) × (rest : BudgetLeft) × C.leaves 100 b d mid
+        × Costs (C.one 100) (C.leaves 100) C.cost mid ds rest × (total ≡ plus (cost_if (C.cost d) (C.one 100 b d)) rest)) }
+    ensures value { (cost : BudgetLeft) (v : C.Value.Meaning) → cost_if cost (Some v) ≡ cost }
+    ensures no_value { (cost : BudgetLeft) → cost_if {M = C.Value.Meaning} cost None ≡ nothing }
+    ensures within { StaysWithin (C.one 100) (C.leaves 100) C.cost ↔ ((ds : List Datum) (total : BudgetLeft) →
+        Costs (C.one 100) (C.leaves 100) C.cost defaults ds total → (total.unknown ≤ 1000000) × (total.memory ≤ 2 ^ 28)) }
+{}
+
+/// What the laws of readings say: of joined records; and of a codec that reads and writes by way of another one, each value turned
+/// into one of the other's.
+pub fn laws_of_readings_are_these<C: LastWins, D: LastWins, P: PackableCodec>()
+    ensures later { LaterReadingsWin ⟦<C as ExtensionCodec>⟧.reads
+        ↔ ((s r : List Datum) (o : Option C.Value.Meaning) → ⟦<C as ExtensionCodec>⟧.reads (s ++ r) o
+        ↔ ((p : Option C.Value.Meaning) × (q : Option C.Value.Meaning) × ⟦<C as ExtensionCodec>⟧.reads s p
+        × ⟦<C as ExtensionCodec>⟧.reads r q × (o ≡ option_or q p))) }
+    ensures joined { ReadingsJoin ⟦<Repeated<C> as ExtensionCodec>⟧.reads
+        ↔ ((s r : List Datum) (out : List C.Value.Meaning) → ⟦<Repeated<C> as ExtensionCodec>⟧.reads (s ++ r) out
+        ↔ ((vs : List C.Value.Meaning) × (ws : List C.Value.Meaning) × ⟦<Repeated<C> as ExtensionCodec>⟧.reads s vs
+        × ⟦<Repeated<C> as ExtensionCodec>⟧.reads r ws × (out ≡ vs ++ ws))) }
+    ensures alike { ReadAlike ⟦<Repeated<P> as ExtensionCodec>⟧.reads ⟦<PackedRepeated<P> as ExtensionCodec>⟧.reads
+        ↔ ((s : List Datum) (out : List P.Value.Meaning) → ⟦<Repeated<P> as ExtensionCodec>⟧.reads s out
+        ↔ ⟦<PackedRepeated<P> as ExtensionCodec>⟧.reads s out) }
+    ensures value { (f : C.Value.Meaning → D.Value.Meaning) →
+        ReadsThrough f ⟦<C as ExtensionCodec>⟧.reads ⟦<D as ExtensionCodec>⟧.reads
+        ↔ ((ds : List Datum) (out : Option D.Value.Meaning) → ⟦<D as ExtensionCodec>⟧.reads ds out
+        ↔ ((m : Option C.Value.Meaning) × ⟦<C as ExtensionCodec>⟧.reads ds m × (out ≡ option_map f m))) }
+    ensures list { (f : C.Value.Meaning → D.Value.Meaning) →
+        ListsThrough f ⟦<Repeated<C> as ExtensionCodec>⟧.reads ⟦<Repeated<D> as ExtensionCodec>⟧.reads
+        ↔ ((ds : List Datum) (out : List D.Value.Meaning) → ⟦<Repeated<D> as ExtensionCodec>⟧.reads ds out
+        ↔ ((ms : List C.Value.Meaning) × ⟦<Repeated<C> as ExtensionCodec>⟧.reads ds ms × (out ≡ map f ms))) }
+    ensures written { (f : D.Value.Meaning → C.Value.Meaning) →
+        WritesThrough f ⟦<C as ExtensionCodec>⟧.recs ⟦<D as ExtensionCodec>⟧.recs
+        ↔ ((v : D.Value.Meaning) → ⟦<D as ExtensionCodec>⟧.recs v ≡ ⟦<C as ExtensionCodec>⟧.recs (f v)) }
 {}

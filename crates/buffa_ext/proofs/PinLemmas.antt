@@ -1,5 +1,5 @@
 -- What is read, merged and changed in one way.
-use Rattle.std.proofs.Common.{◌≡◌, ◌≢◌, ◌⊎◌, inl, inr, ℕ, List, [], ◌∷◌, ◌++◌, Option, Some, None, Ok, Err, refl, sym, ap, subst, ◌∙◌, option_map, arith, if◌then◌else◌}
+use Rattle.std.proofs.Common.{◌≡◌, ◌≢◌, ◌⊎◌, inl, inr, ℕ, Bool, List, [], ◌∷◌, ◌++◌, Option, Some, None, Result, Ok, Err, IsOk, refl, sym, ap, subst, ◌∙◌, option_map, arith, if◌then◌else◌}
 use Rattle.std.specs.Option.{option_and_then}
 use Rattle.std.specs.List.{cons_option, filter_map}
 use Rattle.buffa_bytes.specs.declared.error.DecodeError.{DecodeError}
@@ -10,7 +10,7 @@ use Rattle.buffa_wire.specs.Records.{Datum, varint, fixed32, fixed64, bytes, gro
 use Rattle.buffa_codec.specs.Decoded.{ReadsAll, ReadsList, elements, unpacked}
 use Rattle.buffa_codec.specs.CodecFacts.{left_over, minus_nothing}
 use Rattle.buffa_ext.specs.Defaults.{IsDefaulted}
-use Rattle.buffa_ext.specs.Messages.{AreMerged, IsEncodingRefused, LeavesOf, MergingStaysWithin, cost_all, merged_all, message_of, encodings_in}
+use Rattle.buffa_ext.specs.Messages.{AreMerged, IsEncodingRefused, LeavesOf, MergesRecords, cost_all, merged_all, message_of, encodings_in}
 use Rattle.buffa_ext.specs.MessageFacts.{all_merged, left_yes}
 use Rattle.buffa_ext.specs.Pinned.{ListIsExact, MergingIsPinned, RecordMergeIsPinned}
 use Rattle.std.proofs.lemmas.Option.{none-some, same_Some}
@@ -111,7 +111,8 @@ module _ {X : Type 0} (merged : X → List ℕ → Option X) (cost : List ℕ �
   }
 
   -- and spends no more than there is to spend
-  pub merging_stays_within : MergingStaysWithin merged cost held asks
+  pub merging_stays_within : (ds : List Datum) (old new : X) (before after : BudgetLeft) (r : Result Bool DecodeError) → MergesRecords merged cost held asks ds old before r new after
+      → PaysAtMost before (cost_all cost (encodings_in held ds)) after × (IsOk r → Covers before (cost_all cost (encodings_in held ds)))
   merging_stays_within ds old new before after (Ok f) h = ((omega (arith, h.1.1), omega (arith, h.1.1), omega (arith, h.1.1), omega (arith, h.1.1)), λ t. (omega (arith, h.1.1), omega (arith, h.1.1)))
   merging_stays_within ds old new before after (Err e) h = ((all_merged merged cost held asks ds old new before after (Err e) h).0, λ f. absurd (false≢true f))
 

@@ -1,16 +1,15 @@
 -- Extensions that hold messages: the bytes of their records are merged in order.
 -- Source: the protobuf encoding guide, "Last One Wins".
-use Rattle.std.specs.Prelude.{◌≡◌, ◌≢◌, ◌↔◌, ◌≤◌, ℕ, ◌^◌, Bool, true, false, List, [], ◌∷◌, ◌++◌, ◌&&◌, nat_le, nat_lt, length, ◌⊎◌, Option, Some, None, Result, Ok, Err, IsOk, MatchResult, if◌then◌else◌}
+use Rattle.std.specs.Prelude.{◌≡◌, ◌≢◌, ◌↔◌, ℕ, ◌^◌, Bool, true, false, List, [], ◌∷◌, ◌++◌, ◌&&◌, nat_le, nat_lt, length, ◌⊎◌, Option, Some, None, Result, Ok, Err, MatchResult, if◌then◌else◌}
 use Rattle.std.specs.Option.{option_and_then}
 use Rattle.std.specs.List.{filter_map}
 use Rattle.buffa_bytes.specs.declared.error.DecodeError.{DecodeError}
 use Rattle.buffa_bytes.specs.declared.error.DecodeError.TheVariants.{OutOfMemory}
 use Rattle.buffa_bytes.specs.declared.error.EncodeError.{EncodeError}
 use Rattle.buffa_bytes.specs.declared.error.EncodeError.TheVariants.{GroupRefused, MessageTooLarge}
-use Rattle.buffa_wire.specs.BudgetLeft.{BudgetLeft, Covers, Pays, PaysAtMost, defaults, nothing, plus}
+use Rattle.buffa_wire.specs.BudgetLeft.{BudgetLeft, Pays, PaysAtMost, defaults, nothing, plus}
 use Rattle.buffa_wire.specs.Message.{BeginsField, FieldRefused, MergeFault, Stands}
 use Rattle.buffa_wire.specs.declared.context.DecodeContext.{DecodeContext}
-use Rattle.buffa_wire.specs.Parse.{Fits}
 use Rattle.buffa_wire.specs.Records.{Datum, group, records_of}
 use Rattle.buffa_wire.specs.RecordReading.{list_at}
 use Rattle.buffa_wire.specs.Encoding.{fields_encoding}
@@ -112,13 +111,6 @@ MergesRecords merged cost held asks ds old before r new after =
     (λ some. (some ≡ some_there (encodings_in held ds)) × AreMerged merged cost (encodings_in held ds) old before new after)
     (λ e. StopsAt merged cost held asks ds old before e after)
 
--- whatever merging records answers, at most what the encodings in them cost together is spent; and where they are
--- merged that was there to be spent
-abbrev pub MergingStaysWithin : {X : Type 0} → (X → List ℕ → Option X) → (List ℕ → BudgetLeft) → (Datum → Option (List ℕ)) → (Datum → Type 0) → Type 0
-MergingStaysWithin {X = X} merged cost held asks =
-    (ds : List Datum) (old new : X) (before after : BudgetLeft) (r : Result Bool DecodeError) → MergesRecords merged cost held asks ds old before r new after
-    → PaysAtMost before (cost_all cost (encodings_in held ds)) after × (IsOk r → Covers before (cost_all cost (encodings_in held ds)))
-
 -- a record is such, and those before it are merged into a blank under a default budget
 abbrev pub ReachesRecord : {X : Type 0} → (X → List ℕ → Option X) → (List ℕ → BudgetLeft) → X → (Datum → Option (List ℕ)) → (Datum → Type 0) → List Datum → Type 0
 ReachesRecord {X = X} merged cost blank held asks ds =
@@ -148,10 +140,6 @@ or_none (Err e) = []
 abbrev pub group_of : List ℕ → Datum
 group_of encoding = group (records_of (or_none (list_at 100 1000000 encoding)))
 
--- the encodings in the group of a message's encoding: that one
-abbrev pub group_encodings : List ℕ → List (List ℕ)
-group_encodings encoding = encodings_in group_held (group_of encoding ∷ [])
-
 abbrev pub why_refused : Result (List (ℕ × Datum)) DecodeError → Option EncodeError
 why_refused (Ok rs) = None
 why_refused (Err e) = Some (GroupRefused e)
@@ -162,8 +150,3 @@ group_refusal encoding = why_refused (list_at 100 1000000 encoding)
 -- why an encoding isn't written: it is too long, or else it can't be held
 abbrev pub encoding_refusal : (List ℕ → Option EncodeError) → List ℕ → Option EncodeError
 encoding_refusal refusal encoding = if nat_lt (length encoding) (2 ^ 31) then refusal encoding else Some MessageTooLarge
-
--- a message is read back: its type says so, it isn't too deep, no length in it is 2^64 or more, and the encodings in its
--- record cost no more than a default budget
-abbrev pub IsReadBack : Type 0 → ℕ → List (ℕ × Datum) → (List ℕ → BudgetLeft) → List (List ℕ) → Type 0
-IsReadBack normal levels records cost encodings = (normal × (levels ≤ 100) × Fits (records_of records)) × Covers defaults (cost_all cost encodings)

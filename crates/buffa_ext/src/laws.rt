@@ -1,25 +1,26 @@
 //! What the definitions of sets and clears say together: each law is a function with nothing to do, whose
 //! contract is the law.
 
-ghost use Rattle.std.specs.Prelude.{◌≡◌, ◌≢◌, ◌↔◌, ◌<◌, ◌≤◌, ◌^◌, ℕ, List, [], ◌∷◌, ◌++◌, Option, Some, None, Ok, Err, false, length, option_map};
+ghost use Rattle.std.specs.Prelude.{◌≡◌, ◌≢◌, ◌↔◌, ◌<◌, ◌≤◌, ◌^◌, ℕ, Bool, List, [], ◌∷◌, ◌++◌, Option, Some, None, Result, Ok, Err, IsOk, false, length, option_map};
+ghost use Rattle.std.specs.List.{filter_map};
 ghost use Rattle.std.specs.declared.alloc.Global.{Global as GlobalValue};
 ghost use Rattle.std.specs.declared.alloc.AllocError.{AllocError as AllocErrorValue};
 ghost use Rattle.buffa_ext.specs.declared.descriptor.Make.{Make};
 ghost use Rattle.buffa_ext.specs.declared.descriptor.NoDefault.{NoDefault};
 ghost use Rattle.buffa_ext.specs.declared.steps.Step.TheVariants.{Set};
 ghost use Rattle.buffa_bytes.specs.Pinned.{IsCopied, SameIsOne};
+ghost use Rattle.buffa_bytes.specs.declared.error.DecodeError.{DecodeError};
 ghost use Rattle.buffa_bytes.specs.declared.error.EncodeError.TheVariants.{MessageTooLarge};
 ghost use Rattle.buffa_bytes.specs.declared.wire_type.WireType.TheVariants.{LengthDelimited, StartGroup};
-ghost use Rattle.buffa_wire.specs.BudgetLeft.{BudgetLeft, Covers, Pays, defaults};
+ghost use Rattle.buffa_wire.specs.BudgetLeft.{BudgetLeft, Covers, Pays, PaysAtMost, defaults};
 ghost use Rattle.buffa_wire.specs.Parse.{Fits};
 ghost use Rattle.buffa_wire.specs.Records.{Datum, bytes as held_bytes, records_of};
 ghost use Rattle.buffa_codec.specs.Pinned.{OneAnswer};
 ghost use Rattle.buffa_codec.specs.Decoded.{HasByte, bytes_held};
 ghost use Rattle.buffa_codec.specs.Sub.{sub};
 ghost use Rattle.buffa_ext.specs.Steps.{SameIsOneStep};
-ghost use Rattle.buffa_ext.specs.Messages.{BeginsFieldIn, IsReadBack, LeavesOfRecord, MergingStaysWithin};
-ghost use Rattle.buffa_ext.specs.Messages.{ReadsMessages, cost_all, group_held, group_of, merged_all};
-ghost use Rattle.buffa_ext.specs.Messages.{group_refusal, group_encodings, message_of, encoding_refusal, encodings_in};
+ghost use Rattle.buffa_ext.specs.Messages.{BeginsFieldIn, LeavesOf, MergesRecords, cost_all, group_held, group_of};
+ghost use Rattle.buffa_ext.specs.Messages.{group_refusal, merged_all, message_of, encoding_refusal, encodings_in};
 ghost use Rattle.buffa_ext.specs.Pinned.{ClearIsPinned, DefaultIsPinned, ListIsExact, MergingIsPinned};
 ghost use Rattle.buffa_ext.specs.Pinned.{RecordMergeIsPinned, SetIsPinned};
 ghost use Rattle.buffa_ext.specs.Steps.{ClearsAreOne, IsExactlySet, KeepsTheRest, LeavesOthers, NumberStep};
@@ -27,6 +28,7 @@ ghost use Rattle.buffa_ext.specs.Steps.{ReadsHistory, SecondCounts, StandsLast, 
 
 pub use crate::codec_laws::{number_names_are_these, other_names_are_these};
 use crate::descriptor::{Declared, Make, NoDefault};
+pub use crate::merge_laws::{merged_records_are_these, one_record_is_merged_so};
 use crate::message::{GroupCodec, MessageCodec, MessageIn};
 use crate::record::{Delimited, Grouped, MessageRecord};
 use crate::steps::{ReplayFault, Step};
@@ -103,23 +105,28 @@ pub fn last_set_counts()
 pub fn messages_stay_within_a_budget<K: MessageRecord, M: Message>()
     ensures read { (ds : List Datum) (v : M.Meaning) → ⟦<MessageIn<K, M> as ExtensionCodec>⟧.reads ds (Some v)
         → Covers defaults (cost_all (M.cost 100) (encodings_in K.held ds)) }
-    ensures merged { MergingStaysWithin (M.merged 100) (M.cost 100) K.held (K.asks 100) }
+    ensures merged { (ds : List Datum) (old new : M.Meaning) (before left : BudgetLeft) (r : Result Bool DecodeError) →
+        MergesRecords (M.merged 100) (M.cost 100) K.held (K.asks 100) ds old before r new left →
+        PaysAtMost before (cost_all (M.cost 100) (filter_map K.held ds)) left
+        × (IsOk r → Covers before (cost_all (M.cost 100) (filter_map K.held ds))) }
 {}
 
 /// A message is read of the bytes of all records of bytes of its number, or of the records in all its
 /// groups, merged in order. A value is read back whose type says so, and whose encoding isn't too deep, nor
 /// costs more than the default budget.
 pub fn messages_are_read<M: Message>()
-    ensures delimited { ReadsMessages ⟦<MessageCodec<M> as ExtensionCodec>⟧.reads (M.merged 100) (M.cost 100)
-        M.blank_is bytes_held }
-    ensures groups { ReadsMessages ⟦<GroupCodec<M> as ExtensionCodec>⟧.reads (M.merged 100) (M.cost 100)
-        M.blank_is group_held }
+    ensures delimited { (ds : List Datum) (o : Option M.Meaning) → ⟦<MessageCodec<M> as ExtensionCodec>⟧.reads ds o
+        ↔ (o ≡ message_of (M.merged 100) (M.cost 100) M.blank_is defaults (filter_map bytes_held ds)) }
+    ensures groups { (ds : List Datum) (o : Option M.Meaning) → ⟦<GroupCodec<M> as ExtensionCodec>⟧.reads ds o
+        ↔ (o ≡ message_of (M.merged 100) (M.cost 100) M.blank_is defaults (filter_map group_held ds)) }
     ensures bytes { (v : M.Meaning) → ⟦<MessageCodec<M> as ExtensionCodec>⟧.recs v ≡ held_bytes (M.encoding v) ∷ [] }
     ensures group { (v : M.Meaning) → ⟦<GroupCodec<M> as ExtensionCodec>⟧.recs v ≡ group_of (M.encoding v) ∷ [] }
     ensures normal { (v : M.Meaning) → ⟦<MessageCodec<M> as ExtensionCodec>⟧.normal v
-        ↔ IsReadBack (M.normal v) (M.levels v) (M.records v) (M.cost 100) (M.encoding v ∷ []) }
+        ↔ ((M.normal v × (M.levels v ≤ 100) × Fits (records_of (M.records v)))
+        × Covers defaults (cost_all (M.cost 100) (M.encoding v ∷ []))) }
     ensures group_normal { (v : M.Meaning) → ⟦<GroupCodec<M> as ExtensionCodec>⟧.normal v
-        ↔ IsReadBack (M.normal v) (M.levels v) (M.records v) (M.cost 100) (group_encodings (M.encoding v)) }
+        ↔ ((M.normal v × (M.levels v ≤ 100) × Fits (records_of (M.records v)))
+        × Covers defaults (cost_all (M.cost 100) (filter_map group_held (group_of (M.encoding v) ∷ [])))) }
     ensures holds { (v : M.Meaning) (o : Option M.Meaning) → ⟦<MessageCodec<M> as ExtensionCodec>⟧.holds v o
         ↔ (o ≡ Some v) }
     ensures group_holds { (v : M.Meaning) (o : Option M.Meaning) → ⟦<GroupCodec<M> as ExtensionCodec>⟧.holds v o
@@ -151,7 +158,8 @@ pub fn message_records_are_read<M: Message>()
     ensures one { (n : ℕ) (b : BudgetLeft) (d : Datum) → ⟦<MessageCodec<M> as SingularCodec>⟧.one n b d
         ≡ message_of (M.merged n) (M.cost n) M.blank_is b (encodings_in bytes_held (d ∷ [])) }
     ensures leaves { (n : ℕ) (b left : BudgetLeft) (d : Datum) → ⟦<MessageCodec<M> as SingularCodec>⟧.leaves n b d left
-        ↔ LeavesOfRecord (M.merged n) (M.cost n) M.blank_is bytes_held b d left }
+        ↔ LeavesOf (message_of (M.merged n) (M.cost n) M.blank_is b (filter_map bytes_held (d ∷ []))) b
+        (cost_all (M.cost n) (filter_map bytes_held (d ∷ []))) left }
     ensures cost { (d : Datum) → ⟦<MessageCodec<M> as SingularCodec>⟧.cost d
         ≡ cost_all (M.cost 100) (encodings_in bytes_held (d ∷ [])) }
     ensures most { (n : ℕ) (d : Datum) → ⟦<MessageCodec<M> as SingularCodec>⟧.most n d
@@ -173,7 +181,8 @@ pub fn group_records_are_read<M: Message>()
     ensures one { (n : ℕ) (b : BudgetLeft) (d : Datum) → ⟦<GroupCodec<M> as SingularCodec>⟧.one n b d
         ≡ message_of (M.merged n) (M.cost n) M.blank_is b (encodings_in group_held (d ∷ [])) }
     ensures leaves { (n : ℕ) (b left : BudgetLeft) (d : Datum) → ⟦<GroupCodec<M> as SingularCodec>⟧.leaves n b d left
-        ↔ LeavesOfRecord (M.merged n) (M.cost n) M.blank_is group_held b d left }
+        ↔ LeavesOf (message_of (M.merged n) (M.cost n) M.blank_is b (filter_map group_held (d ∷ []))) b
+        (cost_all (M.cost n) (filter_map group_held (d ∷ []))) left }
     ensures cost { (d : Datum) → ⟦<GroupCodec<M> as SingularCodec>⟧.cost d
         ≡ cost_all (M.cost 100) (encodings_in group_held (d ∷ [])) }
     ensures most { (n : ℕ) (d : Datum) → ⟦<GroupCodec<M> as SingularCodec>⟧.most n d

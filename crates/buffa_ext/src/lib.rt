@@ -6,6 +6,7 @@ pub mod codec_laws;
 pub mod codecs;
 pub mod descriptor;
 pub mod laws;
+pub mod merge_laws;
 pub mod message;
 pub mod record;
 pub mod set;

@@ -86,7 +86,9 @@ pub trait ExtensionSet {
         ext: &Extension<C, D>,
     ) -> Result<C::Output, AllocError>
         requires { ext.now.extendee.now ≡ fqn }
+        // The value is what the codec reads of the records of the number alone.
         ensures value { IfOk result (λ o. C.reads (sub ext.now.number (fields_of self.now).records) (C.answer o)) }
+        // It is refused for want of memory only, and only where the codec may ask for it.
         ensures always { C.never_fails → IsOk result }
         ensures full { OnErr result (C.asks (sub ext.now.number (fields_of self.now).records)) }
     {
@@ -134,13 +136,16 @@ pub trait ExtensionSet {
         value: C::Value,
     ) -> Result<(), EncodeError>
         requires { ext.now.extendee.now ≡ fqn }
+        // Accepted: the value's records stand behind those of other numbers.
         ensures ok { OnOk result (IsSet ext.now.number (C.recs (C.meaning value)) (fields_of self.old)
             (fields_of self.new)) }
+        // Refused: nothing is changed, and the error is what is wrong with the value, or want of memory.
         ensures err { OnErr result (self.new ≡ self.old) }
         ensures room { (fields_of self.old).spare ≤ (fields_of self.new).spare + length (C.recs (C.meaning value)) }
         ensures full { OnErr result (C.recs (C.meaning value) ≢ []) }
         ensures refused { Refuses result (C.refusal (C.meaning value)) }
         ensures fits { OnOk result (C.fits (C.meaning value)) }
+        // Only the unknown fields are changed.
         ensures rest { (w : Held) × (self.new ≡ with_fields self.old w) }
     {
         let number = ext.number();
@@ -222,6 +227,7 @@ pub trait ExtensionSet {
         requires extendee { ext.now.extendee.now ≡ fqn }
         requires callable { C.reads (sub ext.now.number (fields_of self.now).records) (C.answer None) →
             D.can_declare ext.now.default }
+        // What is read; else what is declared; else the default of the type.
         ensures value { IfOk result (λ v. IsDefaulted (ReadsNumber C.reads C.answer ext.now.number (fields_of self.now))
             (D.may_declare ext.now.default) (V.meaning v ≡ V.blank_is) v) }
         ensures full { OnErr result (IsRefused (C.asks (sub ext.now.number (fields_of self.now).records))

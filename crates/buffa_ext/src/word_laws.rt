@@ -14,10 +14,10 @@ ghost use Rattle.buffa_wire.specs.Records.{Datum, Held, Records, bytes, fixed32,
 ghost use Rattle.buffa_wire.specs.View.{datum_of};
 ghost use Rattle.buffa_codec.specs.Decoded.{bytes_held};
 ghost use Rattle.buffa_codec.specs.Sub.{sub};
-ghost use Rattle.buffa_ext.specs.Defaults.{IsDefaulted, IsRefused};
+ghost use Rattle.buffa_ext.specs.Defaults.{IsDefaulted, IsRefused, ReadsNumber};
 ghost use Rattle.buffa_ext.specs.Messages.{BeginsFieldIn, LeavesOf, cost_all, encodings_in, group_held, group_of};
 ghost use Rattle.buffa_ext.specs.Messages.{group_refusal, merged_all, message_of};
-ghost use Rattle.buffa_ext.specs.Steps.{HoldsRecord, IsCleared, IsSet, KeepsRoom, NumberStep, RefusedAt, StepTakesMemory, after};
+ghost use Rattle.buffa_ext.specs.Steps.{HoldsRecord, IsCleared, IsSet, IsSetUnread, KeepsRoom, NumberStep, RefusedAt, StepTakesMemory, after};
 ghost use Rattle.buffa_ext.specs.Steps.{after_one, clear, history, put_count, set, step_of};
 ghost use Rattle.buffa_ext.specs.declared.steps.Step.TheVariants.{Clear, Set};
 
@@ -26,8 +26,9 @@ use buffa_codec::{ExtensionCodec, LastWins};
 use buffa_wire::Message;
 
 /// A set takes the records of its number out and puts its own behind the others; a clear takes them out. Steps are taken
-/// one after the other. An extension is there where a record has its number.
-pub fn steps_are_these()
+/// one after the other. An extension is there where a record has its number. A value may be set that isn't read back, where
+/// reading it takes memory.
+pub fn steps_are_these<C: ExtensionCodec>()
     ensures set { (n : ℕ) (ds : List Datum) (rs : List (ℕ × Datum)) → after_one rs (set n ds)
         ≡ filter (λ r. not (r.0 == n)) rs ++ map (λ d. (n, d)) ds }
     ensures clear { (n : ℕ) (rs : List (ℕ × Datum)) → after_one rs (clear n) ≡ filter (λ r. not (r.0 == n)) rs }
@@ -38,6 +39,10 @@ pub fn steps_are_these()
         ↔ (new.records ≡ filter (λ r. not (r.0 == n)) old.records ++ map (λ d. (n, d)) ds) }
     ensures is_cleared { (n : ℕ) (old new : Held) → IsCleared n old new
         ↔ (new.records ≡ filter (λ r. not (r.0 == n)) old.records) }
+    ensures unread { (n : ℕ) (v : C.Meaning) (old new : Held) →
+        IsSetUnread n (C.recs v) (C.refusal v) C.asks old new
+        ↔ ((new.records ≡ filter (λ r. not (r.0 == n)) old.records ++ map (λ d. (n, d)) (C.recs v)) × (C.refusal v ≡ None)
+        × C.asks (C.recs v)) }
     ensures there { (n : ℕ) (held : Held) → HoldsRecord n held
         ↔ (map (λ r. r.1) (filter (λ r. r.0 == n) held.records) ≢ []) }
     ensures step { (n : ℕ) (xs : _) → (step_of (Set n xs) ≡ set n (map datum_of xs.items))
@@ -78,6 +83,10 @@ pub fn answers_with_a_default_are_these<C: LastWins, D: Declared<C::Value>>()
         (C.Value.meaning v ≡ C.Value.blank_is) v
         ↔ (⟦<C as ExtensionCodec>⟧.reads ds (Some (C.Value.meaning v)) ⊎ (⟦<C as ExtensionCodec>⟧.reads ds None
         × (D.may_declare s (Some v) ⊎ (D.may_declare s None × (C.Value.meaning v ≡ C.Value.blank_is))))) }
+    ensures number { (n : ℕ) (held : Held) (o : Option C.Value) →
+        ReadsNumber ⟦<C as ExtensionCodec>⟧.reads (option_map C.Value.meaning) n held o
+        ↔ ⟦<C as ExtensionCodec>⟧.reads (map (λ r. r.1) (filter (λ r. r.0 == n) held.records))
+        (option_map C.Value.meaning o) }
     ensures refused { (ds : List Datum) (s : D) → IsRefused (⟦<C as ExtensionCodec>⟧.asks ds)
         (λ o. ⟦<C as ExtensionCodec>⟧.reads ds (option_map C.Value.meaning o)) (D.may_refuse s)
         ↔ (⟦<C as ExtensionCodec>⟧.asks ds ⊎ (⟦<C as ExtensionCodec>⟧.reads ds None × D.may_refuse s)) }

@@ -11,6 +11,7 @@ pub mod ListLemmas
 pub mod EntriesLemmas
 pub mod MapLemmas
 pub mod NestedMapLemmas
+mod OneOfLawLemmas
 pub mod OrderedLemmas
 pub mod PackedLemmas
 pub mod KeptMapLemmas

@@ -1,16 +1,16 @@
 -- What is proved of records and the members that they change, in the words of the laws.
-use Rattle.std.proofs.Common.{◌≡◌, ◌≢◌, ℕ, zero, suc, ◌-◌, ◌<◌, ◌==◌, Bool, true, false, List, [], ◌∷◌, ◌++◌, length, Option, Some, None, Result, Ok, Err, refl, sym, ap, subst, ◌∙◌, arith, append_assoc, append-nil, length-append, if◌then◌else◌}
+use Rattle.std.proofs.Common.{◌≡◌, ◌≢◌, ℕ, zero, suc, ◌-◌, ◌<◌, Bool, true, false, List, [], ◌∷◌, ◌++◌, length, Option, Some, None, Result, Ok, Err, refl, sym, ap, subst, ◌∙◌, arith, append_assoc, append-nil, if◌then◌else◌}
 use Rattle.std.proofs.Common.{◌^◌, ◌⊎◌, inl, inr}
 use Rattle.std.proofs.lemmas.Bool.{lt-ltb}
 use Rattle.std.specs.List.{concat}
 use Rattle.std.specs.Option.{option_map}
 use Rattle.std.specs.Prelude.{◌↔◌, map}
-use Rattle.buffa_bytes.proofs.ContentLemmas.{content_complete, has_byte}
+use Rattle.buffa_bytes.proofs.ContentLemmas.{content_complete}
 use Rattle.buffa_bytes.proofs.DelimitedLemmas.{delimited_complete, delimited_sound}
 use Rattle.buffa_bytes.proofs.FieldLemmas.{same_refl}
 use Rattle.buffa_bytes.proofs.SequenceLemmas.{along_err, along_ok, err_same, ok_same, parse_leads}
 use Rattle.buffa_bytes.proofs.StepLemmas.{agree_ok}
-use Rattle.buffa_bytes.proofs.WireLemmas.{checked_same, same_false}
+use Rattle.buffa_bytes.proofs.WireLemmas.{checked_same}
 use Rattle.buffa_bytes.specs.Content.{Content, HasContent, content_at}
 use Rattle.buffa_bytes.specs.Field.{IsTag, SomeField}
 use Rattle.buffa_bytes.specs.Front.{check_wire, delimited_at}
@@ -26,14 +26,12 @@ use Rattle.buffa_wire.specs.BudgetLeft.{BudgetLeft, plus, units}
 use Rattle.buffa_wire.specs.ByField.{value_of}
 use Rattle.buffa_wire.specs.Encoding.{encodings}
 use Rattle.buffa_wire.specs.Message.{merged_in}
-use Rattle.buffa_wire.specs.Takes.{Taker}
 use Rattle.buffa_map.proofs.EntryLemmas.{entry_complete, entry_sound, value_complete}
 use Rattle.buffa_map.specs.Codec.{Reading, value_at}
 use Rattle.buffa_map.specs.Entry.{IsEntry, entry_of}
 use Rattle.buffa_map.specs.declared.map_entry.MapEntry.{MapEntry}
 use Rattle.buffa_fields.proofs.InsideLemmas.{wire_taken}
 use Rattle.buffa_fields.specs.Entries.{entry_taken, whole_entry_in}
-use Rattle.buffa_fields.specs.Framing.{taken_as}
 use Rattle.buffa_fields.specs.GroupFacts.{body_is}
 use Rattle.buffa_fields.specs.Groups.{group_body, group_merged}
 use Rattle.buffa_fields.specs.ListFacts.{element_falls, elements_end, elements_next}

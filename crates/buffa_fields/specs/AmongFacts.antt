@@ -12,7 +12,7 @@ use Rattle.buffa_fields.specs.Layout.{Layout, ReadsBackTo, Seen, Shape, both_tak
 use Rattle.buffa_fields.specs.LayoutFacts.{more_twice, seen_field}
 use Rattle.buffa_fields.specs.LevelFacts.{back_holds, both_numbers, firsts, front_holds, others_low}
 use Rattle.buffa_fields.specs.Levels.{IsTakenWritten}
-use Rattle.buffa_fields.specs.PairFacts.{both_back, readable_both, joined_back, sound_parts}
+use Rattle.buffa_fields.specs.PairFacts.{both_back, readable_both, joined_back, not_declared, sound_parts}
 use Rattle.buffa_fields.specs.PlaceFacts.{others_back}
 
 -- ---- lists
@@ -77,8 +77,8 @@ module _ {M P A B : Type 0} (s : Shape P A) (k : ℕ) where
       let own = subst (λ z. AllNumbers l.declares z) (l.own_is k v.1) (l.numbers owes.1 exact.1 v.1) in
       let mine = (owes.0.exact exact.0).numbers k v.0 in
       numbers_joined (λ n. n == k || l.declares n) (l.front k v.1) (s.records k v.0 ++ l.behind k v.1)
-      (both_numbers k l.declares [] (l.front k v.1) tt (numbers_front l.declares (l.front k v.1) (l.behind k v.1) own))
-      (both_numbers k l.declares (s.records k v.0) (l.behind k v.1) mine (numbers_behind l.declares (l.front k v.1) (l.behind k v.1) own))
+      (both_numbers (λ n. n == k) l.declares [] (l.front k v.1) tt (numbers_front l.declares (l.front k v.1) (l.behind k v.1) own))
+      (both_numbers (λ n. n == k) l.declares (s.records k v.0) (l.behind k v.1) mine (numbers_behind l.declares (l.front k v.1) (l.behind k v.1) own))
 
   -- ---- encodings that read back
   module _ (l : Layout M B) (owes : ReadsBackTo s × l.Owes) (ok : (is_number k && not (l.declares k) && (s.whole && l.sound)) ≡ true) where
@@ -112,5 +112,5 @@ module _ {M P A B : Type 0} (s : Shape P A) (k : ℕ) where
             AllByRecursion (λ y. (y.0 == k || l.declares y.0) ≡ true → IsTakenWritten all_take d y) (l.kept v.1) → l.levels v.1 ≤ d
         least_others high own kept =
             let sound = sound_parts k (l.declares k) (s.whole && l.sound) ok in
-            others_low k all_take l owes.1 exact.1 sound.1 (λ d v n w p off. rw off refl) d [] v.1 (and_parts s.whole l.sound sound.2).1 normal.1 high
+            others_low (λ n. n == k) all_take l owes.1 exact.1 (not_declared k l.declares sound.1) (λ d v n w p off. rw off refl) d [] v.1 (and_parts s.whole l.sound sound.2).1 normal.1 high
             (subst (λ z. AllByRecursion (IsTakenWritten all_take d) z) (sym (l.own_is k v.1)) (outer_hold (IsTakenWritten all_take d) (l.front k v.1) (s.records k v.0) (l.behind k v.1) own)) kept

@@ -31,7 +31,7 @@ use Rattle.buffa_fields.specs.Levels.{AreExactLevels, IsTakenWritten}
 use Rattle.buffa_fields.specs.Lists.{element_records}
 use Rattle.buffa_fields.specs.Nested.{FitsInside, inside, message_merged}
 use Rattle.buffa_fields.specs.Nests.{Nest, Nests, nest, no_nest, first, nest_list, nest_means, nest_of, nests_in-nest_list, nests_mean, inside_of, own_of, parts_of}
-use Rattle.buffa_fields.specs.PairFacts.{sound_parts}
+use Rattle.buffa_fields.specs.PairFacts.{not_declared, sound_parts}
 use Rattle.buffa_fields.specs.RepeatedNested.{messages_cost, messages_levels, messages_records, messages_slots, messages_taken}
 use Rattle.buffa_fields.specs.RepeatedNestedFacts.{messages_back}
 use Rattle.buffa_fields.specs.ValidFacts.{element_valid}
@@ -199,7 +199,7 @@ module _ {M X : Type 0} (l : Layout M X) (k each : ℕ) where
         let own = subst (λ z. AllByRecursion Taken z) (sym (l.own_is k v)) (all_joined Taken (l.front k v) (l.behind k v)
         (front_holds Taken (l.front k v) (inside_records l k each ns ++ (l.behind k v ++ l.kept v)) all) (front_holds Taken (l.behind k v) (l.kept v) others)) in
         let other = (sound_parts k (l.declares k) (true && l.sound) (is_sound l k each normal.0.0 sound)).1 in
-        others_low k all_takes l normal.0.1 exact other (λ d v n w p off. rw off refl) d [] v sound normal.2 (height_low all_takes d (l.kept v) kept) own
+        others_low (λ n. n == k) all_takes l normal.0.1 exact (not_declared k l.declares other) (λ d v n w p off. rw off refl) d [] v sound normal.2 (height_low all_takes d (l.kept v) kept) own
         (of_any_number all_takes d (λ n. n == k || l.declares n) (l.kept v) kept)
 
     mutual

@@ -43,7 +43,7 @@ use Rattle.buffa_fields.specs.Nested.{FitsInside}
 use Rattle.buffa_fields.specs.NestedMapFacts.{pairs_back}
 use Rattle.buffa_fields.specs.NestedMaps.{pair_levels, pair_records, pair_slots}
 use Rattle.buffa_fields.specs.OrderedFacts.{ascending_put}
-use Rattle.buffa_fields.specs.PairFacts.{sound_parts}
+use Rattle.buffa_fields.specs.PairFacts.{not_declared, sound_parts}
 use Rattle.buffa_fields.specs.ValidFacts.{pair_valid}
 use Rattle.buffa_fields.specs.WrittenFacts.{height_low, of_any_number, taken_written}
 use Rattle.buffa_fields.specs.HeldMap.{AreNormalKids, IsNormalMapNest, Keys, KeysReadBack, kids_needed_at, all_reading, kids_taken_at, blank_map_nest, keys_by, held_map_shape, kids_shape, kid_levels, kid_reading, kid_records, kid_slots, kids_meant, map_nest_cost, map_nest_encoding, map_nest_layout, map_nest_levels, map_nest_merged, map_nest_need, map_nest_records, map_nest_slots, map_nest_takes}
@@ -239,7 +239,7 @@ module _ {K M X : Type 0} (keys : Keys K) (l : Layout M X) (k each : ℕ) where
         let own = subst (λ z. AllByRecursion Taken z) (sym (l.own_is k v)) (all_joined Taken (l.front k v) (l.behind k v)
         (front_holds Taken (l.front k v) (kid_records keys l k each ks ++ (l.behind k v ++ l.kept v)) all) (front_holds Taken (l.behind k v) (l.kept v) others)) in
         let other = (sound_parts k (l.declares k) (true && l.sound) (is_sound l k each normal.0.0 sound)).1 in
-        others_low k (kids_taken_at keys l k each) l normal.0.1 exact other (λ d v n w p off. rw off refl) d [] v sound normal.2 (height_low (kids_taken_at keys l k each) d (l.kept v) kept) own
+        others_low (λ n. n == k) (kids_taken_at keys l k each) l normal.0.1 exact (not_declared k l.declares other) (λ d v n w p off. rw off refl) d [] v sound normal.2 (height_low (kids_taken_at keys l k each) d (l.kept v) kept) own
         (of_any_number (kids_taken_at keys l k each) d (λ n. n == k || l.declares n) (l.kept v) kept)
 
     -- the kids, where each of them is the least

@@ -33,7 +33,7 @@ use Rattle.buffa_fields.specs.Levels.{AreExactLevels, IsTakenWritten}
 use Rattle.buffa_fields.specs.MemberRecords.{optional_records}
 use Rattle.buffa_fields.specs.Nested.{FitsInside, inside, message_cost, message_levels, message_merged, message_records, or_blank, taken_there}
 use Rattle.buffa_fields.specs.NestedFacts.{message_again}
-use Rattle.buffa_fields.specs.PairFacts.{sound_parts}
+use Rattle.buffa_fields.specs.PairFacts.{not_declared, sound_parts}
 use Rattle.buffa_fields.specs.ValidFacts.{optional_valid}
 use Rattle.buffa_fields.specs.ValueFacts.{delimited_whole}
 use Rattle.buffa_fields.specs.Values.{IfThere}
@@ -196,7 +196,7 @@ module _ {M X : Type 0} (l : Layout M X) (k : ℕ) where
         let own = subst (λ z. AllByRecursion Taken z) (sym (l.own_is k v)) (all_joined Taken (l.front k v) (l.behind k v)
         (front_holds Taken (l.front k v) (mine ++ (l.behind k v ++ l.kept v)) all) (front_holds Taken (l.behind k v) (l.kept v) others)) in
         let other = (sound_parts k (l.declares k) (true && l.sound) (is_chain_sound l k free sound)).1 in
-        others_low k all_takes l owes exact other (λ d v n w p off. rw off refl) d [] v sound normal (height_low all_takes d (l.kept v) kept) own
+        others_low (λ n. n == k) all_takes l owes exact (not_declared k l.declares other) (λ d v n w p off. rw off refl) d [] v sound normal (height_low all_takes d (l.kept v) kept) own
         (of_any_number all_takes d (λ n. n == k || l.declares n) (l.kept v) kept)
 
     -- of the records of a message that was merged, each was taken

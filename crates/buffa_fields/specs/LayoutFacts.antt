@@ -1,6 +1,6 @@
 -- What is proved of lists of members, whatever the members.
 use Rattle.std.proofs.Common.{◌≡◌, ◌≢◌, ℕ, ◌+◌, ◌==◌, ◌≤◌, min, Bool, true, false, List, [], ◌∷◌, ◌++◌, length, Some, Result, Ok, Err, IsOk, refl, sym, ap, subst, ◌∙◌, arith, append_assoc, append-nil, length-append}
-use Rattle.std.proofs.lemmas.Bool.{eqb-true, eqb-false}
+use Rattle.std.proofs.lemmas.Bool.{eq-eqb, ne_eqb}
 use Rattle.std.specs.List.{AllByRecursion}
 use Rattle.std.specs.Prelude.{IfErr}
 use Rattle.buffa_bytes.proofs.ListLemmas.{nil_first, nil_second}
@@ -20,13 +20,13 @@ use Rattle.buffa_wire.specs.Cache.{Cache, left}
 use Rattle.buffa_wire.proofs.PassLemmas.{appended_none, appended_twice, next_front, next_past, written_none, written_short, written_then}
 use Rattle.buffa_wire.specs.Records.{Datum, records_height, records_of}
 use Rattle.buffa_wire.specs.Encoding.{records_encoding}
-use Rattle.buffa_fields.specs.Layout.{Choice, Comes, Follow, IsCounted, IsPut, IsFieldKept, IsPutBehind, Layout, Passed, Seen, Shape, Took, both_need, both_take, more, passes, visited}
+use Rattle.buffa_fields.specs.Layout.{Choice, Comes, Follow, IsCounted, IsPut, IsFieldKept, IsPutBehind, Layout, Passed, Seen, Shape, more, passes, visited}
 use Rattle.buffa_wire.specs.Kept.{keep_need}
 use Rattle.buffa_fields.specs.Keep.{KeepTakesMemory, keep_takes}
 use Rattle.buffa_fields.specs.Stands.{IsMemberRefused}
 use Rattle.buffa_fields.specs.KeepFacts.{records_lead}
-use Rattle.buffa_fields.specs.PairFacts.{first_taken, readable_both, joined_back, other_taken}
-use Rattle.buffa_wire.specs.Takes.{IsTaken, Leads, Need, Piece, ReadsBack, Taker, cost_of, costs_nothing, joined_fields, merged_of}
+use Rattle.buffa_fields.specs.PairFacts.{readable_both, joined_back}
+use Rattle.buffa_wire.specs.Takes.{IsTaken, Leads, Piece, ReadsBack, cost_of, costs_nothing, joined_fields, merged_of}
 use Rattle.buffa_wire.proofs.TakesLemmas.{back as leads_back, skipped, skipped_full, taken_full, taken_merges}
 use Rattle.buffa_wire.proofs.EncodingLemmas.{records_encoding-append}
 use Rattle.buffa_wire.specs.Pinned.{done, refusal}
@@ -36,39 +36,12 @@ pub choose : {A B C : Type 0} (t : Bool) → Choice t A B → (t ≡ true → A 
 choose true h f g = f refl h
 choose false h f g = g refl h
 
--- ---- one member takes the field, or one of the others
-module _ {P X B : Type 0} (s : Shape P X) (k : ℕ) (g : Taker B) (gn : Need) (d : ℕ) (p q : P) (b c : B) (n : ℕ) (w : WireType) (bs : List ℕ) (before : BudgetLeft) (r : Result (Unit {0}) DecodeError) (after : BudgetLeft) (rest : List ℕ)
-    (S T : Type 0) (same : S → b ≡ c) (taken : T → IsTaken g gn d b n w bs before r c after rest) where
-  by_test : (t : Bool) → (n == k) ≡ t → Choice t (Took s d p n w bs before r q after rest × S) ((q ≡ p) × T) → IsTaken (both_take k s.takes g) (both_need k s.need gn) d (s.meaning p, b) n w bs before r (s.meaning q, c) after rest
-  unfolding Took
-  by_test true is (took, stay) =
-      subst (λ z. IsTaken (both_take k s.takes g) (both_need k s.need gn) d (s.meaning p, b) n w bs before r (s.meaning q, z) after rest) (same stay)
-      (first_taken k s.takes g s.need gn d (s.meaning p) b n w bs before r (s.meaning q) after rest (eqb-true n k is) took.0)
-  by_test false is (stay, h) =
-      subst (λ z. IsTaken (both_take k s.takes g) (both_need k s.need gn) d (s.meaning p, b) n w bs before r (s.meaning z, c) after rest) (sym stay)
-      (other_taken k s.takes g s.need gn d (s.meaning p) b n w bs before r c after rest (eqb-false n k is) (taken h))
+-- by a number: the first of the two is taken, or passed over
+pub chosen : {A : Type 0} (B : Type 0) (n k : ℕ) → n ≡ k → A → Choice (n == k) A B
+chosen B n k is a = rw (eq-eqb n k is) a
 
-  pub field_taken : Choice (n == k) (Took s d p n w bs before r q after rest × S) ((q ≡ p) × T) → IsTaken (both_take k s.takes g) (both_need k s.need gn) d (s.meaning p, b) n w bs before r (s.meaning q, c) after rest
-  field_taken h = by_test (n == k) refl h
-
--- memory runs out only where the member of the field asks for it
-pub field_asks : {P X : Type 0} (s : Shape P X) (k d : ℕ) (p q : P) (n : ℕ) (w : WireType) (bs : List ℕ) (before : BudgetLeft) (r : Result (Unit {0}) DecodeError) (after : BudgetLeft) (rest : List ℕ) (A S T : Type 0) →
-    (T → FullOnlyIf r A) → Choice (n == k) (Took s d p n w bs before r q after rest × S) ((q ≡ p) × T) → FullOnlyIf r (Choice (n == k) (s.asks d n w bs) A)
-unfolding Took
-field_asks s k d p q n w bs before r after rest A S T asks h = at (n == k) h
-  where
-    at : (t : Bool) → Choice t (Took s d p n w bs before r q after rest × S) ((q ≡ p) × T) → FullOnlyIf r (Choice t (s.asks d n w bs) A)
-    at true (took, stay) = took.1
-    at false (stay, h) = asks h
-
--- a refused field changes its member alone
-pub field_apart : {P X B : Type 0} (s : Shape P X) (k : ℕ) (Apart : ℕ → B → B → Type 0) (p q : P) (b c : B) (n : ℕ) (T S R : Type 0) → (S → b ≡ c) → (R → Apart n b c) →
-    Choice (n == k) (T × S) ((q ≡ p) × R) → Choice (n == k) (b ≡ c) ((s.meaning p ≡ s.meaning q) × Apart n b c)
-field_apart s k Apart p q b c n T S R same apart h = at (n == k) h
-  where
-    at : (t : Bool) → Choice t (T × S) ((q ≡ p) × R) → Choice t (b ≡ c) ((s.meaning p ≡ s.meaning q) × Apart n b c)
-    at true (took, stay) = same stay
-    at false (stay, h) = (ap s.meaning (sym stay), apart h)
+pub not_chosen : (A : Type 0) {B : Type 0} (n k : ℕ) → n ≢ k → B → Choice (n == k) A B
+not_chosen A n k other b = rw (ne_eqb n k other) b
 
 -- ---- fields that aren't declared
 -- what isn't so says anything
@@ -108,6 +81,10 @@ more_none z = λ i. record { sink = z.sink; before = z.before; cache = z.cache; 
 pub more_twice : (a b : List (ℕ × Datum)) (x y : List ℕ) (z : Seen) → more b y (more a x z) ≡ more (a ++ b) (x ++ y) z
 unfolding more
 more_twice a b x y z = λ i. record { sink = z.sink; before = z.before; cache = z.cache; first = z.first; records = append_assoc z.records a b i; slots = append_assoc z.slots x y i }
+
+-- what was seen first, and then more
+pub part_seen : (y x z : Seen) (a b : List (ℕ × Datum)) (s t : List ℕ) → y ≡ more b t x → x ≡ more a s z → y ≡ more (a ++ b) (s ++ t) z
+part_seen y x z a b s t h j = h ∙ ap (more b t) j ∙ more_twice a b s t z
 
 pub seen_field : {P X : Type 0} (s : Shape P X) (k : ℕ) (p : P) (b : List (ℕ × Datum)) (x : List ℕ) (z y : Seen) → y ≡ more b x (visited s k p z) →
     y ≡ more (s.records k (s.meaning p) ++ b) (s.slots (s.meaning p) ++ x) z

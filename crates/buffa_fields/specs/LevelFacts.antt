@@ -11,7 +11,6 @@ use Rattle.buffa_fields.specs.Aside.{AllAside, Aside, IsExactKeeping, Kept, asid
 use Rattle.buffa_fields.specs.Keep.{AllNumbers}
 use Rattle.buffa_fields.specs.Layout.{Choice, Layout, Shape}
 use Rattle.buffa_fields.specs.Levels.{IsTakenWritten}
-use Rattle.buffa_fields.specs.PairFacts.{is_other}
 
 -- ---- what holds of all records of some numbers
 pub front_holds : (P : ℕ × Datum → Type 0) (xs ys : List (ℕ × Datum)) → AllByRecursion P (xs ++ ys) → AllByRecursion P xs
@@ -22,39 +21,39 @@ pub back_holds : (P : ℕ × Datum → Type 0) (xs ys : List (ℕ × Datum)) →
 back_holds P [] ys h = h
 back_holds P (x ∷ xs) ys h = back_holds P xs ys h.1
 
-all_turn : (P Q : ℕ × Datum → Type 0) (S : ℕ → Bool) → ((y : ℕ × Datum) → S y.0 ≡ true → P y → Q y) → (ys : List (ℕ × Datum)) → AllNumbers S ys → AllByRecursion P ys → AllByRecursion Q ys
+pub all_turn : (P Q : ℕ × Datum → Type 0) (S : ℕ → Bool) → ((y : ℕ × Datum) → S y.0 ≡ true → P y → Q y) → (ys : List (ℕ × Datum)) → AllNumbers S ys → AllByRecursion P ys → AllByRecursion Q ys
 all_turn P Q S turn [] n h = tt
 all_turn P Q S turn (y ∷ ys) n h = (turn y n.0 h.0, all_turn P Q S turn ys n.1 h.1)
 
--- those of one number, and those of others
-pub both_numbers : (k : ℕ) (D : ℕ → Bool) (xs ys : List (ℕ × Datum)) → AllNumbers (λ n. n == k) xs → AllNumbers D ys → AllNumbers (λ n. n == k || D n) (xs ++ ys)
-both_numbers k D [] [] a b = tt
-both_numbers k D [] (y ∷ ys) a b = (or_right (y.0 == k) (D y.0) b.0, both_numbers k D [] ys tt b.1)
-both_numbers k D (x ∷ xs) ys a b = (or_left (x.0 == k) (D x.0) a.0, both_numbers k D xs ys a.1 b)
+-- those of some numbers, and those of others
+pub both_numbers : (mine : ℕ → Bool) (D : ℕ → Bool) (xs ys : List (ℕ × Datum)) → AllNumbers mine xs → AllNumbers D ys → AllNumbers (λ n. mine n || D n) (xs ++ ys)
+both_numbers mine D [] [] a b = tt
+both_numbers mine D [] (y ∷ ys) a b = (or_right (mine y.0) (D y.0) b.0, both_numbers mine D [] ys tt b.1)
+both_numbers mine D (x ∷ xs) ys a b = (or_left (mine x.0) (D x.0) a.0, both_numbers mine D xs ys a.1 b)
 
 pub some_mapped : {A B : Type 0} (set : A → B) (o : Option A) (u : B) → option_map set o ≡ Some u → (x : A) × (o ≡ Some x)
 some_mapped set None u h = cc
 some_mapped set (Some x) u h = (x, refl)
 
--- ---- of a field and the others, one takes a record
+-- ---- of a part and the others, one takes a record
 -- the others
-module _ {M A B : Type 0} (k : ℕ) (T : Taker (A × B)) (l : Layout M B) (owes : l.Owes) (exact : l.Exact) (other : l.declares k ≡ false)
-    (theirs : (d : ℕ) (v : A × B) (n : ℕ) (w : WireType) (p : List ℕ) → (n == k) ≡ false → T d v n w p ≡ option_map (λ y. (v.0, y)) (l.takes d v.1 n w p)) (d : ℕ) where
+module _ {M A B : Type 0} (mine : ℕ → Bool) (T : Taker (A × B)) (l : Layout M B) (owes : l.Owes) (exact : l.Exact) (other : (n : ℕ) → l.declares n ≡ true → mine n ≡ false)
+    (theirs : (d : ℕ) (v : A × B) (n : ℕ) (w : WireType) (p : List ℕ) → mine n ≡ false → T d v n w p ≡ option_map (λ y. (v.0, y)) (l.takes d v.1 n w p)) (d : ℕ) where
   abbrev beside : A → B → A × B
   beside a b = (a, b)
 
   other_one : (y : ℕ × Datum) → l.declares y.0 ≡ true → IsTakenWritten T d y → IsTakenWritten l.takes d y
   other_one y has (number, fits, low, v, u, h) =
-      let same = theirs d v y.0 (wire_of y.1) (payload_encoding y.0 y.1) (is_other k l.declares other y.0 has) in
+      let same = theirs d v y.0 (wire_of y.1) (payload_encoding y.0 y.1) (other y.0 has) in
       let t = some_mapped (beside v.0) (l.takes d v.1 y.0 (wire_of y.1) (payload_encoding y.0 y.1)) u (sym same ∙ h) in
       (number, fits, low, v.1, t.0, t.1)
 
-  other_kept : (ys : List (ℕ × Datum)) → AllByRecursion (λ y. (y.0 == k || l.declares y.0) ≡ true → IsTakenWritten T d y) ys → AllByRecursion (λ y. l.declares y.0 ≡ true → IsTakenWritten l.takes d y) ys
+  other_kept : (ys : List (ℕ × Datum)) → AllByRecursion (λ y. (mine y.0 || l.declares y.0) ≡ true → IsTakenWritten T d y) ys → AllByRecursion (λ y. l.declares y.0 ≡ true → IsTakenWritten l.takes d y) ys
   other_kept [] h = tt
-  other_kept (y ∷ ys) h = (λ has. other_one y has (h.0 (or_right (y.0 == k) (l.declares y.0) has)), other_kept ys h.1)
+  other_kept (y ∷ ys) h = (λ has. other_one y has (h.0 (or_right (mine y.0) (l.declares y.0) has)), other_kept ys h.1)
 
   pub others_low : (xs : List (ℕ × Datum)) (v : B) → l.sound ≡ true → l.normal v → height (l.kept v) ≤ d → AllByRecursion (IsTakenWritten T d) (xs ++ l.own v) →
-      AllByRecursion (λ y. (y.0 == k || l.declares y.0) ≡ true → IsTakenWritten T d y) (l.kept v) → l.levels v ≤ d
+      AllByRecursion (λ y. (mine y.0 || l.declares y.0) ≡ true → IsTakenWritten T d y) (l.kept v) → l.levels v ≤ d
   others_low xs v sound normal high own kept =
       l.least owes exact sound d v normal high
       (all_turn (IsTakenWritten T d) (IsTakenWritten l.takes d) l.declares other_one (l.own v) (l.numbers owes exact v) (back_holds (IsTakenWritten T d) xs (l.own v) own))
@@ -73,12 +72,11 @@ module _ {A B Z : Type 0} (k : ℕ) (T : Taker (A × B)) (f : Taker Z) (held : A
   firsts xs ys n h = all_turn (IsTakenWritten T d) (IsTakenWritten f d) (λ n. n == k) first_one xs n (front_holds (IsTakenWritten T d) xs ys h)
 
 -- ---- records that were put aside
-module _ {P A B : Type 0} (k : ℕ) (s : Shape P A) (a : Aside A) (adds : B → Kept → B) (D : ℕ → Bool) (T : Taker (A × B)) (exact : IsExactKeeping s a) (d : ℕ)
-    (one : (y : ℕ × Datum) → (y.0 == k) ≡ true → IsTakenWritten T d y → IsTakenWritten a.takes d y) where
-  aside_one : (y : ℕ × Datum) (t : Bool) → (y.0 == k) ≡ t → Choice t (a.IsAside y.1) (Unit {0}) → ((y.0 == k || D y.0) ≡ true → IsTakenWritten T d y) → (if t then a.levels y.1 else 0) ≤ d
-  aside_one y true is aside taken = exact.aside y.0 d y.1 aside (one y is (taken (or_left (y.0 == k) (D y.0) is)))
+module _ {P A : Type 0} (k : ℕ) (s : Shape P A) (a : Aside A) (exact : IsExactKeeping s a) (d : ℕ) where
+  aside_one : (y : ℕ × Datum) (t : Bool) → (y.0 == k) ≡ t → Choice t (a.IsAside y.1) (Unit {0}) → ((y.0 == k) ≡ true → IsTakenWritten a.takes d y) → (if t then a.levels y.1 else 0) ≤ d
+  aside_one y true is aside taken = exact.aside y.0 d y.1 aside (taken is)
   aside_one y false is aside taken = omega arith
 
-  pub aside_low : (ys : Kept) → AllAside k a.IsAside ys → AllByRecursion (λ y. (y.0 == k || D y.0) ≡ true → IsTakenWritten T d y) ys → aside_levels k a.levels ys ≤ d
+  pub aside_low : (ys : Kept) → AllAside k a.IsAside ys → AllByRecursion (λ y. (y.0 == k) ≡ true → IsTakenWritten a.takes d y) ys → aside_levels k a.levels ys ≤ d
   aside_low [] all h = omega arith
   aside_low (y ∷ ys) all h = omega (arith, aside_one y (y.0 == k) refl all.0 h.0, aside_low ys all.1 h.1)

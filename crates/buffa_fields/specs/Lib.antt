@@ -12,7 +12,17 @@ pub mod LayoutFacts
 pub mod Aside
 pub mod AsideFacts
 pub mod PlaceFacts
+pub mod Parts
+pub mod PartFacts
+pub mod MemberParts
+pub mod MemberPartFacts
 pub mod Members
+pub mod Cases
+pub mod CasesFacts
+pub mod OneOfParts
+pub mod OneOfFacts
+pub mod OneOf
+pub mod OneOfPinned
 pub mod MemberRecords
 pub mod Stands
 pub mod Calls

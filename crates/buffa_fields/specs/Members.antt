@@ -1,226 +1,135 @@
 -- Lists of members. A message names its members by these, one after the other.
-use Rattle.std.specs.Option.{option_map}
-use Rattle.std.specs.Prelude.{◌≡◌, ℕ, ◌==◌, ◌&&◌, ◌||◌, true, false, not, nat_lt, max, List, [], ◌++◌, Result, Err, refl, if◌then◌else◌}
+use Rattle.std.specs.Prelude.{◌≡◌, ℕ, ◌||◌, true, false, nat_lt, List, [], ◌++◌, refl, if◌then◌else◌}
 use Rattle.std.proofs.Common.{sym, ap, ◌∙◌, arith, append_assoc, append-nil}
-use Rattle.std.proofs.lemmas.Bool.{and_parts}
-use Rattle.buffa_bytes.specs.declared.error.DecodeError.{DecodeError}
-use Rattle.buffa_bytes.specs.declared.wire_type.WireType.{WireType}
 use Rattle.buffa_wire.specs.Parse.{AreValid}
 use Rattle.buffa_wire.specs.ReadableFacts.{valid_joined}
 use Rattle.buffa_wire.specs.Records.{Datum, height, records_of}
 use Rattle.buffa_wire.specs.Encoding.{records_encoding}
 use Rattle.buffa_wire.specs.Kept.{keep_need}
-use Rattle.buffa_fields.specs.Keep.{AllNumbers, KeepTakesMemory, keep_takes}
 use Rattle.buffa_wire.proofs.KeepLemmas.{keep_stays}
-use Rattle.buffa_fields.specs.KeepFacts.{keep_again}
 use Rattle.buffa_wire.specs.Takes.{Taker, costs_nothing}
-use Rattle.buffa_fields.specs.Layout.{Choice, IsFieldKept, Layout, Passed, ReadsBackTo, Shape, Took, both_need, both_take, is_number, more, passes, visited}
-use Rattle.buffa_fields.specs.LayoutFacts.{field_apart, field_asks, field_taken, is_kept, kept_asks, kept_stays, is_passed, none_keep, passed_asks, more_none, seen_field}
+use Rattle.buffa_fields.specs.Aside.{Aside}
 use Rattle.buffa_fields.specs.BackFacts.{no_pieces}
-use Rattle.buffa_fields.specs.PairFacts.{both_again, both_back, both_stay, readable_both, sound_parts}
-use Rattle.buffa_fields.specs.PlaceFacts.{behind_reads_back, behind_seen, front_reads_back, front_seen, others_back, owes_in_two, own_in_two, slots_in_two, slots_then}
-use Rattle.buffa_fields.specs.Aside.{AllAside, Aside, Kept, ReadsBackBeside, TookBeside, aside_levels, beside_take, kept_among}
-use Rattle.buffa_fields.specs.AsideFacts.{beside_again, beside_back, kept_field_apart, kept_field_asks, kept_field_taken}
-use Rattle.buffa_fields.specs.LevelFacts.{aside_low, both_numbers, first_one, firsts, others_low}
+use Rattle.buffa_fields.specs.Keep.{KeepTakesMemory, keep_takes}
+use Rattle.buffa_fields.specs.KeepFacts.{keep_again}
+use Rattle.buffa_fields.specs.Layout.{Choice, IsFieldKept, Layout, Passed, Shape, more, passes}
+use Rattle.buffa_fields.specs.LayoutFacts.{is_kept, kept_asks, kept_stays, is_passed, none_keep, passed_asks, more_none, part_seen}
+use Rattle.buffa_fields.specs.LevelFacts.{both_numbers, others_low}
+use Rattle.buffa_fields.specs.MemberPartFacts.{keeping_laws, member_laws}
+use Rattle.buffa_fields.specs.MemberParts.{keeping_part, member_part}
+use Rattle.buffa_fields.specs.PairFacts.{either_stays, readable_both}
+use Rattle.buffa_fields.specs.PartFacts.{mine_front, mine_kept, part_again, part_apart, part_asks, part_back, part_is_taken, theirs_back}
+use Rattle.buffa_fields.specs.Parts.{Part, PartLaws, part_need, part_take}
+use Rattle.buffa_fields.specs.PlaceFacts.{behind_reads_back, behind_seen, front_reads_back, front_seen, owes_in_two, own_in_two, slots_in_two, slots_then}
+
+-- a part, and the others
+abbrev pub part : {M A B : Type 0} (p : Part M A) → PartLaws p → Layout M B → Layout M (A × B)
+part {A = A} {B = B} p laws l = record {
+  meaning = λ m. (p.meaning m, l.meaning m);
+  blank = (p.blank, l.blank);
+  takes = part_take p.mine (p.takes l.adds) l.takes;
+  asks = λ left d n w bs. Choice (p.mine n) (p.asks left d n w bs) (l.asks left d n w bs);
+  need = part_need p.mine p.need l.need;
+  records = λ v. p.records v.0 ++ l.records v.1;
+  slots = λ v. p.slots v.0 ++ l.slots v.1;
+  levels = λ v. p.levels v.0 (l.levels v.1) (l.kept v.1);
+  normal = λ v. p.normal v.0 × l.normal v.1 × p.Beside (l.kept v.1);
+  declares = λ n. p.mine n || l.declares n;
+  sound = p.sound l.declares l.keeps l.sound;
+  keeps = l.keeps;
+  kept = λ v. l.kept v.1;
+  adds = λ v rs. (v.0, l.adds v.1 rs);
+  bare = λ v. (v.0, l.bare v.1);
+  own = λ v. p.records v.0 ++ l.own v.1;
+  front = λ j v. if nat_lt p.place j then p.records v.0 ++ l.front j v.1 else [];
+  behind = λ j v. if nat_lt p.place j then l.behind j v.1 else p.records v.0 ++ l.own v.1;
+  front_slots = λ j v rest. if nat_lt p.place j then p.slots v.0 ++ l.front_slots j v.1 rest else rest;
+  slots_behind = λ j v. if nat_lt p.place j then l.slots_behind j v.1 else p.slots v.0 ++ l.slots v.1;
+  only_front = λ j v. if nat_lt p.place j then (v.0, l.only_front j v.1) else (p.blank, l.blank);
+  OwesFront = λ j. Choice (nat_lt p.place j) (p.Owes × l.OwesFront j) (Unit {0});
+  OwesBehind = λ j. Choice (nat_lt p.place j) (l.OwesBehind j) (p.Owes × l.Owes);
+  Same = λ a b. p.Same a b × l.Same a b;
+  SameBut = λ a b. p.Same a b × l.SameBut a b;
+  Taken = λ d old n w bs before r new after rest.
+      Choice (p.mine n) (p.Took d old (l.kept (l.meaning old)) n w bs before r new (l.kept (l.meaning new)) after rest × p.Others l.Same l.SameBut old new) (p.Same old new × l.Taken d old n w bs before r new after rest);
+  Apart = λ n v u. Choice (p.mine n) (v.1 ≡ u.1) ((v.0 ≡ u.0) × l.Apart n v.1 u.1);
+  apart = λ d old n w bs before e new after rest h. part_apart p laws l d old n w bs before e new after rest h;
+  seen = λ m z. l.seen m (p.seen m z);
+  seen_front = λ j m z. if nat_lt p.place j then l.seen_front j m (p.seen m z) else z;
+  seen_behind = λ j m z. if nat_lt p.place j then l.seen_behind j m z else l.seen m (p.seen m z);
+  stays = either_stays p.mine p.need l.need laws.stays l.stays;
+  same_is = λ a b h. λ i. (laws.same_is a b h.0 i, l.same_is a b h.1 i);
+  same_but = λ a b rs h is. λ i. (sym (laws.same_is a b h.0) i, l.same_but a b rs h.1 is i);
+  taken_is = λ d old n w bs before r new after rest h. part_is_taken p laws l d old n w bs before r new after rest h;
+  asks_is = λ d old n w bs before r new after rest h. part_asks p laws l d old n w bs before r new after rest h;
+  seen_is = λ m z. part_seen (l.seen m (p.seen m z)) (p.seen m z) z (p.records (p.meaning m)) (l.records (l.meaning m)) (p.slots (p.meaning m)) (l.slots (l.meaning m)) (l.seen_is m (p.seen m z)) (laws.seen_is m z);
+  seen_front_is = λ j m z.
+      front_seen (p.records (p.meaning m)) (p.slots (p.meaning m)) (p.seen m z) z (laws.seen_is m z) (nat_lt p.place j) (l.front j (l.meaning m)) (l.front_slots j (l.meaning m) []) (l.seen_front j m (p.seen m z)) (l.seen_front_is j m (p.seen m z));
+  seen_behind_is = λ j m z.
+      behind_seen (p.records (p.meaning m)) (p.slots (p.meaning m)) (p.seen m z) z (laws.seen_is m z) (nat_lt p.place j) (l.behind j (l.meaning m)) (l.own (l.meaning m)) (l.kept (l.meaning m)) (l.records (l.meaning m))
+      (l.slots_behind j (l.meaning m)) (l.slots (l.meaning m)) (l.seen_behind j m z) (l.seen m (p.seen m z)) (l.in_two (l.meaning m)) (l.seen_behind_is j m z) (l.seen_is m (p.seen m z));
+  own_is = λ j v. own_in_two (nat_lt p.place j) (p.records v.0) (l.own v.1) (l.front j v.1) (l.behind j v.1) (l.own_is j v.1);
+  slots_are = λ j v. slots_in_two (nat_lt p.place j) (p.slots v.0) (l.slots v.1) (l.slots_behind j v.1) (l.front_slots j v.1) (l.slots_are j v.1);
+  front_slots_are = λ j v rest. slots_then (nat_lt p.place j) (p.slots v.0) (l.front_slots j v.1) rest (l.front_slots_are j v.1 rest);
+  adds_none = λ v. λ i. (v.0, l.adds_none v.1 i);
+  adds_twice = λ v x y. λ i. (v.0, l.adds_twice v.1 x y i);
+  adds_kept = λ has v rs. l.adds_kept has v.1 rs;
+  adds_own = λ v rs. ap (λ (z : List (ℕ × Datum)). p.records v.0 ++ z) (l.adds_own v.1 rs);
+  adds_front = λ j v rs. λ i. if nat_lt p.place j then p.records v.0 ++ l.adds_front j v.1 rs i else [];
+  adds_behind = λ j v rs. λ i. if nat_lt p.place j then l.adds_behind j v.1 rs i else p.records v.0 ++ l.adds_own v.1 rs i;
+  whole = λ v. λ i. (v.0, l.whole v.1 i);
+  in_two = λ v. ap (λ (z : List (ℕ × Datum)). p.records v.0 ++ z) (l.in_two v.1) ∙ sym (append_assoc (p.records v.0) (l.own v.1) (l.kept v.1));
+  kept_low = λ v. omega (arith, l.kept_low v.1, laws.others_low v.0 (l.levels v.1) (l.kept v.1));
+  Owes = p.Owes × l.Owes;
+  valid = λ owes ok v normal.
+      let fine = laws.fine l.declares l.keeps l.sound ok in
+      valid_joined (p.records v.0) (l.records v.1) (laws.valid owes.0 fine.0 v.0 normal.0) (l.valid owes.1 fine.2 v.1 normal.1);
+  back = λ owes ok d v fits normal low.
+      let fine = laws.fine l.declares l.keeps l.sound ok in
+      let each = readable_both (p.records v.0) (l.own v.1) fits in
+      let others = laws.others_low v.0 (l.levels v.1) (l.kept v.1) in
+      part_back p.mine l.declares fine.1 (p.takes l.adds) l.takes d (p.blank, l.blank) v.0 l.blank (l.bare v.1) (p.records v.0) (l.own v.1)
+      (laws.back owes.0 fine.0 l.adds l.adds_none l.adds_twice d v.0 (l.levels v.1) (l.kept v.1) l.blank each.0 normal.0 low) (l.back owes.1 fine.2 d v.1 each.1 normal.1 (omega (arith, low, others)));
+  again = λ owes ok d v normal low.
+      let fine = laws.fine l.declares l.keeps l.sound ok in
+      let others = laws.others_low v.0 (l.levels v.1) (l.kept v.1) in
+      part_again p.mine l.declares fine.1 (p.takes l.adds) l.takes l.adds d (l.kept v.1) (laws.again owes.0 l.adds d v.0 (l.levels v.1) (l.kept v.1) normal.2 low)
+      (l.again owes.1 fine.2 d v.1 normal.1 (omega (arith, low, others)));
+  owes_both = λ j front behind. owes_in_two (nat_lt p.place j) (l.owes_both j) front behind;
+  back_front = λ owes ok j d v fits normal low.
+      let fine = laws.fine l.declares l.keeps l.sound ok in
+      let each = readable_both (p.records v.0) (l.own v.1) fits in
+      let others = laws.others_low v.0 (l.levels v.1) (l.kept v.1) in
+      front_reads_back (part_take p.mine (p.takes l.adds) l.takes) (λ n. p.mine n || l.declares n) d (nat_lt p.place j) (p.blank, l.blank) (v.0, l.only_front j v.1) (p.records v.0 ++ l.front j v.1)
+      (part_back p.mine l.declares fine.1 (p.takes l.adds) l.takes d (p.blank, l.blank) v.0 l.blank (l.only_front j v.1) (p.records v.0) (l.front j v.1)
+      (laws.back owes.0 fine.0 l.adds l.adds_none l.adds_twice d v.0 (l.levels v.1) (l.kept v.1) l.blank each.0 normal.0 low) (l.back_front owes.1 fine.2 j d v.1 each.1 normal.1 (omega (arith, low, others))));
+  back_behind = λ owes ok j d v fits normal low.
+      let fine = laws.fine l.declares l.keeps l.sound ok in
+      let each = readable_both (p.records v.0) (l.own v.1) fits in
+      let others = laws.others_low v.0 (l.levels v.1) (l.kept v.1) in
+      let all : Taker (A × B) = part_take p.mine (p.takes l.adds) l.takes in
+      behind_reads_back all (λ n. p.mine n || l.declares n) d (nat_lt p.place j) (p.blank, l.blank) (v.0, l.only_front j v.1) (v.0, l.bare v.1) (l.behind j v.1) (p.records v.0 ++ l.own v.1)
+      (theirs_back p.mine l.declares fine.1 (p.takes l.adds) l.takes d v.0 (l.only_front j v.1) (l.bare v.1) (records_encoding (l.behind j v.1)) (l.back_behind owes.1 fine.2 j d v.1 each.1 normal.1 (omega (arith, low, others))))
+      (part_back p.mine l.declares fine.1 (p.takes l.adds) l.takes d (p.blank, l.blank) v.0 l.blank (l.bare v.1) (p.records v.0) (l.own v.1)
+      (laws.back owes.0 fine.0 l.adds l.adds_none l.adds_twice d v.0 (l.levels v.1) (l.kept v.1) l.blank each.0 normal.0 low) (l.back owes.1 fine.2 d v.1 each.1 normal.1 (omega (arith, low, others))));
+  Exact = p.Exact × l.Exact;
+  numbers = λ owes exact v. both_numbers p.mine l.declares (p.records v.0) (l.own v.1) (laws.numbers owes.0 exact.0 v.0) (l.numbers owes.1 exact.1 v.1);
+  least = λ owes exact ok d v normal high own kept.
+      let fine = laws.fine l.declares l.keeps l.sound ok in
+      let all : Taker (A × B) = part_take p.mine (p.takes l.adds) l.takes in
+      let others = others_low p.mine all l owes.1 exact.1 fine.1 (λ d v n w q off. rw off refl) d (p.records v.0) v.1 fine.2 normal.1 high own kept in
+      laws.least owes.0 exact.0 fine.0 l.adds d v.0 (l.levels v.1) (l.kept v.1) normal.0 normal.2 others
+      (mine_front p.mine l.declares fine.1 (p.takes l.adds) l.takes d (p.records v.0) (l.own v.1) (laws.numbers owes.0 exact.0 v.0) own)
+      (mine_kept p.mine l.declares fine.1 (p.takes l.adds) l.takes d (l.kept v.1) kept);
+}
 
 -- a member under a number, and the others
 abbrev pub field : {M P A B : Type 0} → ℕ → (M → P) → Shape P A → Layout M B → Layout M (A × B)
-field {M} {P} {A} {B} k get s l = record {
-  meaning = λ m. (s.meaning (get m), l.meaning m);
-  blank = (s.blank, l.blank);
-  takes = both_take k s.takes l.takes;
-  asks = λ left d n w bs. Choice (n == k) (s.asks d n w bs) (l.asks left d n w bs);
-  need = both_need k s.need l.need;
-  records = λ v. s.records k v.0 ++ l.records v.1;
-  slots = λ v. s.slots v.0 ++ l.slots v.1;
-  levels = λ v. max (s.levels v.0) (l.levels v.1);
-  normal = λ v. s.normal v.0 × l.normal v.1 × AllNumbers (λ n. not (n == k)) (l.kept v.1);
-  declares = λ n. n == k || l.declares n;
-  sound = is_number k && not (l.declares k) && (s.whole && l.sound);
-  keeps = l.keeps;
-  kept = λ v. l.kept v.1;
-  adds = λ v rs. (v.0, l.adds v.1 rs);
-  bare = λ v. (v.0, l.bare v.1);
-  own = λ v. s.records k v.0 ++ l.own v.1;
-  front = λ j v. if nat_lt k j then s.records k v.0 ++ l.front j v.1 else [];
-  behind = λ j v. if nat_lt k j then l.behind j v.1 else s.records k v.0 ++ l.own v.1;
-  front_slots = λ j v rest. if nat_lt k j then s.slots v.0 ++ l.front_slots j v.1 rest else rest;
-  slots_behind = λ j v. if nat_lt k j then l.slots_behind j v.1 else s.slots v.0 ++ l.slots v.1;
-  only_front = λ j v. if nat_lt k j then (v.0, l.only_front j v.1) else (s.blank, l.blank);
-  OwesFront = λ j. Choice (nat_lt k j) (ReadsBackTo s × l.OwesFront j) (Unit {0});
-  OwesBehind = λ j. Choice (nat_lt k j) (l.OwesBehind j) (ReadsBackTo s × l.Owes);
-  Same = λ a b. (get b ≡ get a) × l.Same a b;
-  SameBut = λ a b. (get b ≡ get a) × l.SameBut a b;
-  Taken = λ d old n w bs before r new after rest. Choice (n == k) (Took s d (get old) n w bs before r (get new) after rest × l.Same old new) ((get new ≡ get old) × l.Taken d old n w bs before r new after rest);
-  Apart = λ n v u. Choice (n == k) (v.1 ≡ u.1) ((v.0 ≡ u.0) × l.Apart n v.1 u.1);
-  apart = λ d old n w bs before e new after rest h.
-      field_apart s k l.Apart (get old) (get new) (l.meaning old) (l.meaning new) n (Took s d (get old) n w bs before (let r : Result (Unit {0}) DecodeError = Err e in r) (get new) after rest) (l.Same old new) (l.Taken d old n w bs before (let r : Result (Unit {0}) DecodeError = Err e in r) new after rest) (l.same_is old new) (l.apart d old n w bs before e new after rest) h;
-  seen = λ m z. l.seen m (visited s k (get m) z);
-  seen_front = λ j m z. if nat_lt k j then l.seen_front j m (visited s k (get m) z) else z;
-  seen_behind = λ j m z. if nat_lt k j then l.seen_behind j m z else l.seen m (visited s k (get m) z);
-  stays = both_stay k s.need l.need s.stays l.stays;
-  same_is = λ a b h. λ i. (s.meaning (sym h.0 i), l.same_is a b h.1 i);
-  same_but = λ a b rs h is. λ i. (s.meaning (h.0 i), l.same_but a b rs h.1 is i);
-  taken_is = λ d old n w bs before r new after rest h.
-      field_taken s k l.takes l.need d (get old) (get new) (l.meaning old) (l.meaning new) n w bs before r after rest (l.Same old new) (l.Taken d old n w bs before r new after rest) (l.same_is old new) (l.taken_is d old n w bs before r new after rest) h;
-  asks_is = λ d old n w bs before r new after rest h.
-      field_asks s k d (get old) (get new) n w bs before r after rest (l.asks before.unknown d n w bs) (l.Same old new) (l.Taken d old n w bs before r new after rest) (l.asks_is d old n w bs before r new after rest) h;
-  seen_is = λ m z. seen_field s k (get m) (l.records (l.meaning m)) (l.slots (l.meaning m)) z (l.seen m (visited s k (get m) z)) (l.seen_is m (visited s k (get m) z));
-  seen_front_is = λ j m z. front_seen s k (get m) (nat_lt k j) (l.front j (l.meaning m)) (l.front_slots j (l.meaning m) []) z (l.seen_front j m (visited s k (get m) z)) (l.seen_front_is j m (visited s k (get m) z));
-  seen_behind_is = λ j m z. behind_seen s k (get m) (nat_lt k j) (l.behind j (l.meaning m)) (l.own (l.meaning m)) (l.kept (l.meaning m)) (l.records (l.meaning m)) (l.slots_behind j (l.meaning m)) (l.slots (l.meaning m)) z (l.seen_behind j m z) (l.seen m (visited s k (get m) z)) (l.in_two (l.meaning m)) (l.seen_behind_is j m z) (l.seen_is m (visited s k (get m) z));
-  own_is = λ j v. own_in_two (nat_lt k j) (s.records k v.0) (l.own v.1) (l.front j v.1) (l.behind j v.1) (l.own_is j v.1);
-  slots_are = λ j v. slots_in_two (nat_lt k j) (s.slots v.0) (l.slots v.1) (l.slots_behind j v.1) (l.front_slots j v.1) (l.slots_are j v.1);
-  front_slots_are = λ j v rest. slots_then (nat_lt k j) (s.slots v.0) (l.front_slots j v.1) rest (l.front_slots_are j v.1 rest);
-  adds_none = λ v. λ i. (v.0, l.adds_none v.1 i);
-  adds_twice = λ v x y. λ i. (v.0, l.adds_twice v.1 x y i);
-  adds_kept = λ has v rs. l.adds_kept has v.1 rs;
-  adds_own = λ v rs. ap (λ (z : List (ℕ × Datum)). s.records k v.0 ++ z) (l.adds_own v.1 rs);
-  adds_front = λ j v rs. λ i. if nat_lt k j then s.records k v.0 ++ l.adds_front j v.1 rs i else [];
-  adds_behind = λ j v rs. λ i. if nat_lt k j then l.adds_behind j v.1 rs i else s.records k v.0 ++ l.adds_own v.1 rs i;
-  whole = λ v. λ i. (v.0, l.whole v.1 i);
-  in_two = λ v. ap (λ (z : List (ℕ × Datum)). s.records k v.0 ++ z) (l.in_two v.1) ∙ sym (append_assoc (s.records k v.0) (l.own v.1) (l.kept v.1));
-  kept_low = λ v. omega (arith, l.kept_low v.1);
-  Owes = ReadsBackTo s × l.Owes;
-  valid = λ owes ok v normal.
-      let sound = sound_parts k (l.declares k) (s.whole && l.sound) ok in
-      valid_joined (s.records k v.0) (l.records v.1) (owes.0.valid k sound.0 v.0 normal.0) (l.valid owes.1 (and_parts s.whole l.sound sound.2).1 v.1 normal.1);
-  back = λ owes ok d v fits normal low.
-      let sound = sound_parts k (l.declares k) (s.whole && l.sound) ok in
-      let each = readable_both (s.records k v.0) (l.own v.1) fits in
-      both_back k s.takes l.takes l.declares sound.1 d s.blank v.0 l.blank (l.bare v.1) (s.records k v.0) (l.own v.1)
-      (owes.0.back k sound.0 d v.0 each.0 normal.0 (omega (arith, low))) (l.back owes.1 (and_parts s.whole l.sound sound.2).1 d v.1 each.1 normal.1 (omega (arith, low)));
-  again = λ owes ok d v normal low.
-      let sound = sound_parts k (l.declares k) (s.whole && l.sound) ok in
-      both_again k s.takes l.takes l.adds d (l.kept v.1) normal.2 (l.again owes.1 (and_parts s.whole l.sound sound.2).1 d v.1 normal.1 (omega (arith, low)));
-  owes_both = λ j front behind. owes_in_two (nat_lt k j) (l.owes_both j) front behind;
-  back_front = λ owes ok j d v fits normal low.
-      let sound = sound_parts k (l.declares k) (s.whole && l.sound) ok in
-      let each = readable_both (s.records k v.0) (l.own v.1) fits in
-      front_reads_back (both_take k s.takes l.takes) (λ n. n == k || l.declares n) d (nat_lt k j) (s.blank, l.blank) (v.0, l.only_front j v.1) (s.records k v.0 ++ l.front j v.1)
-      (both_back k s.takes l.takes l.declares sound.1 d s.blank v.0 l.blank (l.only_front j v.1) (s.records k v.0) (l.front j v.1)
-      (owes.0.back k sound.0 d v.0 each.0 normal.0 (omega (arith, low))) (l.back_front owes.1 (and_parts s.whole l.sound sound.2).1 j d v.1 each.1 normal.1 (omega (arith, low))));
-  back_behind = λ owes ok j d v fits normal low.
-      let sound = sound_parts k (l.declares k) (s.whole && l.sound) ok in
-      let each = readable_both (s.records k v.0) (l.own v.1) fits in
-      let all : Taker (A × B) = both_take k s.takes l.takes in
-      behind_reads_back all (λ n. n == k || l.declares n) d (nat_lt k j) (s.blank, l.blank) (v.0, l.only_front j v.1) (v.0, l.bare v.1) (l.behind j v.1) (s.records k v.0 ++ l.own v.1)
-      (others_back k l.declares sound.1 all l.takes (λ d a b u n w p off h. rw (off, h) refl) d v.0 (l.only_front j v.1) (l.bare v.1) (records_encoding (l.behind j v.1))
-      (l.back_behind owes.1 (and_parts s.whole l.sound sound.2).1 j d v.1 each.1 normal.1 (omega (arith, low))))
-      (both_back k s.takes l.takes l.declares sound.1 d s.blank v.0 l.blank (l.bare v.1) (s.records k v.0) (l.own v.1)
-      (owes.0.back k sound.0 d v.0 each.0 normal.0 (omega (arith, low))) (l.back owes.1 (and_parts s.whole l.sound sound.2).1 d v.1 each.1 normal.1 (omega (arith, low))));
-  Exact = s.Exact × l.Exact;
-  numbers = λ owes exact v. both_numbers k l.declares (s.records k v.0) (l.own v.1) ((owes.0.exact exact.0).numbers k v.0) (l.numbers owes.1 exact.1 v.1);
-  least = λ owes exact ok d v normal high own kept.
-      let sound = sound_parts k (l.declares k) (s.whole && l.sound) ok in
-      let one = owes.0.exact exact.0 in
-      let all : Taker (A × B) = both_take k s.takes l.takes in
-      let first = one.least k d v.0 normal.0 (firsts k all s.takes (λ a. a) d (λ v n w p is. (λ x. (x, v.1), rw is refl)) (s.records k v.0) (l.own v.1) (one.numbers k v.0) own) in
-      let others = others_low k all l owes.1 exact.1 sound.1 (λ d v n w p off. rw off refl) d (s.records k v.0) v.1 (and_parts s.whole l.sound sound.2).1 normal.1 high own kept in
-      omega (arith, first, others);
-}
+field k get s l = part (member_part k get s) (member_laws k get s) l
 
 -- the same of a member that puts aside what it doesn't understand, among the fields that are kept
 abbrev pub field_kept : {M P A B : Type 0} → ℕ → (M → P) → Shape P A → Aside A → Layout M B → Layout M (A × B)
-field_kept {M} {P} {A} {B} k get s a l = record {
-  meaning = λ m. (s.meaning (get m), l.meaning m);
-  blank = (s.blank, l.blank);
-  takes = beside_take k a.takes l.adds l.takes;
-  asks = λ left d n w bs. Choice (n == k) (a.asks left d n w bs) (l.asks left d n w bs);
-  need = both_need k a.need l.need;
-  records = λ v. s.records k v.0 ++ l.records v.1;
-  slots = λ v. s.slots v.0 ++ l.slots v.1;
-  levels = λ v. max (s.levels v.0) (max (l.levels v.1) (aside_levels k a.levels (l.kept v.1)));
-  normal = λ v. s.normal v.0 × l.normal v.1 × AllAside k a.IsAside (l.kept v.1);
-  declares = λ n. n == k || l.declares n;
-  sound = is_number k && not (l.declares k) && (l.keeps && l.sound);
-  keeps = l.keeps;
-  kept = λ v. l.kept v.1;
-  adds = λ v rs. (v.0, l.adds v.1 rs);
-  bare = λ v. (v.0, l.bare v.1);
-  own = λ v. s.records k v.0 ++ l.own v.1;
-  front = λ j v. if nat_lt k j then s.records k v.0 ++ l.front j v.1 else [];
-  behind = λ j v. if nat_lt k j then l.behind j v.1 else s.records k v.0 ++ l.own v.1;
-  front_slots = λ j v rest. if nat_lt k j then s.slots v.0 ++ l.front_slots j v.1 rest else rest;
-  slots_behind = λ j v. if nat_lt k j then l.slots_behind j v.1 else s.slots v.0 ++ l.slots v.1;
-  only_front = λ j v. if nat_lt k j then (v.0, l.only_front j v.1) else (s.blank, l.blank);
-  OwesFront = λ j. Choice (nat_lt k j) (ReadsBackBeside s a × l.OwesFront j) (Unit {0});
-  OwesBehind = λ j. Choice (nat_lt k j) (l.OwesBehind j) (ReadsBackBeside s a × l.Owes);
-  Same = λ a b. (get b ≡ get a) × l.Same a b;
-  SameBut = λ a b. (get b ≡ get a) × l.SameBut a b;
-  Taken = λ d old n w bs before r new after rest.
-      Choice (n == k) (TookBeside s a d (get old) (l.kept (l.meaning old)) n w bs before r (get new) (l.kept (l.meaning new)) after rest × l.SameBut old new) ((get new ≡ get old) × l.Taken d old n w bs before r new after rest);
-  Apart = λ n x y. Choice (n == k) (x.1 ≡ y.1) ((x.0 ≡ y.0) × l.Apart n x.1 y.1);
-  apart = λ d old n w bs before e new after rest h.
-      kept_field_apart s a k d (get old) (get new) (l.meaning old) (l.meaning new) (l.kept (l.meaning old)) (l.kept (l.meaning new)) n w bs before after rest l.adds (l.SameBut old new) (l.Taken d old n w bs before (let r : Result (Unit {0}) DecodeError = Err e in r) new after rest)
-      (λ h rs. l.same_but old new rs h) (l.adds_none (l.meaning old)) l.Apart (l.apart d old n w bs before e new after rest) e h;
-  seen = λ m z. l.seen m (visited s k (get m) z);
-  seen_front = λ j m z. if nat_lt k j then l.seen_front j m (visited s k (get m) z) else z;
-  seen_behind = λ j m z. if nat_lt k j then l.seen_behind j m z else l.seen m (visited s k (get m) z);
-  stays = both_stay k a.need l.need a.stays l.stays;
-  same_is = λ a b h. λ i. (s.meaning (sym h.0 i), l.same_is a b h.1 i);
-  same_but = λ a b rs h is. λ i. (s.meaning (h.0 i), l.same_but a b rs h.1 is i);
-  taken_is = λ d old n w bs before r new after rest h.
-      kept_field_taken s a k d (get old) (get new) (l.meaning old) (l.meaning new) (l.kept (l.meaning old)) (l.kept (l.meaning new)) n w bs before after rest l.adds (l.SameBut old new) (l.Taken d old n w bs before r new after rest)
-      (λ h rs. l.same_but old new rs h) l.takes l.need r (l.taken_is d old n w bs before r new after rest) h;
-  asks_is = λ d old n w bs before r new after rest h.
-      kept_field_asks s a k d (get old) (get new) (l.meaning old) (l.meaning new) (l.kept (l.meaning old)) (l.kept (l.meaning new)) n w bs before after rest l.adds (l.SameBut old new) (l.Taken d old n w bs before r new after rest)
-      (λ h rs. l.same_but old new rs h) r (l.asks before.unknown d n w bs) (l.asks_is d old n w bs before r new after rest) h;
-  seen_is = λ m z. seen_field s k (get m) (l.records (l.meaning m)) (l.slots (l.meaning m)) z (l.seen m (visited s k (get m) z)) (l.seen_is m (visited s k (get m) z));
-  seen_front_is = λ j m z. front_seen s k (get m) (nat_lt k j) (l.front j (l.meaning m)) (l.front_slots j (l.meaning m) []) z (l.seen_front j m (visited s k (get m) z)) (l.seen_front_is j m (visited s k (get m) z));
-  seen_behind_is = λ j m z. behind_seen s k (get m) (nat_lt k j) (l.behind j (l.meaning m)) (l.own (l.meaning m)) (l.kept (l.meaning m)) (l.records (l.meaning m)) (l.slots_behind j (l.meaning m)) (l.slots (l.meaning m)) z (l.seen_behind j m z) (l.seen m (visited s k (get m) z)) (l.in_two (l.meaning m)) (l.seen_behind_is j m z) (l.seen_is m (visited s k (get m) z));
-  own_is = λ j v. own_in_two (nat_lt k j) (s.records k v.0) (l.own v.1) (l.front j v.1) (l.behind j v.1) (l.own_is j v.1);
-  slots_are = λ j v. slots_in_two (nat_lt k j) (s.slots v.0) (l.slots v.1) (l.slots_behind j v.1) (l.front_slots j v.1) (l.slots_are j v.1);
-  front_slots_are = λ j v rest. slots_then (nat_lt k j) (s.slots v.0) (l.front_slots j v.1) rest (l.front_slots_are j v.1 rest);
-  adds_none = λ v. λ i. (v.0, l.adds_none v.1 i);
-  adds_twice = λ v x y. λ i. (v.0, l.adds_twice v.1 x y i);
-  adds_kept = λ has v rs. l.adds_kept has v.1 rs;
-  adds_own = λ v rs. ap (λ (z : List (ℕ × Datum)). s.records k v.0 ++ z) (l.adds_own v.1 rs);
-  adds_front = λ j v rs. λ i. if nat_lt k j then s.records k v.0 ++ l.adds_front j v.1 rs i else [];
-  adds_behind = λ j v rs. λ i. if nat_lt k j then l.adds_behind j v.1 rs i else s.records k v.0 ++ l.adds_own v.1 rs i;
-  whole = λ v. λ i. (v.0, l.whole v.1 i);
-  in_two = λ v. ap (λ (z : List (ℕ × Datum)). s.records k v.0 ++ z) (l.in_two v.1) ∙ sym (append_assoc (s.records k v.0) (l.own v.1) (l.kept v.1));
-  kept_low = λ v. omega (arith, l.kept_low v.1);
-  Owes = ReadsBackBeside s a × l.Owes;
-  valid = λ owes ok v normal.
-      let sound = sound_parts k (l.declares k) (l.keeps && l.sound) ok in
-      valid_joined (s.records k v.0) (l.records v.1) (owes.0.valid k sound.0 v.0 normal.0) (l.valid owes.1 (and_parts l.keeps l.sound sound.2).1 v.1 normal.1);
-  back = λ owes ok d v fits normal low.
-      let sound = sound_parts k (l.declares k) (l.keeps && l.sound) ok in
-      let each = readable_both (s.records k v.0) (l.own v.1) fits in
-      beside_back a k l.adds l.takes l.adds_none l.adds_twice l.declares sound.1 d s.blank v.0 l.blank (l.bare v.1) (s.records k v.0) (l.own v.1)
-      (owes.0.back k sound.0 d v.0 each.0 normal.0 (omega (arith, low))) (l.back owes.1 (and_parts l.keeps l.sound sound.2).1 d v.1 each.1 normal.1 (omega (arith, low)));
-  again = λ owes ok d v normal low.
-      let sound = sound_parts k (l.declares k) (l.keeps && l.sound) ok in
-      beside_again a k l.adds l.takes s owes.0 d (l.kept v.1) normal.2 (omega (arith, low)) (l.again owes.1 (and_parts l.keeps l.sound sound.2).1 d v.1 normal.1 (omega (arith, low)));
-  owes_both = λ j front behind. owes_in_two (nat_lt k j) (l.owes_both j) front behind;
-  back_front = λ owes ok j d v fits normal low.
-      let sound = sound_parts k (l.declares k) (l.keeps && l.sound) ok in
-      let each = readable_both (s.records k v.0) (l.own v.1) fits in
-      front_reads_back (beside_take k a.takes l.adds l.takes) (λ n. n == k || l.declares n) d (nat_lt k j) (s.blank, l.blank) (v.0, l.only_front j v.1) (s.records k v.0 ++ l.front j v.1)
-      (beside_back a k l.adds l.takes l.adds_none l.adds_twice l.declares sound.1 d s.blank v.0 l.blank (l.only_front j v.1) (s.records k v.0) (l.front j v.1)
-      (owes.0.back k sound.0 d v.0 each.0 normal.0 (omega (arith, low))) (l.back_front owes.1 (and_parts l.keeps l.sound sound.2).1 j d v.1 each.1 normal.1 (omega (arith, low))));
-  back_behind = λ owes ok j d v fits normal low.
-      let sound = sound_parts k (l.declares k) (l.keeps && l.sound) ok in
-      let each = readable_both (s.records k v.0) (l.own v.1) fits in
-      let all : Taker (A × B) = beside_take k a.takes l.adds l.takes in
-      behind_reads_back all (λ n. n == k || l.declares n) d (nat_lt k j) (s.blank, l.blank) (v.0, l.only_front j v.1) (v.0, l.bare v.1) (l.behind j v.1) (s.records k v.0 ++ l.own v.1)
-      (others_back k l.declares sound.1 all l.takes (λ d a b u n w p off h. rw (off, h) refl) d v.0 (l.only_front j v.1) (l.bare v.1) (records_encoding (l.behind j v.1))
-      (l.back_behind owes.1 (and_parts l.keeps l.sound sound.2).1 j d v.1 each.1 normal.1 (omega (arith, low))))
-      (beside_back a k l.adds l.takes l.adds_none l.adds_twice l.declares sound.1 d s.blank v.0 l.blank (l.bare v.1) (s.records k v.0) (l.own v.1)
-      (owes.0.back k sound.0 d v.0 each.0 normal.0 (omega (arith, low))) (l.back owes.1 (and_parts l.keeps l.sound sound.2).1 d v.1 each.1 normal.1 (omega (arith, low))));
-  Exact = s.Exact × l.Exact;
-  numbers = λ owes exact v. both_numbers k l.declares (s.records k v.0) (l.own v.1) ((owes.0.exact exact.0).numbers k v.0) (l.numbers owes.1 exact.1 v.1);
-  least = λ owes exact ok d v normal high own kept.
-      let sound = sound_parts k (l.declares k) (l.keeps && l.sound) ok in
-      let one = owes.0.exact exact.0 in
-      let all : Taker (A × B) = beside_take k a.takes l.adds l.takes in
-      let held : A → A × Kept = λ x. (x, []) in
-      let mine : (v : A × B) (n : ℕ) (w : WireType) (p : List ℕ) → (n == k) ≡ true → (set : A × Kept → A × B) × (all d v n w p ≡ option_map set (a.takes d (held v.0) n w p)) = λ v n w p is. (kept_among l.adds v.1, rw is refl) in
-      let first = one.least k d v.0 normal.0 (firsts k all a.takes held d mine (s.records k v.0) (l.own v.1) (one.numbers k v.0) own) in
-      let others = others_low k all l owes.1 exact.1 sound.1 (λ d v n w p off. rw off refl) d (s.records k v.0) v.1 (and_parts l.keeps l.sound sound.2).1 normal.1 high own kept in
-      let beside = aside_low k s a l.adds l.declares all one d (first_one k all a.takes held d mine) (l.kept v.1) normal.2 kept in
-      omega (arith, first, others, beside);
-}
+field_kept k get s a l = part (keeping_part k get s a) (keeping_laws k get s a) l
 
 -- fields that aren't declared are kept; a value is normal where the numbers of these may be a field's, nested ones too, and their
 -- data are in range

@@ -1,6 +1,6 @@
 -- What a field and the others owe together.
-use Rattle.std.proofs.Common.{◌≡◌, ◌≢◌, inl, inr, ℕ, ◌==◌, Bool, true, false, not, ◌&&◌, ◌||◌, List, [], ◌∷◌, ◌++◌, Some, Result, Ok, Err, refl, sym, ap, subst, ◌∙◌, arith, append_assoc, if◌then◌else◌}
-use Rattle.std.proofs.lemmas.Bool.{and_parts, eq-eqb, ltb-true, ne_eqb, or_left, or_right}
+use Rattle.std.proofs.Common.{◌≡◌, inl, inr, ℕ, ◌==◌, Bool, true, false, not, ◌&&◌, ◌||◌, List, [], ◌∷◌, ◌++◌, Some, Result, Ok, Err, refl, sym, ap, subst, ◌∙◌, arith, append_assoc, if◌then◌else◌}
+use Rattle.std.proofs.lemmas.Bool.{and_parts, ltb-true, ne_eqb, or_left, or_right}
 use Rattle.std.specs.List.{AllByRecursion}
 use Rattle.std.specs.Option.{option_map}
 use Rattle.std.specs.Prelude.{nat_lt}
@@ -28,12 +28,15 @@ fits_both [] ys h = (tt, h)
 fits_both (x ∷ xs) ys h = let k = fits_both xs ys h.1 in ((h.0, k.0), k.1)
 
 -- ---- costs
-pub both_stay : (k : ℕ) (f g : Need) → Stays f → Stays g → Stays (both_need k f g)
-both_stay k f g h j d n w p x payload = at (n == k)
+pub either_stays : (mine : ℕ → Bool) (f g : Need) → Stays f → Stays g → Stays (λ d n w bs. if mine n then f d n w bs else g d n w bs)
+either_stays mine f g h j d n w p x payload = at (mine n)
   where
     at : (b : Bool) → (if b then f d n w (p ++ x) else g d n w (p ++ x)) ≡ (if b then f d n w p else g d n w p)
     at true = h d n w p x payload
     at false = j d n w p x payload
+
+pub both_stay : (k : ℕ) (f g : Need) → Stays f → Stays g → Stays (both_need k f g)
+both_stay k f g = either_stays (λ n. n == k) f g
 
 -- ---- encodings that read back
 pub joined-append : (xs ys : List Piece) → joined_fields (xs ++ ys) ≡ joined_fields xs ++ joined_fields ys
@@ -51,31 +54,29 @@ number_of_test n h =
     let high = ltb-true n 536870912 both.1 in
     (omega (arith, low), omega (arith, high))
 
--- a field, and others that don't declare its number
-module _ (k : ℕ) (D : ℕ → Bool) (other : D k ≡ false) where
+-- numbers that aren't declared are no number that is
+pub not_declared : (k : ℕ) (D : ℕ → Bool) → D k ≡ false → (n : ℕ) → D n ≡ true → (n == k) ≡ false
+not_declared k D other n is = ne_eqb n k (λ e. let both = sym is ∙ ap D e ∙ other in cc)
+
+-- fields of some numbers, and others that don't declare these
+module _ (mine : ℕ → Bool) (D : ℕ → Bool) (other : (n : ℕ) → D n ≡ true → mine n ≡ false) where
   abbrev pub or_declared : ℕ → Bool
-  or_declared n = n == k || D n
-
-  pub is_first : (n : ℕ) → (n == k) ≡ true → or_declared n ≡ true
-  is_first n is = or_left (n == k) (D n) is
-
-  pub is_other : (n : ℕ) → D n ≡ true → (n == k) ≡ false
-  is_other n is = ne_eqb n k (λ e. let both = sym is ∙ ap D e ∙ other in cc)
+  or_declared n = mine n || D n
 
   module _ {A B : Type 0} (T : Taker (A × B)) where
     -- the others lead, where fields of other numbers are theirs
-    pub others_lead : (g : Taker B) → ((d : ℕ) (a : A) (b u : B) (n : ℕ) (w : WireType) (p : List ℕ) → (n == k) ≡ false → g d b n w p ≡ Some u → T d (a, b) n w p ≡ Some (a, u)) →
+    pub others_lead : (g : Taker B) → ((d : ℕ) (a : A) (b u : B) (n : ℕ) (w : WireType) (p : List ℕ) → mine n ≡ false → g d b n w p ≡ Some u → T d (a, b) n w p ≡ Some (a, u)) →
         (d : ℕ) (a : A) (s t : B) (fs : List Piece) → Leads g D d s fs t → Leads T or_declared d (a, s) fs (a, t)
     others_lead g theirs d a s t [] h = ap (λ x. (a, x)) h
     others_lead g theirs d a s t (x ∷ fs) (is, tag, payload, u, h, l) =
-        (or_right (x.number == k) (D x.number) is, tag, payload, (a, u), theirs d a s u x.number x.wire x.payload (is_other x.number is) h, others_lead g theirs d a u t fs l)
+        (or_right (mine x.number) (D x.number) is, tag, payload, (a, u), theirs d a s u x.number x.wire x.payload (other x.number is) h, others_lead g theirs d a u t fs l)
 
     -- so does the field
-    pub first_leads : (f : Taker A) (b : B) → ((d : ℕ) (a u : A) (n : ℕ) (w : WireType) (p : List ℕ) → (n == k) ≡ true → f d a n w p ≡ Some u → T d (a, b) n w p ≡ Some (u, b)) →
-        (d : ℕ) (s t : A) (fs : List Piece) → Leads f (λ n. n == k) d s fs t → Leads T or_declared d (s, b) fs (t, b)
-    first_leads f b mine d s t [] h = ap (λ x. (x, b)) h
-    first_leads f b mine d s t (x ∷ fs) (is, tag, payload, u, h, l) =
-        (is_first x.number is, tag, payload, (u, b), mine d s u x.number x.wire x.payload is h, first_leads f b mine d u t fs l)
+    pub first_leads : (f : Taker A) (b : B) → ((d : ℕ) (a u : A) (n : ℕ) (w : WireType) (p : List ℕ) → mine n ≡ true → f d a n w p ≡ Some u → T d (a, b) n w p ≡ Some (u, b)) →
+        (d : ℕ) (s t : A) (fs : List Piece) → Leads f mine d s fs t → Leads T or_declared d (s, b) fs (t, b)
+    first_leads f b mine_take d s t [] h = ap (λ x. (x, b)) h
+    first_leads f b mine_take d s t (x ∷ fs) (is, tag, payload, u, h, l) =
+        (or_left (mine x.number) (D x.number) is, tag, payload, (u, b), mine_take d s u x.number x.wire x.payload is h, first_leads f b mine_take d u t fs l)
 
 -- what is sound of a field and the others
 pub sound_parts : (k : ℕ) (D sound : Bool) → (is_number k && not D && sound) ≡ true → IsNumber k × (D ≡ false) × (sound ≡ true)
@@ -98,8 +99,8 @@ pub both_back : {A B : Type 0} (k : ℕ) (f : Taker A) (g : Taker B) (D : ℕ �
     ReadsBack (both_take k f g) (λ n. n == k || D n) d (a, b) (records_encoding (fr ++ gr)) (v, u)
 both_back k f g D other d a v b u fr gr x y =
     joined_back (both_take k f g) (λ n. n == k || D n) d (a, b) (v, b) (v, u) fr gr x.pieces y.pieces x.spelled y.spelled
-    (first_leads k D other (both_take k f g) f b (λ d a u n w p is h. rw (is, h) refl) d a v x.pieces x.leads)
-    (others_lead k D other (both_take k f g) g (λ d a b u n w p off h. rw (off, h) refl) d v b u y.pieces y.leads)
+    (first_leads (λ n. n == k) D (not_declared k D other) (both_take k f g) f b (λ d a u n w p is h. rw (is, h) refl) d a v x.pieces x.leads)
+    (others_lead (λ n. n == k) D (not_declared k D other) (both_take k f g) g (λ d a b u n w p off h. rw (off, h) refl) d v b u y.pieces y.leads)
 
 -- what is kept is put behind the others again
 pub both_again : {A B : Type 0} (k : ℕ) (f : Taker A) (g : Taker B) (adds : B → List (ℕ × Datum) → B) (d : ℕ) (ys : List (ℕ × Datum)) → AllNumbers (λ n. not (n == k)) ys → AllByRecursion (IsPutBehind g adds d) ys →
@@ -123,15 +124,3 @@ module _ {A X : Type 0} (f : Taker A) (fn : Need) (T : Taker X) (N : Need) (d n 
     ],
     full,
   )
-
--- the first, or one of the others
-module _ {A B : Type 0} (k : ℕ) (f : Taker A) (g : Taker B) (fn gn : Need) (d : ℕ) (a : A) (b : B) (n : ℕ) (w : WireType) (bs : List ℕ) (before : BudgetLeft) where
-  pub first_taken : (r : Result (Unit {0}) DecodeError) (x : A) (after : BudgetLeft) (rest : List ℕ) → n ≡ k → IsTaken f fn d a n w bs before r x after rest →
-      IsTaken (both_take k f g) (both_need k fn gn) d (a, b) n w bs before r (x, b) after rest
-  first_taken r x after rest is =
-      part_taken f fn (both_take k f g) (both_need k fn gn) d n w a (a, b) (λ z. (z, b)) (λ p. rw (eq-eqb n k is) refl) (λ p. rw (eq-eqb n k is) refl) bs rest before after r x
-
-  pub other_taken : (r : Result (Unit {0}) DecodeError) (y : B) (after : BudgetLeft) (rest : List ℕ) → n ≢ k → IsTaken g gn d b n w bs before r y after rest →
-      IsTaken (both_take k f g) (both_need k fn gn) d (a, b) n w bs before r (a, y) after rest
-  other_taken r y after rest not_is =
-      part_taken g gn (both_take k f g) (both_need k fn gn) d n w b (a, b) (λ z. (a, z)) (λ p. rw (ne_eqb n k not_is) refl) (λ p. rw (ne_eqb n k not_is) refl) bs rest before after r y

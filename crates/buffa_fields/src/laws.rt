@@ -43,6 +43,7 @@ ghost use Rattle.buffa_wire.specs.Takes.{cost_of, merged_of};
 ghost use Rattle.buffa_fields.specs.Pinned.{AmongKept, CostsEach, GoesAside, KeepingOrOthers, LeavesAlone, MemberOrOthers, PassedOver, PutsAside, TakeAlike};
 ghost use Rattle.buffa_fields.specs.Values.{IfThere, RefusesAlone, ValueTakesMemory, free, some_taken, value_taken};
 
+pub use crate::aside_laws::these_may_stand;
 use crate::fields::Fields;
 use crate::group::Group;
 pub use crate::held_laws::{

@@ -1,6 +1,8 @@
 //! Messages from their fields: a message type is data, and its author writes no proof.
 #![tactic(auto)]
 
+pub mod aside_laws;
+pub mod case;
 pub mod fields;
 pub mod framing;
 pub mod group;
@@ -32,6 +34,8 @@ pub mod message;
 pub mod message_in;
 pub mod messages_in;
 pub mod nested;
+pub mod one_of;
+pub mod one_of_laws;
 pub mod optional;
 pub mod ordered_key;
 pub mod ordered_map;
@@ -48,6 +52,7 @@ pub mod refusal_laws;
 pub mod repeated;
 pub mod repeated_group;
 pub mod repeated_nested;
+pub mod required;
 pub mod sizer;
 pub mod value;
 pub mod visitor;

@@ -105,3 +105,16 @@ pub type And16<A, B, C, D, E, F, G, H, I, J, K, L, M, N, O, P> = And<
     A,
     And15<B, C, D, E, F, G, H, I, J, K, L, M, N, O, P>,
 >;
+
+/// What a case of a `oneof` means, or one of those after it: one of the two, as a type with a name. It is never made.
+///
+/// ```ignore
+/// type Meaning = Or<[u8; 0], Or<i32, Or<<Transfer as Blank>::Meaning, ()>>>;
+/// ```
+#[derive(Drop)]
+pub enum Or<A, B> {
+    /// The first case.
+    This(A),
+    /// One of those after it.
+    Other(B),
+}

@@ -1,6 +1,6 @@
 //! Members that are messages, in any framing.
 
-ghost use Rattle.std.specs.Prelude.{None, ◌≡◌, ◌∷◌, [], length, true};
+ghost use Rattle.std.specs.Prelude.{None, ◌≡◌, ◌∷◌, [], length, true, refl};
 ghost use Rattle.std.specs.Option.{option_map};
 ghost use Rattle.buffa_bytes.specs.Gives.{FullOnlyIf};
 ghost use Rattle.buffa_bytes.specs.Number.{IsNumber};
@@ -9,6 +9,7 @@ ghost use Rattle.buffa_wire.specs.Passes.{IsNext, IsSized, cap};
 ghost use Rattle.buffa_wire.specs.Encoding.{records_encoding};
 ghost use Rattle.buffa_wire.proofs.ByPayloadLemmas.{by_payload, merged_fields};
 ghost use Rattle.buffa_fields.specs.Calls.{ChecksWire, TakesIn};
+ghost use Rattle.buffa_fields.specs.CasesFacts.{never};
 ghost use Rattle.buffa_fields.specs.Framing.{Messages, cost_as, datum_of_value, taken_as};
 ghost use Rattle.buffa_fields.specs.FramingCalls.{WritesFramed};
 ghost use Rattle.buffa_fields.specs.FramingFacts.{one_stays, there_back, there_least, there_valid};
@@ -19,6 +20,7 @@ ghost use Rattle.buffa_fields.specs.Nested.{message_levels, message_slots, or_bl
 ghost use Rattle.buffa_fields.specs.Refusals.{LeavesUnless, RefusesTaggedField, RefusesThere, TellsTaggedFault};
 ghost use Rattle.buffa_fields.specs.Values.{IfThere};
 
+use crate::case::Case;
 use crate::framing::Framing;
 use crate::member::Member;
 use buffa_wire::{
@@ -177,4 +179,60 @@ impl<F: Framing, N: Message> Member for MessageIn<F, N> {
         least = there_least F.frame F.holds m exact;
       };
     } };
+}
+
+/// A case of a `oneof`: what is read is merged into the message, where this case stands.
+impl<F: Framing, N: Message> Case for MessageIn<F, N> {
+    type Value = N;
+
+    type Said = <N as Blank>::Meaning;
+
+    ghost form = { ⟦<MessageIn<F, N> as Member>⟧.shape };
+
+    ghost merges = { true };
+
+    ghost words = { record {
+      there = λ p. (N.meaning p, refl);
+      absent = refl;
+      blank = refl;
+      alone = λ is d v n w p. never is;
+    } };
+
+    #[tactic(auto, unfolding(crate::specs::MemberRecords::optional_records, crate::specs::Nested::message_slots))]
+    fn value_len(number: u32, value: &N, cache: &mut SizeCache) -> Result<u32, EncodeError> {
+        message_len::<F, N>(number, value, cache)
+    }
+
+    #[tactic(auto, unfolding(crate::specs::MemberRecords::optional_records, crate::specs::Nested::message_slots))]
+    fn write_value<S: EncodeSink>(
+        number: u32,
+        value: &N,
+        cache: &mut SizeCache,
+        sink: &mut S,
+    ) -> Result<(), EncodeError> {
+        write_message::<F, N, S>(number, value, cache, sink)
+    }
+
+    fn merge_value(
+        value: &mut N,
+        alloc: Global,
+        tag: Tag,
+        buf: &mut &[u8],
+        ctx: DecodeContext<'_>,
+    ) -> Result<(), DecodeError> {
+        take_message::<F, N>(alloc, value, tag, buf, ctx)
+    }
+
+    fn read_value(
+        alloc: Global,
+        tag: Tag,
+        buf: &mut &[u8],
+        ctx: DecodeContext<'_>,
+    ) -> Result<N, DecodeError> {
+        let mut message = N::blank(alloc);
+        take_message::<F, N>(alloc, &mut message, tag, buf, ctx)?;
+        Ok(message)
+    }
+
+    ghost back = { λ owes. owes };
 }

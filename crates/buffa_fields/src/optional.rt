@@ -1,6 +1,6 @@
 //! Members that may be absent.
 
-ghost use Rattle.std.specs.Prelude.{[], None, refl, not};
+ghost use Rattle.std.specs.Prelude.{[], None, false, refl, not};
 ghost use Rattle.std.specs.Option.{option_map};
 ghost use Rattle.buffa_bytes.specs.Front.{check_wire};
 ghost use Rattle.buffa_fields.specs.Refusals.{UnderAny};
@@ -10,6 +10,7 @@ ghost use Rattle.buffa_fields.specs.MemberRecords.{optional_records};
 ghost use Rattle.buffa_fields.specs.LevelKindFacts.{exact_flat, optional_numbers};
 ghost use Rattle.buffa_fields.specs.ValidFacts.{optional_valid};
 
+use crate::case::Case;
 use crate::member::Member;
 use crate::proto_type::ProtoType;
 use crate::value::{take_value, value_len, write_value};
@@ -97,4 +98,71 @@ impl<C: ProtoType> Member for Optional<C> {
           C.ProtoType.datum_encoding v normal);
       exact = λ _. exact_flat _ (optional_numbers C.datum) (λ v i. 0);
     } };
+}
+
+/// A case of a `oneof`: what is read takes the place of what stands.
+impl<C: ProtoType> Case for Optional<C> {
+    type Value = C::Value;
+
+    type Said = <C::Value as Blank>::Meaning;
+
+    ghost form = { ⟦<Optional<C> as Member>⟧.shape };
+
+    ghost merges = { false };
+
+    ghost words = { record {
+      there = λ p. (C.Value.meaning p, refl);
+      absent = refl;
+      blank = refl;
+      alone = λ merges d v n w p. refl;
+    } };
+
+    #[inline(always)]
+    #[tactic(auto, using(crate::specs::LayoutFacts::sized_free), unfolding(crate::specs::MemberRecords::optional_records))]
+    fn value_len(
+        number: u32,
+        value: &C::Value,
+        _cache: &mut SizeCache,
+    ) -> Result<u32, EncodeError> {
+        Ok(value_len::<C>(number, value))
+    }
+
+    #[inline(always)]
+    #[tactic(auto, using(buffa_wire::proofs::PassLemmas::written_put), unfolding(crate::specs::MemberRecords::optional_records))]
+    fn write_value<S: EncodeSink>(
+        number: u32,
+        value: &C::Value,
+        _cache: &mut SizeCache,
+        sink: &mut S,
+    ) -> Result<(), EncodeError> {
+        write_value::<C, S>(number, value, sink)
+    }
+
+    #[inline(always)]
+    fn merge_value(
+        value: &mut C::Value,
+        alloc: Global,
+        tag: Tag,
+        buf: &mut &[u8],
+        ctx: DecodeContext<'_>,
+    ) -> Result<(), DecodeError> {
+        let mut fresh = <C::Value as Blank>::blank(alloc);
+        take_value::<C>(alloc, &mut fresh, tag, buf, ctx)?;
+        *value = fresh;
+        Ok(())
+    }
+
+    #[inline(always)]
+    fn read_value(
+        alloc: Global,
+        tag: Tag,
+        buf: &mut &[u8],
+        ctx: DecodeContext<'_>,
+    ) -> Result<C::Value, DecodeError> {
+        let mut value = <C::Value as Blank>::blank(alloc);
+        take_value::<C>(alloc, &mut value, tag, buf, ctx)?;
+        Ok(value)
+    }
+
+    ghost back = { λ owes. owes };
 }

@@ -1,5 +1,8 @@
 -- What codecs read, in the words of bytes.
-use Rattle.std.proofs.Common.{◌≡◌, inl, inr, ℕ, zero, suc, ℤ, Bool, true, false, List, Option, None, Result, Ok, Err, refl, sym, subst, ◌∙◌, cond}
+use Rattle.std.proofs.Common.{arith, ◌≡◌, ◌++◌, inl, inr, ℕ, zero, suc, ℤ, Bool, true, false, List, Option, None, Result, Ok, Err, ap, append_assoc, refl, sym, subst, ◌∙◌, cond}
+use Rattle.buffa_bytes.proofs.DelimitedLemmas.{delimited_complete, delimited_faulty}
+use Rattle.buffa_bytes.proofs.StepLemmas.{err_same}
+use Rattle.buffa_bytes.specs.Content.Content.{bytes, number}
 use Rattle.std.specs.Prelude.{is_some, pos, IsOk}
 use Rattle.std.specs.Str.{is_utf8}
 use Rattle.buffa_bytes.specs.Content.{Content, content_at, number_in, bytes_in}
@@ -12,11 +15,11 @@ use Rattle.buffa_bytes.specs.declared.wire_type.WireType.{WireType}
 use Rattle.buffa_bytes.specs.declared.wire_type.WireType.TheVariants.{Varint, Fixed64, Fixed32, LengthDelimited}
 use Rattle.buffa_bytes.specs.declared.error.DecodeError.{DecodeError}
 use Rattle.buffa_bytes.specs.declared.error.DecodeError.TheVariants.{RecursionLimitExceeded, UnexpectedEof}
-use Rattle.buffa_wire.specs.BudgetLeft.{BudgetLeft, nothing}
+use Rattle.buffa_wire.specs.BudgetLeft.{BudgetLeft, Lacks, nothing}
 use Rattle.buffa_wire.specs.Enums.{numbers, open_number}
 use Rattle.buffa_wire.specs.Message.{IsLimit, merged_in}
 use Rattle.buffa_wire.proofs.KeepLemmas.{content_no_limit}
-use Rattle.buffa_map.specs.Codec.{Reading, ValueFault, value_at}
+use Rattle.buffa_map.specs.Codec.{Reading, ValueFault, value_at, value_need}
 use Rattle.buffa_map.specs.CodecWords.{AtBytes, Never, Reader, IsReadAs, MessagesAreReadAs, always, any_number, declared_number}
 use Rattle.buffa_map.specs.Enums.{closed_reading, open_reading}
 use Rattle.buffa_map.specs.Message.{meant, message_reading}
@@ -132,6 +135,27 @@ module _ {V : Type 0} (blank : V) (merged : ℕ → V → List ℕ → Option V)
   no_limit_in d old bs f (inr (inr (room, c, rest, x, t, h, inl same))) l = meant_no_limit (merged_in merged d old (bytes_in c)) x h (subst IsLimit same l)
   no_limit_in d old bs f (inr (inr (room, c, rest, x, t, h, inr other))) l = other l
 
+  nothing_lacks : (left need : BudgetLeft) → need ≡ nothing → Lacks left need → ⊥
+  nothing_lacks left need h (inl few) = omega (arith, few, ap (λ z. z.unknown) h)
+  nothing_lacks left need h (inr few) = omega (arith, few, ap (λ z. z.memory) h)
+
+  free_at : (bs : List ℕ) (r : Result (List ℕ × List ℕ) DecodeError) → delimited_at bs ≡ r → value_need (message_reading blank merged cost) 0 bs ≡ nothing
+  free_at bs (Ok p) h = rw h refl
+  free_at bs (Err e) h = rw h refl
+
+  level_fault : (old : V) (bs : List ℕ) (f : DecodeError) → ValueFault (message_reading blank merged cost) 0 old bs f → f ≡ RecursionLimitExceeded
+  level_fault old bs f (inl h) = sym (err_same h)
+  level_fault old bs f (inr (inl h)) = cc
+  level_fault old bs f (inr (inr h)) = cc
+
+  bytes_fault : (d : ℕ) (old : V) (bs : List ℕ) (f g : DecodeError) → delimited_at bs ≡ Err f → ValueFault (message_reading blank merged cost) (suc d) old bs g → g ≡ f
+  bytes_fault d old bs f g none (inl h) = cc
+  bytes_fault d old bs f g none (inr (inl h)) = err_same (sym (delimited_faulty bs g h.1) ∙ none)
+  bytes_fault d old bs f g none (inr (inr (room, bytes b, rest, x, (p, (t, v, is), split), reads, told))) =
+      let there : delimited_at bs ≡ Ok (b, rest) = ap delimited_at (split ∙ ap (λ z. z ++ rest) is ∙ append_assoc t b rest) ∙ delimited_complete t b rest v in
+      let no = sym none ∙ there in cc
+  bytes_fault d old bs f g none (inr (inr (room, number n, rest, x, (p, none_is, split), reads, told))) = absurd none_is
+
   pub messages_read : MessagesAreReadAs (message_reading blank merged cost) merged cost
   messages_read = record {
     too_deep = λ old bs. refl;
@@ -140,4 +164,8 @@ module _ {V : Type 0} (blank : V) (merged : ℕ → V → List ℕ → Option V)
     refuses = λ d old bs b rest h k. let q = refused_so (merged d old b) rest k in (q.0, rw h q.1);
     costs = λ d bs b rest h. rw h refl;
     limits = λ d old bs left f h l. elim h [ inl few ↦ few | inr bad ↦ absurd (no_limit_in d old bs f bad l) ];
+    no_cost = λ bs. free_at bs (delimited_at bs) refl;
+    no_bytes_cost = λ d bs f h. rw h refl;
+    level_told = λ old bs left f h. elim h [ inl few ↦ absurd (nothing_lacks left _ (free_at bs (delimited_at bs) refl) few) | inr bad ↦ level_fault old bs f bad ];
+    bytes_told = λ d old bs left f g none h. elim h [ inl few ↦ absurd (nothing_lacks left _ (rw none refl) few) | inr bad ↦ bytes_fault d old bs f g none bad ];
   }

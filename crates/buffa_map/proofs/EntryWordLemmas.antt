@@ -1,7 +1,8 @@
 -- Entries and runs in the words of bytes: each piece more, and each fault.
-use Rattle.std.proofs.Common.{arith, ◌≡◌, ◌≢◌, inl, inr, ℕ, ◌+◌, ◌<◌, Bool, true, false, not, List, [], ◌∷◌, ◌++◌, length, map, None, Result, Ok, Err, refl, sym, ap, subst, ◌∙◌, append_assoc, append-nil, cond, if◌then◌else◌}
+use Rattle.std.proofs.Common.{arith, ◌≡◌, ◌≢◌, ◌⊎◌, inl, inr, ℕ, ◌+◌, ◌<◌, ◌≤◌, Bool, true, false, not, List, [], ◌∷◌, ◌++◌, length, map, None, Result, Ok, Err, refl, sym, ap, subst, ◌∙◌, append_assoc, append-nil, cond, if◌then◌else◌}
 use Rattle.std.proofs.lemmas.Bool.{ne_eqb}
 use Rattle.std.specs.Cmp.{IsEquivalence}
+use Rattle.std.specs.Prelude.{IsOk}
 use Rattle.std.specs.List.{filter}
 use Rattle.std.specs.Map.{lookup_entry}
 use Rattle.buffa_bytes.proofs.DelimitedLemmas.{delimited_sound}
@@ -13,7 +14,7 @@ use Rattle.buffa_bytes.proofs.LeftLemmas as at_left
 use Rattle.buffa_bytes.proofs.SequenceLemmas.{has_byte, not_nil, ok_same}
 use Rattle.buffa_bytes.proofs.StepLemmas.{agree_err, agree_ok}
 use Rattle.buffa_bytes.proofs.TailLemmas.{tail_dropped}
-use Rattle.buffa_bytes.proofs.WireLemmas.{check_differs, check_same}
+use Rattle.buffa_bytes.proofs.WireLemmas.{check_differs, check_same, same_false}
 use Rattle.buffa_bytes.specs.Field.{LengthFault, TagFault}
 use Rattle.buffa_bytes.specs.Front.{delimited_at, skip_at, tag_at}
 use Rattle.buffa_bytes.specs.Gives.{◌>>=◌}
@@ -27,9 +28,9 @@ use Rattle.buffa_bytes.specs.declared.error.DecodeError.TheVariants.{ElementMemo
 use Rattle.buffa_wire.specs.BudgetLeft.{BudgetLeft, Pays, nothing, plus, units, unknown_fields}
 use Rattle.buffa_wire.specs.Records.{Datum, bytes}
 use Rattle.buffa_map.specs.Codec.{Reading, value_at, value_need}
-use Rattle.buffa_map.specs.Entry.{FaultOf, IsEntry, IsEntryField, blanks, entry_field_at, field_need, need_at, need_of}
-use Rattle.buffa_map.specs.EntryWords.{EntriesAreFields, EntriesAreMerged, EntriesNeed, PairsAreLists, RefusedEntriesStay, RulesAreMet, RunsAreEntries}
-use Rattle.buffa_map.specs.Fields.{EntryFieldTakesMemory}
+use Rattle.buffa_map.specs.Entry.{FaultOf, IsEntry, IsEntryField, blanks, entry_field_at, field_need, inner_need, need_at, need_of}
+use Rattle.buffa_map.specs.EntryWords.{EntriesAreFields, EntriesAreMerged, EntriesNeed, FieldTakesMemory, PairsAreLists, RefusedEntriesStay, RulesAreMet, RunsAreEntries}
+use Rattle.buffa_map.specs.Fields.{EntryFieldTakesMemory, EntryFieldsTakeMemory}
 use Rattle.buffa_map.specs.Merge.{EntryTakesMemory, MergesEntry, ReadsRun, RefusesRun, Rules, State, kept_of_entry, kept_of_run, unknown_cost}
 use Rattle.buffa_map.specs.Pairs.{SamePairs, put}
 use Rattle.buffa_map.specs.Parts.{RefusesParts}
@@ -38,7 +39,7 @@ use Rattle.buffa_map.specs.declared.map_entry.MapEntry.{MapEntry}
 use Rattle.buffa_map.proofs.EntryLemmas.{field_complete, field_step}
 use Rattle.buffa_map.proofs.FrontLemmas.{same_entry}
 use Rattle.buffa_map.proofs.MergeLemmas.{bad_parts, is_dropped, is_kept, is_put, no_entry, not_kept}
-use Rattle.buffa_map.proofs.NeedLemmas.{field_broken, need_end, need_step, need_stop, no_length}
+use Rattle.buffa_map.proofs.NeedLemmas.{field_broken, inner_is, need_end, need_step, need_stop, no_length}
 use Rattle.buffa_map.proofs.RunLemmas.{SamePairs-step, extra_kept, none_kept, record_found}
 use Rattle.buffa_map.proofs.StepLemmas.{none_reached, stop_entry, stop_mismatch, stop_other, stop_tag}
 use Rattle.buffa_map.proofs.TailLemmas.{tail_behind}
@@ -161,6 +162,18 @@ module _ {K V : Type 0} (key : Reading K) (val : Reading V) where
         let is : field_need key val d f ≡ nothing = rw (tag, ne_eqb n 1 not_one, ne_eqb n 2 not_two) refl in
         need_more key val d cost e f s h (λ x k. behind_other (skip_at d n w p) s x (rw (tag, ne_eqb n 1 not_one, ne_eqb n 2 not_two) at k) whole)
         ∙ ap (plus (need_of key val d cost e)) is ∙ plus_none (need_of key val d cost e);
+    key_wire = λ d cost w e f p s h tag other.
+        let is : field_need key val d f ≡ nothing = rw (tag, same_false key.wire w other) refl in
+        need_more key val d cost e f s h (λ x k. let no = rw (tag, check_differs 1 key.wire w other) at k in cc)
+        ∙ ap (plus (need_of key val d cost e)) is ∙ plus_none (need_of key val d cost e);
+    value_wire = λ d cost w e f p s h tag other.
+        let is : field_need key val d f ≡ nothing = rw (tag, same_false val.wire w other) refl in
+        need_more key val d cost e f s h (λ x k. let no = rw (tag, check_differs 2 val.wire w other) at k in cc)
+        ∙ ap (plus (need_of key val d cost e)) is ∙ plus_none (need_of key val d cost e);
+    no_tag = λ d cost e r s f h tag.
+        let is : field_need key val d r ≡ nothing = rw tag refl in
+        need_more key val d cost e r s h (λ x k. let no = rw tag at k in cc)
+        ∙ ap (plus (need_of key val d cost e)) is ∙ plus_none (need_of key val d cost e);
   }
 
 -- ---- what no length, or no tag, leaves unread
@@ -223,6 +236,32 @@ module _ {K V : Type 0} (r : Rules K V) where
   put_only left bs key val drops (e, rest, is, inr (room, inr (s, h, inl known))) = (e, rest, s, is, h, known)
   put_only left bs key val drops (e, rest, is, inr (room, inr (s, h, inr (keeps, more)))) = let no : false ≡ true = sym drops ∙ keeps in cc
 
+  -- a field takes memory behind fields that are an entry
+  field_takes : (e : List ℕ) (f : DecodeError) → EntryFieldsTakeMemory r.key r.val r.depth e f → FieldTakesMemory r e
+  field_takes e f (s, more, (ps, cut, each), some, inl (p, tag, takes)) = (join ps, more, s, p, cut, (ps, sym (append-nil (join ps)), each), inl (tag, takes))
+  field_takes e f (s, more, (ps, cut, each), some, inr (p, tag, takes)) = (join ps, more, s, p, cut, (ps, sym (append-nil (join ps)), each), inr (tag, takes))
+
+  entry_takes : (left : BudgetLeft) (bs : List ℕ) (f : DecodeError) → EntryTakesMemory r left bs f → (e : List ℕ) × (rest : List ℕ) × (delimited_at bs ≡ Ok (e, rest))
+      × (((r.keeps_undeclared ≡ true) × (r.val.undeclared ≡ true) × (e ≢ []))
+      ⊎ ((r.cost ≤ left.memory) × (FieldTakesMemory r e
+      ⊎ ((s : MapEntry K V) × IsEntry r.key r.val r.depth e s × ((s.known ≡ true)
+      ⊎ ((r.keeps_undeclared ≡ true) × ((need_of r.key r.val r.depth r.cost e).unknown < left.unknown)))))))
+  entry_takes left bs f (e, rest, is, inl copied) = (e, rest, is, inl copied)
+  entry_takes left bs f (e, rest, is, inr (room, inl field)) = (e, rest, is, inr (room, inl (field_takes e f field)))
+  entry_takes left bs f (e, rest, is, inr (room, inr whole)) = (e, rest, is, inr (room, inr whole))
+
+  -- at most one unknown field is spent as an entry is kept
+  at_most_one : (b : Bool) → (if b then 1 else 0) ≤ 1
+  at_most_one true = omega arith
+  at_most_one false = omega arith
+
+  not_there : {X : Type 0} (x : Result X DecodeError) (g : DecodeError) → x ≡ Err g → IsOk x → ⊥
+  not_there (Ok y) g h ok = cc
+  not_there (Err e) g h ok = cc
+
+  inner : (bs e rest : List ℕ) → delimited_at bs ≡ Ok (e, rest) → inner_need r.key r.val r.depth bs ≡ need_at r.key r.val r.depth (blanks r.key r.val r.depth) e
+  inner bs e rest is = inner_is r.key r.val r.depth bs e rest is
+
   refused_entries_stay : RefusedEntriesStay r
   refused_entries_stay = record {
     pairs = λ old new bs tail f h. h.pairs;
@@ -232,6 +271,15 @@ module _ {K V : Type 0} (r : Rules K V) where
     most = λ old new bs tail f h. elim h.spent.units [ inl same ↦ (omega (arith, same), h.spent.most) | inr paid ↦ (omega (arith, paid.0), h.spent.most) ];
     memory = λ old new bs tail h. let k = h.memory refl in (k.0, k.1, k.2);
     put = λ old new bs tail h key val drops. put_only old.left bs key val drops (h.memory refl);
+    units = λ old new bs e rest tail f h is.
+        let same = ap (λ z. z.memory) (inner bs e rest is) in
+        elim h.spent.units [ inl stays ↦ omega (arith, stays) | inr paid ↦ omega (arith, same, paid.1) ];
+    fields = λ old new bs e rest tail f h is.
+        let same = ap (λ z. z.unknown) (inner bs e rest is) in
+        (omega (arith, same, at_most_one r.keeps_undeclared, h.spent.least), λ ne. omega (arith, same, h.spent.no_unknown ne));
+    unspent = λ old new bs tail f g h is. (h.spent.unspent (not_there (delimited_at bs) g is), h.unread.past_no_delimited g is);
+    behind = λ old new bs e rest tail f h is. let t = agree_ok (delimited_at bs) (e, rest) (delimited_sound bs) is in h.unread.within e rest (t.0, t.1, t.2);
+    taken = λ old new bs tail h. entry_takes old.left bs OutOfMemory (h.memory refl);
   }
 
   -- ---- a record in front of a run

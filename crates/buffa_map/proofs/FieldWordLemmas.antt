@@ -18,7 +18,8 @@ use Rattle.buffa_map.specs.FieldWords.{EnumsAreNumbers, FieldsAreRecords, IsPart
 use Rattle.buffa_map.specs.Merge.{Rules}
 use Rattle.buffa_map.specs.MessageField.{IsSmallField, field_slots}
 use Rattle.buffa_map.specs.Rewrite.{RefusesRewrite}
-use Rattle.buffa_map.specs.Run.{EntryRecord, undeclared, undeclared_records}
+use Rattle.buffa_map.specs.Pairs.{ListsOnce}
+use Rattle.buffa_map.specs.Run.{EntryRecord, fold_entries, undeclared, undeclared_records}
 use Rattle.buffa_map.specs.Scalars.{delimited_writing}
 
 small_tag : (n : ℕ) (w : WireType) → n < 15 → tag_encoding n w ≡ (8 * n + wire_number w) ∷ []
@@ -104,6 +105,17 @@ module _ {K V : Type 0} (key : Writing K) (val : Writing V) where
     refused_behind n es old new l MessageTooLarge h = first_of old new (field_encoding key val n h.0) h.6
     refused_behind n es old new l (GroupRefused e) h = absurd h
 
+    -- what was written of a rewrite where memory ran out
+    part_written : (n : ℕ) (es : List (EntryRecord K V)) (old new : List ℕ) (l : List (K × V)) → RefusesRewrite key val n (undeclared_records n es) old new l OutOfMemory →
+        (front : List ℕ) × (new ≡ old ++ front) × IsPartOf front (field_encoding key val n l ++ flat_map (record_bytes n) (undeclared es))
+    part_written n es old new l (inl h) =
+        let kept = flat_map (record_bytes n) (undeclared es) in
+        let part = part_of n old new l h in
+        (part.0, part.1, (part.2.0 ++ kept, ap (λ z. z ++ kept) part.2.1 ∙ append_assoc part.0 part.2.0 kept, omega (arith, part.2.2, length-append part.2.0 kept)))
+    part_written n es old new l (inr (has, (front, rest, split, is, some))) =
+        let field = field_encoding key val n l in
+        (field ++ front, is ∙ append_assoc old field front, (rest, ap (λ z. field ++ z) (sym (same_kept n (undeclared es)) ∙ split) ∙ sym (append_assoc field front rest), some))
+
     pub rewrites_are_fields : RewritesAreFields key val r KeyFits ValFits Walks
     rewrites_are_fields = record {
       rewrite = λ n es out. (
@@ -113,6 +125,14 @@ module _ {K V : Type 0} (key : Writing K) (val : Writing V) where
       rewritten = λ left over bs rest old written new before after h. (h.entries, h.out, h.run, h.folded, h.rewrite, h.encoding, h.whole);
       not_decoded = λ left over bs unread old written new f h. (h.2, h.0, h.1);
       not_encoded = λ left over bs rest old written new before e h. (refused_behind r.number h.entries old written h.walk e h.encoding, (h.entries, h.run, h.folded));
+      ordered = λ left over bs rest old written new before after h keeps.
+          (h.entries, h.run, h.encoding ∙ ap (λ z. old ++ z) (h.ordered keeps ∙ ap (λ z. field_encoding key val r.number (fold_entries r.same [] h.entries) ++ z) (same_kept r.number (undeclared h.entries))));
+      no_room = λ left over bs rest old written new before h.
+          let part = part_written r.number h.entries old written h.walk h.encoding in
+          (h.entries, h.walk, part.0, h.run, h.once, part.1, part.2, subst (λ z. before < length (field_encoding key val r.number h.walk ++ z)) (same_kept r.number (undeclared h.entries)) (h.room refl));
+      too_long = λ left over bs rest old written new before h.
+          let part = h.encoding in
+          (h.entries, part.0, part.1, part.2, h.run, subst (λ z. ListsOnce r.same (fold_entries r.same [] h.entries) z) part.3 h.once, subst (λ z. 2 ^ 64 ≤ length z) (same_pair part.1) part.5, part.6);
     }
 
 -- ---- fields of messages

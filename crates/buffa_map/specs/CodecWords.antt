@@ -6,7 +6,7 @@ use Rattle.buffa_bytes.specs.Values.{int32_at}
 use Rattle.buffa_bytes.specs.declared.wire_type.WireType.{WireType}
 use Rattle.buffa_bytes.specs.declared.error.DecodeError.{DecodeError}
 use Rattle.buffa_bytes.specs.declared.error.DecodeError.TheVariants.{RecursionLimitExceeded}
-use Rattle.buffa_wire.specs.BudgetLeft.{BudgetLeft, Lacks}
+use Rattle.buffa_wire.specs.BudgetLeft.{BudgetLeft, Lacks, nothing}
 use Rattle.buffa_wire.specs.Message.{IsLimit}
 use Rattle.buffa_map.specs.declared.codec.MapValueDecodeStatus.{MapValueDecodeStatus}
 use Rattle.buffa_map.specs.Codec.{HoldsNothing, IsWhole, Reading, ReadingTakesMemory, RefusesValue, Spends, Writing, value_at, value_need}
@@ -55,7 +55,8 @@ abbrev pub WritesAs : {V : Type 0} → Writing V → WireType → (V → List �
 WritesAs {V} codec wire encoding = (codec.wire ≡ wire) × ((v : V) → codec.encoding v ≡ encoding v)
 
 -- A codec reads messages: where a level is left, a length and so many bytes, of which merged makes a new value of the one
--- that stood, one level deeper, and which cost so much. A limit's error is told only where that isn't left, or no level is.
+-- that stood, one level deeper, and which cost so much. A limit's error is told only where that isn't left. Where no level is left,
+-- or no length and so many bytes are there, that is what is told, and nothing is the cost.
 pub record MessagesAreReadAs {V : Type 0} (codec : Reading V) (merged : ℕ → V → List ℕ → Option V) (cost : ℕ → List ℕ → BudgetLeft) : Type 0 where
   pub too_deep : (old : V) (bs : List ℕ) → value_at codec 0 old bs ≡ Err RecursionLimitExceeded
   pub no_bytes : (d : ℕ) (old : V) (bs : List ℕ) (f : DecodeError) → delimited_at bs ≡ Err f → value_at codec (suc d) old bs ≡ Err f
@@ -63,3 +64,7 @@ pub record MessagesAreReadAs {V : Type 0} (codec : Reading V) (merged : ℕ → 
   pub refuses : (d : ℕ) (old : V) (bs b rest : List ℕ) → delimited_at bs ≡ Ok (b, rest) → merged d old b ≡ None → (f : DecodeError) × (value_at codec (suc d) old bs ≡ Err f)
   pub costs : (d : ℕ) (bs b rest : List ℕ) → delimited_at bs ≡ Ok (b, rest) → value_need codec (suc d) bs ≡ cost d b
   pub limits : (d : ℕ) (old : V) (bs : List ℕ) (left : BudgetLeft) (f : DecodeError) → RefusesValue codec.nested codec d old bs left f → IsLimit f → Lacks left (value_need codec d bs)
+  pub no_cost : (bs : List ℕ) → value_need codec 0 bs ≡ nothing
+  pub no_bytes_cost : (d : ℕ) (bs : List ℕ) (f : DecodeError) → delimited_at bs ≡ Err f → value_need codec d bs ≡ nothing
+  pub level_told : (old : V) (bs : List ℕ) (left : BudgetLeft) (f : DecodeError) → RefusesValue codec.nested codec 0 old bs left f → f ≡ RecursionLimitExceeded
+  pub bytes_told : (d : ℕ) (old : V) (bs : List ℕ) (left : BudgetLeft) (f g : DecodeError) → delimited_at bs ≡ Err f → RefusesValue codec.nested codec (suc d) old bs left g → g ≡ f

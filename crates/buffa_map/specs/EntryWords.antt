@@ -1,18 +1,19 @@
 -- What the laws say of entries, runs and maps in the words of bytes and lists: tags, lengths and payloads, as the layer
 -- below reads them, and lists of pairs.
-use Rattle.std.specs.Prelude.{◌≡◌, ◌≢◌, ◌↔◌, ℕ, ◌+◌, ◌<◌, ◌≤◌, Bool, true, false, not, List, [], ◌∷◌, ◌++◌, map, None, Ok, Err}
+use Rattle.std.specs.Prelude.{◌≡◌, ◌≢◌, ◌↔◌, ◌⊎◌, ℕ, ◌+◌, ◌<◌, ◌≤◌, Bool, true, false, not, List, [], ◌∷◌, ◌++◌, map, None, Ok, Err}
 use Rattle.std.specs.Cmp.{IsEquivalence}
 use Rattle.std.specs.List.{IsDistinct, filter}
 use Rattle.std.specs.Map.{keys_of, lookup_entry}
 use Rattle.buffa_bytes.specs.Front.{delimited_at, skip_at, tag_at}
 use Rattle.buffa_bytes.specs.Left.{past_no_delimited, past_no_tag}
+use Rattle.buffa_bytes.specs.Unread.{IsTailOf}
 use Rattle.buffa_bytes.specs.declared.wire_type.WireType.{WireType}
 use Rattle.buffa_bytes.specs.declared.wire_type.WireType.TheVariants.{LengthDelimited}
 use Rattle.buffa_bytes.specs.declared.error.DecodeError.{DecodeError}
 use Rattle.buffa_bytes.specs.declared.error.DecodeError.TheVariants.{ElementMemoryLimitExceeded, OutOfMemory, UnexpectedField, UnknownFieldLimitExceeded, WireTypeMismatch}
 use Rattle.buffa_wire.specs.BudgetLeft.{BudgetLeft, Pays, plus, units, unknown_fields}
 use Rattle.buffa_wire.specs.Records.{bytes}
-use Rattle.buffa_map.specs.Codec.{Reading, value_at, value_need}
+use Rattle.buffa_map.specs.Codec.{Reading, ReadingTakesMemory, value_at, value_need}
 use Rattle.buffa_map.specs.Entry.{FaultOf, IsEntry, need_of}
 use Rattle.buffa_map.specs.Merge.{MergesEntry, ReadsRun, RefusesEntry, RefusesRun, Rules, State, state}
 use Rattle.buffa_map.specs.Pairs.{InOrder, ListsOnce, SamePairs, put}
@@ -47,7 +48,7 @@ module _ {K V : Type 0} (key : Reading K) (val : Reading V) where
         tag_at r ≡ Ok (n, w, p) → n ≢ 1 → n ≢ 2 → skip_at d n w p ≡ Err f → FaultOf key val d (e ++ r) f
 
   -- An entry of no bytes needs its units. A field of the key or the value behind an entry needs what its payload does, also
-  -- where that is refused, and a field of another number nothing.
+  -- where that is refused, and a field of another number nothing; nor does one of another wire type, nor what is no tag.
   pub record EntriesNeed : Type 0 where
     pub empty : (d cost : ℕ) → need_of key val d cost [] ≡ units cost
     pub key_field : (d cost : ℕ) (e f p : List ℕ) (s : MapEntry K V) → IsEntry key val d e s → tag_at f ≡ Ok (1, key.wire, p) →
@@ -58,8 +59,20 @@ module _ {K V : Type 0} (key : Reading K) (val : Reading V) where
         need_of key val d cost (e ++ f) ≡ plus (need_of key val d cost e) (value_need val d p)
     pub other_field : (d cost n : ℕ) (w : WireType) (e f p : List ℕ) (s : MapEntry K V) → IsEntry key val d e s → tag_at f ≡ Ok (n, w, p) →
         n ≢ 1 → n ≢ 2 → ((x : List ℕ) → skip_at d n w p ≡ Ok x → x ≡ []) → need_of key val d cost (e ++ f) ≡ need_of key val d cost e
+    pub key_wire : (d cost : ℕ) (w : WireType) (e f p : List ℕ) (s : MapEntry K V) → IsEntry key val d e s → tag_at f ≡ Ok (1, w, p) →
+        w ≢ key.wire → need_of key val d cost (e ++ f) ≡ need_of key val d cost e
+    pub value_wire : (d cost : ℕ) (w : WireType) (e f p : List ℕ) (s : MapEntry K V) → IsEntry key val d e s → tag_at f ≡ Ok (2, w, p) →
+        w ≢ val.wire → need_of key val d cost (e ++ f) ≡ need_of key val d cost e
+    pub no_tag : (d cost : ℕ) (e r : List ℕ) (s : MapEntry K V) (f : DecodeError) → IsEntry key val d e s → tag_at r ≡ Err f →
+        need_of key val d cost (e ++ r) ≡ need_of key val d cost e
 
 module _ {K V : Type 0} (r : Rules K V) where
+  -- some fields that are an entry are followed by a field of the key or the value that takes memory
+  abbrev pub FieldTakesMemory : List ℕ → Type 0
+  FieldTakesMemory e =
+      (front : List ℕ) × (more : List ℕ) × (s : MapEntry K V) × (p : List ℕ) × (e ≡ front ++ more) × IsEntry r.key r.val r.depth front s
+      × (((tag_at more ≡ Ok (1, r.key.wire, p)) × ReadingTakesMemory r.key r.depth p) ⊎ ((tag_at more ≡ Ok (2, r.val.wire, p)) × ReadingTakesMemory r.val r.depth p))
+
   -- A length and an entry, whose need is spent, are merged: a declared one is put; an undeclared one is kept whole, for an
   -- unknown field more, or dropped. It is refused where these aren't there, where its units aren't left, for its fault, or
   -- for want of an unknown field.
@@ -85,7 +98,9 @@ module _ {K V : Type 0} (r : Rules K V) where
 
   -- What a refused entry leaves: the pairs and the records. A fault of one that is there spends its units, also where its
   -- value is a message, and leaves what follows it unread. Memory runs out only where a length and so many bytes are there,
-  -- and where no codec takes memory only where the pair is put, or the entry kept.
+  -- and where no codec takes memory only where the pair is put, or the entry kept. No more is spent than the entry needs, and an
+  -- unknown field where memory runs out as it is kept; and nothing where no length and so many bytes are there. Where memory runs
+  -- out, at least what follows the entry is unread.
   pub record RefusedEntriesStay : Type 0 where
     pub pairs : (old new : State K V) (bs tail : List ℕ) (f : DecodeError) → RefusesEntry r old bs new tail f → new.pairs ≡ old.pairs
     pub records : (old new : State K V) (bs tail : List ℕ) (f : DecodeError) → RefusesEntry r old bs new tail f → new.records ≡ old.records
@@ -99,6 +114,19 @@ module _ {K V : Type 0} (r : Rules K V) where
         (e : List ℕ) × (rest : List ℕ) × (delimited_at bs ≡ Ok (e, rest))
     pub put : (old new : State K V) (bs tail : List ℕ) → RefusesEntry r old bs new tail OutOfMemory → r.key.takes_memory ≡ false → r.val.takes_memory ≡ false →
         r.keeps_undeclared ≡ false → (e : List ℕ) × (rest : List ℕ) × (s : MapEntry K V) × (delimited_at bs ≡ Ok (e, rest)) × IsEntry r.key r.val r.depth e s × (s.known ≡ true)
+    pub units : (old new : State K V) (bs e rest tail : List ℕ) (f : DecodeError) → RefusesEntry r old bs new tail f → delimited_at bs ≡ Ok (e, rest) →
+        old.left.memory ≤ new.left.memory + (need_of r.key r.val r.depth r.cost e).memory
+    pub fields : (old new : State K V) (bs e rest tail : List ℕ) (f : DecodeError) → RefusesEntry r old bs new tail f → delimited_at bs ≡ Ok (e, rest) →
+        (old.left.unknown ≤ new.left.unknown + ((need_of r.key r.val r.depth r.cost e).unknown + 1))
+        × (f ≢ OutOfMemory → old.left.unknown ≤ new.left.unknown + (need_of r.key r.val r.depth r.cost e).unknown)
+    pub unspent : (old new : State K V) (bs tail : List ℕ) (f g : DecodeError) → RefusesEntry r old bs new tail f → delimited_at bs ≡ Err g →
+        (new.left ≡ old.left) × (tail ≡ past_no_delimited bs)
+    pub behind : (old new : State K V) (bs e rest tail : List ℕ) (f : DecodeError) → RefusesEntry r old bs new tail f → delimited_at bs ≡ Ok (e, rest) → IsTailOf rest tail
+    pub taken : (old new : State K V) (bs tail : List ℕ) → RefusesEntry r old bs new tail OutOfMemory → (e : List ℕ) × (rest : List ℕ) × (delimited_at bs ≡ Ok (e, rest))
+        × (((r.keeps_undeclared ≡ true) × (r.val.undeclared ≡ true) × (e ≢ []))
+        ⊎ ((r.cost ≤ old.left.memory) × (FieldTakesMemory e
+        ⊎ ((s : MapEntry K V) × IsEntry r.key r.val r.depth e s × ((s.known ≡ true)
+        ⊎ ((r.keeps_undeclared ≡ true) × ((need_of r.key r.val r.depth r.cost e).unknown < old.left.unknown)))))))
 
   -- A run is its entries, each behind a tag of the field's number: no bytes are a run that changes nothing, and a record in
   -- front of a run is merged first. A run is refused at the first record that is: its tag, its number, its wire type, or its

@@ -52,7 +52,8 @@ module _ {K V : Type 0} (key : Writing K) (val : Writing V) where
     pub full : (before after : ℕ) (encoding : List ℕ) → UsesRoomOf (refusal OutOfMemory) before encoding after → before < length encoding
 
   -- A rewrite is the field of the map that the entries make of the empty one, its pairs in any order, and behind it a record
-  -- for each undeclared entry, in order. It is written behind what the sink has, or a beginning of it is.
+  -- for each undeclared entry, in order. It is written behind what the sink has, or a beginning of it is: as much as there is room
+  -- for, or up to a pair whose entry is too long. A map that keeps the order of the keys is written in it.
   module _ (r : Rules K V) (KeyFits : K → Type 0) (ValFits : V → Type 0) (Walks : List (K × V) → Type 0) where
     pub record RewritesAreFields : Type 0 where
       pub rewrite : (n : ℕ) (es : List (EntryRecord K V)) (out : List ℕ) → IsRewrite r.same key val KeyFits ValFits n es out ↔
@@ -68,6 +69,19 @@ module _ {K V : Type 0} (key : Writing K) (val : Writing V) where
       pub not_encoded : (left over : BudgetLeft) (bs rest old written : List ℕ) (new : List (K × V)) (before : ℕ) (e : EncodeError) →
           RefusesEncoding r key val Walks left bs new over rest old written before e →
           (take (length old) written ≡ old) × ((es : List (EntryRecord K V)) × Run r.key r.val r.depth r.number bs es × SamePairs r.same (fold_entries r.same [] es) new)
+      pub ordered : (left over : BudgetLeft) (bs rest old written : List ℕ) (new : List (K × V)) (before after : ℕ) →
+          RewritesRun r key val KeyFits ValFits Walks left bs new over rest old written before after → r.keeps_order ≡ true →
+          (es : List (EntryRecord K V)) × Run r.key r.val r.depth r.number bs es
+          × (written ≡ old ++ (field_encoding key val r.number (fold_entries r.same [] es) ++ flat_map (record_bytes r.number) (undeclared es)))
+      pub no_room : (left over : BudgetLeft) (bs rest old written : List ℕ) (new : List (K × V)) (before : ℕ) →
+          RefusesEncoding r key val Walks left bs new over rest old written before OutOfMemory →
+          (es : List (EntryRecord K V)) × (l : List (K × V)) × (front : List ℕ) × Run r.key r.val r.depth r.number bs es × ListsOnce r.same (fold_entries r.same [] es) l
+          × (written ≡ old ++ front) × IsPartOf front (field_encoding key val r.number l ++ flat_map (record_bytes r.number) (undeclared es))
+          × (before < length (field_encoding key val r.number l ++ flat_map (record_bytes r.number) (undeclared es)))
+      pub too_long : (left over : BudgetLeft) (bs rest old written : List ℕ) (new : List (K × V)) (before : ℕ) →
+          RefusesEncoding r key val Walks left bs new over rest old written before MessageTooLarge →
+          (es : List (EntryRecord K V)) × (front : List (K × V)) × (p : K × V) × (behind : List (K × V)) × Run r.key r.val r.depth r.number bs es
+          × ListsOnce r.same (fold_entries r.same [] es) (front ++ p ∷ behind) × (2 ^ 64 ≤ length (pair_bytes p)) × (written ≡ old ++ field_encoding key val r.number front)
 
 -- A field of messages has a slot for the length of each message, and then the message's own. The size pass appends them, and
 -- leaves the old slots first; the write pass consumes them, and leaves the sink's old bytes first.

@@ -236,6 +236,8 @@ pub fn merge_entry<
     C: MapStorage<Key = KC::Value, Value = VC::Value>,
     B: Buf,
 >(alloc: Global, map: &mut C, buf: &mut B, ctx: DecodeContext<'_>) -> Result<(), DecodeError>
+    // Accepted: a length and so many bytes are at the front, and they are an entry, which is put into the map unless it is
+    // undeclared.
     ensures ok { let rules : Rules _ _ = record {
       key = KC.reading;
       val = VC.reading;
@@ -248,6 +250,7 @@ pub fn merge_entry<
     } in OnOk result (MergesEntry rules
         (state (C.pairs map.old) [] ctx.entry.budget.now) (B.unread buf.old)
         (state (C.pairs map.new) [] (budget_left ctx.exit)) (B.unread buf.new)) }
+    // Refused: the entry's first fault is the error, and the map is as it was.
     ensures err { let rules : Rules _ _ = record {
       key = KC.reading;
       val = VC.reading;
@@ -260,6 +263,7 @@ pub fn merge_entry<
     } in IfErr result (RefusesEntry rules
         (state (C.pairs map.old) [] ctx.entry.budget.now) (B.unread buf.old)
         (state (C.pairs map.new) [] (budget_left ctx.exit)) (B.unread buf.new)) }
+    // What lies behind the end of a limited buffer stays there.
     ensures kept { B.beyond buf.new ≡ B.beyond buf.old }
 {
     let how = ByCodec::<VC>::new();
@@ -301,6 +305,7 @@ pub fn merge_entry_with_unknowns<
     number: u32,
     unknown: Option<&mut UnknownFields>,
 ) -> Result<(), DecodeError>
+    // Accepted: the entry at the front is put into the map, or kept in the list where it is undeclared.
     ensures ok { let rules : Rules _ _ = record {
       key = KC.reading;
       val = VC.reading;
@@ -313,6 +318,7 @@ pub fn merge_entry_with_unknowns<
     } in OnOk result (MergesEntry rules
         (state (C.pairs map.old) (records_before unknown.entry) ctx.entry.budget.now) (B.unread buf.old)
         (state (C.pairs map.new) (records_after unknown.exit) (budget_left ctx.exit)) (B.unread buf.new)) }
+    // Refused: its first fault is the error, and map and list are as they were.
     ensures err { let rules : Rules _ _ = record {
       key = KC.reading;
       val = VC.reading;
@@ -325,6 +331,7 @@ pub fn merge_entry_with_unknowns<
     } in IfErr result (RefusesEntry rules
         (state (C.pairs map.old) (records_before unknown.entry) ctx.entry.budget.now) (B.unread buf.old)
         (state (C.pairs map.new) (records_after unknown.exit) (budget_left ctx.exit)) (B.unread buf.new)) }
+    // The list doesn't shrink, and what lies behind the end of a limited buffer stays there.
     ensures room { capacity_before unknown.entry ≤ capacity_after unknown.exit }
     ensures kept { B.beyond buf.new ≡ B.beyond buf.old }
 {

@@ -31,6 +31,10 @@ pub use crate::pin_laws::{
 pub use crate::storage_laws::{
     hashed_maps_are_these, index_maps_are_these, ordered_maps_are_these, ordered_maps_have_one_walk,
 };
+pub use crate::word_laws::{
+    answers_are_these, functions_of_messages_are_these, lent_lists_are_these,
+    map_fields_are_written_so, meanings_are_kept_so,
+};
 use buffa_wire::{Blank, MapKey};
 use std::fmt::Display;
 use std::hash::Hash;

@@ -36,4 +36,5 @@ mod size;
 mod sized;
 mod storage;
 mod storage_laws;
+mod word_laws;
 mod write;

@@ -133,6 +133,8 @@ pub fn rewrite_map_field<
     sink: &mut S,
 ) -> Result<(), RewriteError>
     requires { IsNumber number }
+    // Accepted: the bytes are a run, which was read into the empty map; behind what stood in the sink are the map's records,
+    // and then the undeclared entries.
     ensures ok { let rules : Rules _ _ = record {
       key = KC.reading;
       val = VC.reading;
@@ -145,6 +147,7 @@ pub fn rewrite_map_field<
     } in OnOk result (RewritesRun rules KC.writing VC.writing KC.fits VC.fits (C.walks map.new) ctx.entry.budget.now
         (B.unread buf.old) (C.pairs map.new) (budget_left ctx.exit) (B.unread buf.new)
         (S.written sink.old) (S.written sink.new) (S.room sink.old) (S.room sink.new)) }
+    // Refused: reading failed, and nothing was written; or writing failed, which it does only for want of room.
     ensures refused { let rules : Rules _ _ = record {
       key = KC.reading;
       val = VC.reading;
@@ -159,6 +162,7 @@ pub fn rewrite_map_field<
         (B.unread buf.new) (S.written sink.old) (S.written sink.new))
         (RefusesEncoding rules KC.writing VC.writing (C.walks map.new) ctx.entry.budget.now (B.unread buf.old) (C.pairs map.new)
         (budget_left ctx.exit) (B.unread buf.new) (S.written sink.old) (S.written sink.new) (S.room sink.old))) }
+    // What lies behind the end of a limited buffer stays there.
     ensures kept { B.beyond buf.new ≡ B.beyond buf.old }
 {
     let mut aside = UnknownFields::new(alloc);

@@ -104,6 +104,8 @@ pub fn read_map_field<
     ctx: DecodeContext<'_>,
     unknown: Option<&mut UnknownFields>,
 ) -> Result<(), DecodeError>
+    // Accepted: the bytes are a run of records. The declared entries are folded over the old pairs, the undeclared ones are
+    // kept where a list is passed, what they cost is spent, and nothing is left unread.
     ensures ok { let rules : Rules _ _ = record {
       key = KC.reading;
       val = VC.reading;
@@ -116,6 +118,7 @@ pub fn read_map_field<
     } in OnOk result (ReadsRun rules
         (state (C.pairs map.old) (records_before unknown.entry) ctx.entry.budget.now) (B.unread buf.old)
         (state (C.pairs map.new) (records_after unknown.exit) (budget_left ctx.exit)) (B.unread buf.new)) }
+    // Refused: the same of the records in front of the refused one, whose first fault is the error.
     ensures err { let rules : Rules _ _ = record {
       key = KC.reading;
       val = VC.reading;
@@ -128,6 +131,7 @@ pub fn read_map_field<
     } in IfErr result (RefusesRun rules
         (state (C.pairs map.old) (records_before unknown.entry) ctx.entry.budget.now) (B.unread buf.old)
         (state (C.pairs map.new) (records_after unknown.exit) (budget_left ctx.exit)) (B.unread buf.new)) }
+    // The list doesn't shrink, and what lies behind the end of a limited buffer stays there.
     ensures room { capacity_before unknown.entry ≤ capacity_after unknown.exit }
     ensures kept { B.beyond buf.new ≡ B.beyond buf.old }
 {

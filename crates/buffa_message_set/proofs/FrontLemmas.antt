@@ -1,13 +1,18 @@
 -- What stands in front of an Item makes another one.
-use Rattle.std.proofs.Common.{◌≡◌, inl, inr, ℕ, ◌<◌, ◌==◌, Bool, true, false, Err, if◌then◌else◌, List, [], ◌∷◌, ◌++◌, length, Option, None, Some, refl, sym, ap, subst, ◌∙◌, arith, append_assoc, append-nil}
+use Rattle.std.proofs.Common.{◌≡◌, ◌≢◌, ◌⊎◌, inl, inr, ℕ, ◌<◌, ◌==◌, Bool, true, false, Err, if◌then◌else◌, List, [], ◌∷◌, ◌++◌, length, Option, None, Some, refl, sym, ap, subst, ◌∙◌, arith, append_assoc, append-nil}
 use Rattle.std.proofs.lemmas.Bool.{eqb-true}
-use Rattle.buffa_bytes.specs.Field.{Field, IsTag}
+use Rattle.buffa_bytes.specs.Field.{Field, IsTag, LengthFault, PayloadFault, TagFault, TakesDelimited, TakesTag}
+use Rattle.buffa_bytes.specs.Field.{SomeField}
+use Rattle.buffa_bytes.specs.Join.{Join}
 use Rattle.buffa_bytes.specs.Sequence.{ParsesEach, join}
-use Rattle.buffa_bytes.specs.Varint.{IsVarint}
-use Rattle.buffa_bytes.specs.declared.error.DecodeError.TheVariants.{UnknownFieldLimitExceeded}
+use Rattle.buffa_bytes.specs.Varint.{IsVarint, VarintFault}
+use Rattle.buffa_bytes.specs.declared.error.DecodeError.{DecodeError}
+use Rattle.buffa_bytes.specs.declared.error.DecodeError.TheVariants.{InvalidMessageSet, UnknownFieldLimitExceeded}
+use Rattle.buffa_bytes.specs.declared.error.MessageSetFault.TheVariants.{MissingTypeId, TypeIdOutOfRange}
 use Rattle.buffa_bytes.specs.declared.wire_type.WireType.{WireType}
 use Rattle.buffa_bytes.specs.declared.wire_type.WireType.TheVariants.{Varint, LengthDelimited, EndGroup}
-use Rattle.buffa_message_set.specs.Item.{IsItemField, IsOther, IsTypeId, Item, Said, item_at, item_in, said, says, unsaid}
+use Rattle.buffa_message_set.specs.Item.{EndFault, HasMessage, IsItemField, IsOther, IsOutOfRange, IsTypeId, Item, ItemFault, ItemFieldFault, Said, item_at, item_in, said, says, unsaid}
+use Rattle.buffa_message_set.proofs.GroupLemmas.{item_fields}
 
 -- the number that was said, or else another one
 abbrev or_earlier : Option ℕ → Option ℕ → Option ℕ
@@ -52,6 +57,64 @@ message_first d id tag l m b msg is_tag v h =
 
 pub other_first : (d id n : ℕ) (w : WireType) (f b msg : List ℕ) → Field d n w f → IsOther n w → Item d b id msg → Item d (f ++ b) id msg
 other_first d id n w f b msg field other h = field_first d None [] f b msg id (inr (inr (n, w, other, field, refl))) h
+
+-- ---- faults
+
+-- the fault of the first field
+front_fault : (d : ℕ) (bs : List ℕ) (e : DecodeError) → ItemFieldFault d bs e ⊎ EndFault unsaid bs e → ItemFault d bs e
+front_fault d bs e h = (unsaid, bs, ([], refl, refl), h)
+
+pub no_tag : (d : ℕ) (bs : List ℕ) (e : DecodeError) → TagFault bs e → ItemFault d bs e
+no_tag d bs e h = front_fault d bs e (inl (inl h))
+
+pub no_type_id : (d : ℕ) (end rest : List ℕ) → IsTag end 1 EndGroup → ItemFault d (end ++ rest) (InvalidMessageSet MissingTypeId)
+no_type_id d end rest tag = front_fault d (end ++ rest) _ (inr (rest, (end, tag, refl), refl, refl))
+
+pub out_of_range : (d n : ℕ) (tag p rest : List ℕ) → IsTag tag 2 Varint → IsVarint p n → IsOutOfRange n → ItemFault d (tag ++ (p ++ rest)) (InvalidMessageSet TypeIdOutOfRange)
+out_of_range d n tag p rest is_tag v out = front_fault d _ _ (inl (inr (inl (p ++ rest, (tag, is_tag, refl), inr (n, rest, (p, v, refl), out, refl)))))
+
+pub no_varint : (d : ℕ) (tag bs : List ℕ) (e : DecodeError) → IsTag tag 2 Varint → VarintFault bs e → ItemFault d (tag ++ bs) e
+no_varint d tag bs e is_tag h = front_fault d _ e (inl (inr (inl (bs, (tag, is_tag, refl), inl h))))
+
+pub no_bytes : (d : ℕ) (tag bs : List ℕ) (e : DecodeError) → IsTag tag 3 LengthDelimited → LengthFault bs e → ItemFault d (tag ++ bs) e
+no_bytes d tag bs e is_tag h = front_fault d _ e (inl (inr (inr (inl (bs, (tag, is_tag, refl), h)))))
+
+pub no_payload : (d n : ℕ) (w : WireType) (tag bs : List ℕ) (e : DecodeError) → IsTag tag n w → (n ≡ 2 → w ≢ Varint) → (n ≡ 3 → w ≢ LengthDelimited) → (n ≡ 1 → w ≢ EndGroup) → PayloadFault d n w bs e → ItemFault d (tag ++ bs) e
+no_payload d n w tag bs e is_tag two three one h = front_fault d _ e (inl (inr (inr (inr (n, w, bs, (two, three, one), (tag, is_tag, refl), h)))))
+
+module _ (d : ℕ) (earlier : Option ℕ) (front f b : List ℕ) (e : DecodeError) where
+  -- a fault behind a field that says the earlier type id and message bytes, where the fault of the end is one behind it too
+  fault_behind : IsItemField d unsaid f (behind earlier front unsaid) → ((s : Said) (rest : List ℕ) → EndFault s rest e → EndFault (behind earlier front s) rest e) → ItemFault d b e → ItemFault d (f ++ b) e
+  fault_behind h end (s, rest, (ps, cut, each), fault) =
+      (behind earlier front s, rest, (f ∷ ps, joined f b rest ps cut, (behind earlier front unsaid, h, fields_behind d earlier front ps unsaid s each)), at fault)
+    where
+      at : ItemFieldFault d rest e ⊎ EndFault s rest e → ItemFieldFault d rest e ⊎ EndFault (behind earlier front s) rest e
+      at (inl x) = inl x
+      at (inr x) = inr (end s rest x)
+
+-- where the field says no type id, none is said behind it either
+still_none : (front : List ℕ) (e : DecodeError) (s : Said) (rest : List ℕ) → EndFault s rest e → EndFault (behind None front s) rest e
+still_none front e s rest (more, tag, none, is) = (more, tag, ap (or_earlier None) none, is)
+
+pub behind_id : (d n : ℕ) (tag p b : List ℕ) (e : DecodeError) → IsTag tag 2 Varint → IsVarint p n → IsTypeId n → e ≢ InvalidMessageSet MissingTypeId → ItemFault d b e → ItemFault d (tag ++ (p ++ b)) e
+behind_id d n tag p b e is_tag v range other h =
+    subst (λ x. ItemFault d x e) (append_assoc tag p b)
+    (fault_behind d (Some n) [] (tag ++ p) b e (inl (tag, p, n, is_tag, v, range, refl, refl)) (λ s rest x. absurd (other x.3)) h)
+
+pub behind_message : (d : ℕ) (tag l m b : List ℕ) (e : DecodeError) → IsTag tag 3 LengthDelimited → IsVarint l (length m) → ItemFault d b e → ItemFault d (tag ++ (l ++ (m ++ b))) e
+behind_message d tag l m b e is_tag v h =
+    subst (λ x. ItemFault d x e) (append_assoc tag (l ++ m) b ∙ ap (λ x. tag ++ x) (append_assoc l m b))
+    (fault_behind d None m (tag ++ (l ++ m)) b e (inr (inl (tag, l, m, is_tag, v, refl, ap (said None) (append-nil m)))) (still_none m e) h)
+
+pub behind_other : (d n : ℕ) (w : WireType) (f b : List ℕ) (e : DecodeError) → Field d n w f → (n ≡ 2 → w ≢ Varint) → (n ≡ 3 → w ≢ LengthDelimited) → (n ≡ 1 → w ≢ EndGroup) → ItemFault d b e → ItemFault d (f ++ b) e
+behind_other d n w f b e field two three one h = fault_behind d None [] f b e (inr (inr (n, w, (two, three, one), field, refl))) (still_none [] e) h
+
+-- ---- where memory is asked for
+
+pub message_there : (d : ℕ) (bs : List ℕ) → HasMessage d bs → (front : List ℕ) × (tag : List ℕ) × (l : List ℕ) × (b : List ℕ) × (rest : List ℕ)
+    × (bs ≡ front ++ (tag ++ (l ++ (b ++ rest)))) × Join (SomeField d) front × IsTag tag 3 LengthDelimited × IsVarint l (length b) × (b ≢ [])
+message_there d bs (s, field, payload, b, rest, (ps, cut, each), (tag, is_tag, split), (l, v, is), some) =
+    (join ps, tag, l, b, rest, cut ∙ ap (λ x. join ps ++ x) (split ∙ ap (λ x. tag ++ x) is), item_fields d ps unsaid s each, is_tag, v, some)
 
 read_by : (d n : ℕ) (bs : List ℕ) (b : Bool) → (n == 0) ≡ b → 0 < n → (if b then Err UnknownFieldLimitExceeded else item_at d bs) ≡ item_at d bs
 read_by d n bs true e h = absurd (omega (arith, h, eqb-true n 0 e))

@@ -23,7 +23,7 @@ field_is d s t f (inl (tag, p, id, is_tag, v, range, e, st)) = (2, Varint, (tag,
 field_is d s t f (inr (inl (tag, l, b, is_tag, v, e, st))) = (3, LengthDelimited, (tag, l ++ b, is_tag, (l, b, v, refl), e))
 field_is d s t f (inr (inr (n, w, other, h, st))) = (n, w, h)
 
-item_fields : (d : ℕ) (ps : List (List ℕ)) (s t : Said) → ParsesEach (IsItemField d) s ps t → Join (SomeField d) (join ps)
+pub item_fields : (d : ℕ) (ps : List (List ℕ)) (s t : Said) → ParsesEach (IsItemField d) s ps t → Join (SomeField d) (join ps)
 item_fields d [] s t h = none
 item_fields d (p ∷ ps) s t (u, h, w) = more p (join ps) (field_is d s u p h) (item_fields d ps u t w)
 

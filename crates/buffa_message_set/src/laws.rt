@@ -1,16 +1,18 @@
 //! What the definitions of Items say together: each law is a function with nothing to do, whose contract is the law.
 
-ghost use Rattle.std.specs.Prelude.{◌≡◌, ◌≢◌, ◌↔◌, ◌<◌, ◌+◌, ◌^◌, ◌⊎◌, [], ◌∷◌, ◌++◌, ℕ, List, Ok, Err, length};
+ghost use Rattle.std.specs.Prelude.{◌≡◌, ◌≢◌, ◌↔◌, ◌<◌, ◌≤◌, ◌+◌, ◌^◌, ◌⊎◌, [], ◌∷◌, ◌++◌, ℕ, List, Ok, Err, length};
 ghost use Rattle.buffa_bytes.specs.declared.error.DecodeError.{DecodeError};
-ghost use Rattle.buffa_bytes.specs.declared.error.DecodeError.TheVariants.{OutOfMemory, UnknownFieldLimitExceeded};
+ghost use Rattle.buffa_bytes.specs.declared.error.DecodeError.TheVariants.{InvalidMessageSet, OutOfMemory, UnknownFieldLimitExceeded};
+ghost use Rattle.buffa_bytes.specs.declared.error.MessageSetFault.TheVariants.{MissingTypeId, TypeIdOutOfRange};
 ghost use Rattle.buffa_bytes.specs.declared.wire_type.WireType.TheVariants.{EndGroup, LengthDelimited, StartGroup, Varint};
-ghost use Rattle.buffa_bytes.specs.Field.{Field, IsTag};
+ghost use Rattle.buffa_bytes.specs.Field.{Field, IsTag, LengthFault, PayloadFault, SomeField, TagFault};
+ghost use Rattle.buffa_bytes.specs.Join.{Join};
 ghost use Rattle.buffa_bytes.specs.Values.{delimited_encoding, tag_encoding};
-ghost use Rattle.buffa_bytes.specs.Varint.{IsVarint, varint_encoding};
+ghost use Rattle.buffa_bytes.specs.Varint.{IsVarint, VarintFault, varint_encoding};
 ghost use Rattle.buffa_bytes.specs.declared.wire_type.WireType.{WireType};
 ghost use Rattle.buffa_wire.specs.BudgetLeft.{BudgetLeft};
 ghost use Rattle.buffa_wire.specs.Message.{IsLimit};
-ghost use Rattle.buffa_message_set.specs.Item.{GroupsAreReadAlike, IsTypeId, Item, ItemFault, ItemsAreGroups, NoOtherFront, OneItem, SpendsUnknown};
+ghost use Rattle.buffa_message_set.specs.Item.{GroupsAreReadAlike, HasMessage, IsTypeId, Item, ItemFault, ItemsAreGroups, NoOtherFront, OneItem, SpendsUnknown};
 ghost use Rattle.buffa_message_set.specs.Item.{TakesItem, WrittenIsItem, body_encoding, item_at, item_encoding, item_in};
 ghost use Rattle.buffa_message_set.specs.Pinned.{ItemIsPinned, WrittenItemIsPinned};
 
@@ -65,6 +67,38 @@ pub fn items_are_read()
     ensures err { (d : ℕ) (bs : List ℕ) (e : DecodeError) → (item_at d bs ≡ Err e) ↔ ItemFault d bs e }
     ensures memory { (d : ℕ) (bs : List ℕ) → item_at d bs ≢ Err OutOfMemory }
     ensures range { (d id : ℕ) (bs msg : List ℕ) → Item d bs id msg → IsTypeId id }
+{}
+
+/// Why no Item begins bytes: the fault of the first field; an end tag of number 1 where no type id was; a type id of 0, or of 2^31
+/// or more. So it is behind a field, too, where that is well formed; but behind a type id none is missing.
+#[tactic(auto, using(crate::proofs::FrontLemmas::no_tag, crate::proofs::FrontLemmas::no_type_id, crate::proofs::FrontLemmas::no_varint, crate::proofs::FrontLemmas::no_bytes))]
+pub fn faults_of_items_are_these()
+    ensures no_tag { (d : ℕ) (bs : List ℕ) (e : DecodeError) → TagFault bs e → ItemFault d bs e }
+    ensures no_type_id { (d : ℕ) (end rest : List ℕ) → IsTag end 1 EndGroup →
+        ItemFault d (end ++ rest) (InvalidMessageSet MissingTypeId) }
+    ensures out_of_range { (d n : ℕ) (tag p rest : List ℕ) → IsTag tag 2 Varint → IsVarint p n → (n ≡ 0) ⊎ (2 ^ 31 ≤ n) →
+        ItemFault d (tag ++ (p ++ rest)) (InvalidMessageSet TypeIdOutOfRange) }
+    ensures no_varint { (d : ℕ) (tag bs : List ℕ) (e : DecodeError) → IsTag tag 2 Varint → VarintFault bs e →
+        ItemFault d (tag ++ bs) e }
+    ensures no_bytes { (d : ℕ) (tag bs : List ℕ) (e : DecodeError) → IsTag tag 3 LengthDelimited → LengthFault bs e →
+        ItemFault d (tag ++ bs) e }
+    ensures no_payload { (d n : ℕ) (w : WireType) (tag bs : List ℕ) (e : DecodeError) → IsTag tag n w → (n ≡ 2 → w ≢ Varint) →
+        (n ≡ 3 → w ≢ LengthDelimited) → (n ≡ 1 → w ≢ EndGroup) → PayloadFault d n w bs e → ItemFault d (tag ++ bs) e }
+    ensures behind_id { (d n : ℕ) (tag p b : List ℕ) (e : DecodeError) → IsTag tag 2 Varint → IsVarint p n → IsTypeId n →
+        e ≢ InvalidMessageSet MissingTypeId → ItemFault d b e → ItemFault d (tag ++ (p ++ b)) e }
+    ensures behind_message { (d : ℕ) (tag l m b : List ℕ) (e : DecodeError) → IsTag tag 3 LengthDelimited →
+        IsVarint l (length m) → ItemFault d b e → ItemFault d (tag ++ (l ++ (m ++ b))) e }
+    ensures behind_other { (d n : ℕ) (w : WireType) (f b : List ℕ) (e : DecodeError) → Field d n w f → (n ≡ 2 → w ≢ Varint) →
+        (n ≡ 3 → w ≢ LengthDelimited) → (n ≡ 1 → w ≢ EndGroup) → ItemFault d b e → ItemFault d (f ++ b) e }
+{}
+
+/// An Item takes memory only where, behind some fields, a message's tag, its length and so many bytes are there, and one byte
+/// at least.
+#[tactic(auto, using(crate::proofs::FrontLemmas::message_there))]
+pub fn items_take_memory_so()
+    ensures { (d : ℕ) (bs : List ℕ) → HasMessage d bs → (front : List ℕ) × (tag : List ℕ) × (l : List ℕ) × (b : List ℕ)
+        × (rest : List ℕ) × (bs ≡ front ++ (tag ++ (l ++ (b ++ rest)))) × Join (SomeField d) front
+        × IsTag tag 3 LengthDelimited × IsVarint l (length b) × (b ≢ []) }
 {}
 
 /// No Item is a proper beginning of another, and bytes are an Item in one way.

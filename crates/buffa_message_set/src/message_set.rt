@@ -174,13 +174,18 @@ pub fn merge_item<B: Buf>(
     buf: &mut B,
     ctx: DecodeContext<'_>,
 ) -> Result<(u32, Vec<u8>), DecodeError>
+    // The type id, the message and what is left unread are what the Item at the front says, or the error is its first fault;
+    // or memory ran out.
     ensures reads { GivesUnlessFull (λ item. (item.0, item.1.items, B.unread buf.new)) result
         (item_in ctx.entry.depth ctx.entry.budget.now.unknown (B.unread buf.old)) }
     ensures range { IfOk result (λ item. IsTypeId item.0) }
+    // Memory runs out only where an unknown field was left, and the Item has a message that isn't empty.
     ensures full { FullOnlyIf result ((0 < ctx.entry.budget.now.unknown)
         × HasMessage ctx.entry.depth (B.unread buf.old)) }
+    // One of the unknown fields left is spent, if there was one, and no element memory.
     ensures spent { SpendsUnknown ctx.entry.budget.now (budget_left ctx.exit) }
     ensures untouched { ctx.entry.budget.now.unknown ≡ 0 → B.unread buf.new ≡ B.unread buf.old }
+    // What lies behind the end of a limited buffer stays there, and what is unread is an end of what was.
     ensures kept { B.beyond buf.new ≡ B.beyond buf.old }
     ensures tail { IsTailOf (B.unread buf.new) (B.unread buf.old) }
 {

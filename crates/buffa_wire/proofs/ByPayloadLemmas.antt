@@ -4,7 +4,7 @@ use Rattle.std.specs.Option.{option_and_then}
 use Rattle.buffa_bytes.specs.declared.wire_type.WireType.{WireType}
 use Rattle.buffa_bytes.specs.declared.error.DecodeError.{DecodeError}
 use Rattle.buffa_bytes.specs.declared.error.DecodeError.TheVariants as error
-use Rattle.buffa_bytes.specs.Field.{IsTag, Payload, SomeField}
+use Rattle.buffa_bytes.specs.Field.{IsTag, Payload, PayloadFault, SomeField}
 use Rattle.buffa_bytes.specs.Join.{Join}
 use Rattle.buffa_bytes.specs.Join.Join.{none, more}
 use Rattle.buffa_bytes.specs.Front.{skip_at, tag_at}
@@ -14,7 +14,7 @@ use Rattle.buffa_wire.specs.BudgetLeft.{BudgetLeft, PaysAtMost, nothing, plus}
 use Rattle.buffa_wire.specs.Message.{IsFieldMerged, IsJudged, MergeFault}
 use Rattle.buffa_wire.specs.Takes.{IsTaken, Need, Stays, Taker, cost_of, merged_of}
 use Rattle.buffa_wire.proofs.MessageLemmas.{tag_no_limit}
-use Rattle.buffa_wire.proofs.TakesLemmas.{cost_of_next, cost_of_none, merged_of_fields, merged_of_next, merged_of_none, taken_merges}
+use Rattle.buffa_wire.proofs.TakesLemmas.{cost_of_next, cost_of_no_payload, cost_of_none, merged_of_fields, merged_of_next, merged_of_none, taken_merges}
 
 -- what bytes make of a value, and what they cost, is what payloads do
 pub record ByPayload {X : Type 0} (takes : Taker X) (need : Need) (merged : ℕ → X → List ℕ → Option X) (cost : ℕ → List ℕ → BudgetLeft) : Type 0 where
@@ -74,6 +74,10 @@ module _ {X : Type 0} {takes : Taker X} {need : Need} {merged : ℕ → X → Li
   -- costs add over fields
   pub cost_next : (d : ℕ) (f r : List ℕ) → SomeField d f → cost d (f ++ r) ≡ plus (cost d f) (cost d r)
   cost_next d f r h = by.cost_is d (f ++ r) ∙ cost_of_next need by.stays d f r h ∙ (λ i. plus (sym (by.cost_is d f) i) (sym (by.cost_is d r) i))
+
+  -- what a tag begins, and is no field
+  pub costs_no_payload : (d n : ℕ) (w : WireType) (t bs : List ℕ) (e : DecodeError) → IsTag t n w → PayloadFault d n w bs e → cost d (t ++ bs) ≡ need d n w bs
+  costs_no_payload d n w t bs e tag h = by.cost_is d (t ++ bs) ∙ cost_of_no_payload need d t bs n w e tag h
 
   -- fields, and then what follows them
   pub merged_join : (d : ℕ) (f r : List ℕ) → Join (SomeField d) f → (v : X) → merged d v (f ++ r) ≡ option_and_then (λ w. merged d w r) (merged d v f)

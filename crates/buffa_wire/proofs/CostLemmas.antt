@@ -1,12 +1,12 @@
 -- What fields cost together follows from what each costs.
 use Rattle.std.proofs.Common.{◌≡◌, ◌≢◌, ◌⊎◌, inl, inr, ℕ, ◌+◌, List, [], ◌++◌, Result, Ok, Err, refl, sym, ap, subst, ◌∙◌, arith, append_assoc, append-nil}
 use Rattle.std.specs.Result.{MatchResult}
-use Rattle.buffa_bytes.proofs.FieldLemmas.{payload_complete, skip_falls, tag_complete, tag_falls}
+use Rattle.buffa_bytes.proofs.FieldLemmas.{payload_complete, payload_faulty, skip_falls, tag_complete, tag_falls}
 use Rattle.buffa_bytes.specs.declared.wire_type.WireType.{WireType}
 use Rattle.buffa_bytes.specs.declared.error.DecodeError.{DecodeError}
 use Rattle.buffa_bytes.specs.declared.error.DecodeError.TheVariants.{OutOfMemory}
 use Rattle.buffa_wire.proofs.MessageLemmas.{NoLimit}
-use Rattle.buffa_bytes.specs.Field.{IsTag, Payload, SomeField}
+use Rattle.buffa_bytes.specs.Field.{IsTag, Payload, PayloadFault, SomeField}
 use Rattle.buffa_wire.specs.BudgetLeft.{BudgetLeft, Lacks, Pays, PaysAtMost, need_by, nothing, plus}
 use Rattle.buffa_wire.specs.Message.{IsFieldMerged, IsJudged}
 use Rattle.buffa_bytes.specs.Front.{skip_at, tag_at}
@@ -52,6 +52,14 @@ module _ (need : FieldNeed) (d : ℕ) where
   -- a tag, and then what follows it
   pub cost_tagged : (t bs : List ℕ) (n : ℕ) (w : WireType) → IsTag t n w → cost_by need d (t ++ bs) ≡ plus (need n w bs) (need_by (skip_at d n w bs) (cost_by need d))
   cost_tagged t bs n w tag = turn (t ++ bs) (Ok (n, w, bs)) (tag_complete t n w bs tag) ∙ behind (need n w bs) (skip_at d n w bs)
+
+  -- what is no field costs what its tag and wire type say, and where no tag is there nothing
+  pub cost_no_tag : (bs : List ℕ) (e : DecodeError) → tag_at bs ≡ Err e → cost_by need d bs ≡ nothing
+  cost_no_tag bs e h = turn bs (Err e) h
+
+  pub cost_no_payload : (t bs : List ℕ) (n : ℕ) (w : WireType) (e : DecodeError) → IsTag t n w → PayloadFault d n w bs e → cost_by need d (t ++ bs) ≡ need n w bs
+  cost_no_payload t bs n w e tag h =
+      cost_tagged t bs n w tag ∙ ap (λ z. plus (need n w bs) (need_by z (cost_by need d))) (payload_faulty d n w bs e h) ∙ plus_nothing (need n w bs)
 
   module _ (stays : (n : ℕ) (w : WireType) (p x : List ℕ) → Payload d n w p → need n w (p ++ x) ≡ need n w p) where
     -- a field, and then what follows it

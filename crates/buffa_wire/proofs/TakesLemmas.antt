@@ -11,12 +11,12 @@ use Rattle.buffa_bytes.specs.declared.error.DecodeError.{DecodeError}
 use Rattle.buffa_bytes.specs.declared.error.DecodeError.TheVariants.{UnexpectedEof}
 use Rattle.buffa_wire.proofs.MessageLemmas.{NoLimit, payload_no_limit}
 use Rattle.buffa_wire.specs.BudgetLeft.{BudgetLeft, nothing, plus}
-use Rattle.buffa_bytes.specs.Field.{IsTag, Payload, SomeField}
+use Rattle.buffa_bytes.specs.Field.{IsTag, Payload, PayloadFault, SomeField}
 use Rattle.buffa_bytes.specs.Gives.{FullOnlyIf, Gives}
 use Rattle.buffa_bytes.specs.Join.{Join}
 use Rattle.buffa_wire.specs.Message.{IsFieldMerged}
-use Rattle.buffa_bytes.specs.Front.{skip_at}
-use Rattle.buffa_wire.proofs.CostLemmas.{IsPaid, cost_empty, cost_free, cost_next as costs_next, field_alone, paid}
+use Rattle.buffa_bytes.specs.Front.{skip_at, tag_at}
+use Rattle.buffa_wire.proofs.CostLemmas.{IsPaid, cost_empty, cost_free, cost_next as costs_next, cost_no_payload, cost_no_tag, field_alone, paid}
 use Rattle.buffa_wire.proofs.ByFieldLemmas.{IsSame, IsSound, Same, empty, fields, merged_alike, next, read, read_last, refused}
 use Rattle.buffa_wire.specs.ByField.{FieldNeed, FieldReader, cost_by, merged_by, value_of}
 use Rattle.buffa_wire.specs.Takes.{IsTaken, Leads, Need, Piece, ReadsBack, Stays, Taker, Untaken, answer, cost_of, costs_nothing, framed, front_of, joined_fields, merged_of, taken_by}
@@ -102,6 +102,14 @@ module _ {X : Type 0} (takes : Taker X) (d : ℕ) where
 pub cost_of_none : (need : Need) (d : ℕ) → cost_of need d [] ≡ nothing
 unfolding cost_of
 cost_of_none need d = cost_empty (need d) d
+
+pub cost_of_no_tag : (need : Need) (d : ℕ) (bs : List ℕ) (e : DecodeError) → tag_at bs ≡ Err e → cost_of need d bs ≡ nothing
+unfolding cost_of
+cost_of_no_tag need d bs e h = cost_no_tag (need d) d bs e h
+
+pub cost_of_no_payload : (need : Need) (d : ℕ) (t bs : List ℕ) (n : ℕ) (w : WireType) (e : DecodeError) → IsTag t n w → PayloadFault d n w bs e → cost_of need d (t ++ bs) ≡ need d n w bs
+unfolding cost_of
+cost_of_no_payload need d t bs n w e tag h = cost_no_payload (need d) d t bs n w e tag h
 
 pub cost_of_next : (need : Need) → Stays need → (d : ℕ) (f r : List ℕ) → SomeField d f → cost_of need d (f ++ r) ≡ plus (cost_of need d f) (cost_of need d r)
 unfolding cost_of

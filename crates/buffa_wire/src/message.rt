@@ -230,11 +230,15 @@ pub trait Message: MessageSpec {
         buf: &mut &[u8],
         ctx: DecodeContext<'_>,
     ) -> Result<(), DecodeError>
+        // What the bytes mean is left, and what they cost is spent; or the error tells why not.
         ensures merged { MergesBytes Self.merged Self.cost ctx.entry.depth (Self.meaning self.old) buf.old.now
             ctx.entry.budget.now result (Self.meaning self.new) (budget_left ctx.exit) }
+        // Refused: the fields before the refused one are merged, and its type says of that one what it leaves.
         ensures stands { IfErr result (λ e. Stands Self.merged Self.cost Self.Refused ctx.entry.depth
             (Self.meaning self.old) buf.old.now ctx.entry.budget.now e (Self.meaning self.new)) }
+        // Memory runs out only where a field begins the bytes.
         ensures full { FullOnlyIf result (BeginsField buf.old.now) }
+        // Accepted, nothing is left unread; refused, some end of the bytes.
         ensures read { OnOk result (buf.new.now ≡ []) }
         ensures tail { IsTailOf buf.new.now buf.old.now }
     {

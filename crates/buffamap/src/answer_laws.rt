@@ -1,7 +1,7 @@
 //! What each command answers to each input, in plain words: each law is a function with nothing to do, whose contract is the
 //! law. `reply_laws.rt` has the words of replies, digits and lines.
 
-ghost use Rattle.std.specs.Prelude.{◌≡◌, ◌⊎◌, ◌↔◌, ◌≢◌, ◌≤◌, ◌<◌, ◌+◌, ◌-◌, ◌^◌, ◌++◌, ◌∷◌, [], ℕ, ℤ, List, Err, FitsSigned, IfSome, None, Ok, Option, Some, codes, false, length, map, nat_lt, option_map, true};
+ghost use Rattle.std.specs.Prelude.{◌≡◌, ◌⊎◌, ◌↔◌, ◌≢◌, ◌≤◌, ◌<◌, ◌+◌, ◌-◌, ◌^◌, ◌++◌, ◌∷◌, [], ℕ, ℤ, Bool, List, Err, FitsSigned, IfSome, None, Ok, Option, Some, codes, false, length, map, nat_lt, option_map, true};
 ghost use Rattle.std.specs.Fmt.{decimal, signed_decimal};
 ghost use Rattle.std.specs.Int.{w32};
 ghost use Rattle.std.specs.List.{flat_map, list_all};
@@ -35,7 +35,7 @@ ghost use Rattle.buffa_wire.specs.Records.{Datum};
 ghost use Rattle.buffamap.specs.Again.{RepliesToAgain, encoding_reply};
 ghost use Rattle.buffamap.specs.Choice.{two_numbers};
 ghost use Rattle.buffamap.specs.Command.{command_of};
-ghost use Rattle.buffamap.specs.Engine.{Answers, AnswersCall, RepliesTo};
+ghost use Rattle.buffamap.specs.Engine.{Answers, AnswersAnyCall, AnswersCall, RepliesTo};
 ghost use Rattle.buffamap.specs.Ext.{RepliesToExt, ext_text, has_line, int32_line, ints_line, string_line, words_of};
 ghost use Rattle.buffamap.specs.Forms.{hex_bytes, without_newline};
 ghost use Rattle.buffamap.specs.Item.{RepliesToItem};
@@ -43,7 +43,7 @@ ghost use Rattle.buffamap.specs.Lines.{ListedInOrder, Pair, lines_of, map_in, sa
 ghost use Rattle.buffamap.specs.Read.{RepliesToRead};
 ghost use Rattle.buffamap.specs.Reply.{GivesReply, Reply, bad_input, broken, fault, no_memory, success, wrong_words};
 ghost use Rattle.buffamap.specs.Rewrite.{HasNoRewrite, RepliesToRewrite, RewritesTo};
-ghost use Rattle.buffamap.specs.Streams.{Source, StreamChange};
+ghost use Rattle.buffamap.specs.Streams.{Known, Source, StreamChange};
 ghost use Rattle.buffamap.specs.Write.{RepliesToWrite, field_reply};
 ghost use denote.Ref.{Bor};
 
@@ -191,7 +191,7 @@ pub fn commands_are_answered_so()
 {}
 
 /// Which reply a call gives: to words that are no command the usage line; to a command its reply to the input; or that memory ran
-/// out, or that the input failed, where a call of it did.
+/// out, or that the input failed, where a call of it did. Of streams that don't tell it, any may have failed.
 pub fn calls_are_answered_so()
     ensures words { (from : Source) (reply : Reply) → Answers None from reply ↔ (reply ≡ wrong_words) }
     ensures command { (c : Command) (from : Source) (reply : Reply) → Answers (Some c) from reply
@@ -200,4 +200,10 @@ pub fn calls_are_answered_so()
     ensures call { (words : List (Bor (List ℕ))) (from : Source) (out err : StreamChange) (status : ℕ) →
         AnswersCall words from out err status
         ↔ ((reply : Reply) × Answers (command_of (map (λ w. w.now) words)) from reply × GivesReply reply out err status) }
+    ensures any_call { (words : List (Bor (List ℕ))) (input out held err said : Known) (status : ℕ) →
+        AnswersAnyCall words input out held err said status
+        ↔ ((input_failed : Bool) × (output_failed : Bool) × (errors_failed : Bool)
+        × AnswersCall words (record { bytes = input; failed = input_failed })
+        (record { old = out; new = held; failed = output_failed }) (record { old = err; new = said; failed = errors_failed })
+        status × ((input_failed ≡ true) ⊎ (output_failed ≡ true) → status ≡ 3)) }
 {}

@@ -3,5 +3,3 @@
 #![tactic(auto)]
 
 pub mod failure;
-#[cfg(test)]
-mod tests;

@@ -1,18 +1,14 @@
 //! A folder, which holds folders by their names: a struct of one's own in the form [`Held`].
 
 ghost use Rattle.std.proofs.Common.{lit<, refl};
-ghost use Rattle.buffa_fields.specs.Members.{field, keep};
+ghost use Rattle.buffa.specs.Members.{field, keep};
 
-use buffa_fields::held_map::MapNestMeaning;
-use buffa_fields::holds_map::{Held, HoldingMap, HoldsMap};
-use buffa_fields::kept::{self, KeptFields};
-use buffa_fields::meaning::And3;
-use buffa_fields::member::Member;
-use buffa_fields::plain::Plain;
-use buffa_fields::repeated::Repeated;
-use buffa_fields::visitor::Visitor;
-use buffa_map::map_codec::{Int32, Str};
-use buffa_wire::{Blank, DecodeContext, DecodeError, Formed, Tag, UnknownFields};
+use buffa::fields::{
+    And3, Formed, Held, HoldingMap, HoldsMap, KeptFields, MapNestMeaning, Member, Plain, Repeated,
+    Visitor, kept,
+};
+use buffa::map_codec::{Int32, Str};
+use buffa::{Blank, DecodeContext, DecodeError, Tag, UnknownFields};
 use std::alloc::Global;
 use std::collections::BTreeMap;
 use std::marker::Model;
@@ -51,7 +47,7 @@ impl Model for Folder {
     ghost use Rattle.std.specs.contracts.alloc.Global as global;
     ghost use Rattle.std.specs.contracts.impls.GlobalAllocator.TheImpl.{ghosts};
     ghost use Rattle.std.specs.declared.alloc.Global.{Global};
-    ghost use Rattle.buffa_fields.specs.MapNests.{MapNest, coded_map_nest, kids_in, map_nest, map_nest_height, most-map_nest_heights};
+    ghost use Rattle.buffa.specs.MapNests.{MapNest, coded_map_nest, kids_in, map_nest, map_nest_height, most-map_nest_heights};
     ghost use Rattle.sample_folder.specs.contracts.folder.FolderMembers.{the_row};
     ghost use Rattle.sample_folder.specs.declared.folder.FolderMembers.{FolderMembers};
     ghost use Rattle.std.proofs.Common.{arith};
@@ -69,7 +65,7 @@ impl Model for Folder {
 }
 
 impl HoldsMap for Folder {
-    ghost use Rattle.buffa_fields.specs.NamedMaps.{put_map};
+    ghost use Rattle.buffa.specs.NamedMaps.{put_map};
 
     type Key = String;
 
@@ -136,7 +132,7 @@ impl HoldsMap for Folder {
 }
 
 impl Blank for Folder {
-    ghost use Rattle.buffa_fields.specs.MapNests.{map_nest, map_nest_means, no_kid};
+    ghost use Rattle.buffa.specs.MapNests.{map_nest, map_nest_means, no_kid};
 
     type Meaning = MapNestMeaning<<String as Blank>::Meaning, <Folder as HoldsMap>::Words>;
 
@@ -155,7 +151,7 @@ impl Blank for Folder {
 }
 
 impl HoldingMap for Folder {
-    ghost use Rattle.buffa_fields.specs.NamedMaps.{map_put};
+    ghost use Rattle.buffa.specs.NamedMaps.{map_put};
 
     ghost means = { λ t. refl };
 

@@ -2,5 +2,3 @@
 #![tactic(auto)]
 
 pub mod folder;
-#[cfg(test)]
-mod tests;

@@ -4,5 +4,3 @@
 
 pub mod branch;
 pub mod post;
-#[cfg(test)]
-mod tests;

@@ -1,16 +1,11 @@
 //! buffa.sample.Post, made of branch.proto by protoc-gen-buffa.
 
 ghost use Rattle.std.proofs.Common.{lit<, refl};
-ghost use Rattle.buffa_fields.specs.Members.{field, keep};
+ghost use Rattle.buffa.specs.Members.{field, keep};
 
-use buffa_fields::held::{Holds, Nest};
-use buffa_fields::kept::{self, KeptFields};
-use buffa_fields::meaning::And3;
-use buffa_fields::member::Member;
-use buffa_fields::plain::Plain;
-use buffa_fields::visitor::Visitor;
-use buffa_map::map_codec::Str;
-use buffa_wire::{DecodeContext, DecodeError, Tag, UnknownFields};
+use buffa::fields::{And3, Holds, KeptFields, Member, Nest, Plain, Visitor, kept};
+use buffa::map_codec::Str;
+use buffa::{DecodeContext, DecodeError, Tag, UnknownFields};
 use std::alloc::Global;
 use std::string::String;
 

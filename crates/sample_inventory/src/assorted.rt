@@ -1,22 +1,15 @@
 //! buffa.sample.Assorted, made of inventory.proto by protoc-gen-buffa.
 
 ghost use Rattle.std.proofs.Common.{lit<, refl};
-ghost use Rattle.buffa_fields.specs.Members.{field, keep};
+ghost use Rattle.buffa.specs.Members.{field, keep};
 
 use crate::state::State;
-use buffa_fields::fields::Fields;
-use buffa_fields::kept::{self, KeptFields};
-use buffa_fields::map_member::MapOf;
-use buffa_fields::meaning::{And, And9};
-use buffa_fields::member::Member;
-use buffa_fields::message::{Listed, Listing};
-use buffa_fields::optional::Optional;
-use buffa_fields::packed::Packed;
-use buffa_fields::plain::Plain;
-use buffa_fields::repeated::Repeated;
-use buffa_fields::visitor::Visitor;
-use buffa_map::map_codec::{Bool, BytesBuf, BytesVec, Int64, Map, OpenEnum};
-use buffa_wire::{Blank, DecodeContext, DecodeError, EnumValue, Formed, Tag, UnknownFields};
+use buffa::fields::{
+    And, And9, Fields, Formed, KeptFields, Listed, Listing, MapOf, Member, Optional, Packed, Plain,
+    Repeated, Visitor, kept,
+};
+use buffa::map_codec::{Bool, BytesBuf, BytesVec, Int64, Map, OpenEnum};
+use buffa::{Blank, DecodeContext, DecodeError, EnumValue, Tag, UnknownFields};
 use bytes::Bytes;
 use std::alloc::Global;
 

@@ -1,19 +1,14 @@
 //! buffa.sample.Inventory, made of inventory.proto by protoc-gen-buffa.
 
 ghost use Rattle.std.proofs.Common.{lit<, refl};
-ghost use Rattle.buffa_fields.specs.Members.{field, keep};
+ghost use Rattle.buffa.specs.Members.{field, keep};
 
-use buffa_fields::fields::Fields;
-use buffa_fields::kept::{self, KeptFields};
-use buffa_fields::map_member::MapOf;
-use buffa_fields::meaning::{And, And5};
-use buffa_fields::member::Member;
-use buffa_fields::message::{Listed, Listing};
-use buffa_fields::optional::Optional;
-use buffa_fields::plain::Plain;
-use buffa_fields::visitor::Visitor;
-use buffa_map::map_codec::{Bool, Int32, Map, Str};
-use buffa_wire::{Blank, DecodeContext, DecodeError, Formed, Tag, UnknownFields};
+use buffa::fields::{
+    And, And5, Fields, Formed, KeptFields, Listed, Listing, MapOf, Member, Optional, Plain,
+    Visitor, kept,
+};
+use buffa::map_codec::{Bool, Int32, Map, Str};
+use buffa::{Blank, DecodeContext, DecodeError, Tag, UnknownFields};
 use std::alloc::Global;
 use std::string::String;
 

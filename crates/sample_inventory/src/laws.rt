@@ -1,15 +1,15 @@
 //! Laws: which enum a state is, and how deep trains nest.
 
 ghost use Rattle.std.specs.Prelude.{◌≡◌, ◌∷◌, [], None, Some, map, pos};
-ghost use Rattle.buffa_bytes.specs.Pinned.{IsCopied, SameIsOne};
-ghost use Rattle.buffa_fields.specs.Levels.{AreExactLevels};
+ghost use Rattle.buffa.specs.Wire.{IsCopied, SameIsOne};
+ghost use Rattle.buffa.specs.Members.{AreExactLevels};
 
 use crate::load::Load;
 use crate::state::State;
 use crate::train::Train;
 use crate::wagon::Wagon;
-use buffa_fields::laws::levels_of_fields_are_exact;
-use buffa_wire::{Blank, Enumeration, MessageSpec};
+use buffa::laws::fields::levels_of_fields_are_exact;
+use buffa::{Blank, Enumeration, MessageSpec};
 
 /// Which of the first three numbers states declare, by which values, and their default; `==` and `clone` of them.
 pub fn states_are_these()

@@ -1,19 +1,15 @@
 //! buffa.sample.Ledger, made of inventory.proto by protoc-gen-buffa.
 
 ghost use Rattle.std.proofs.Common.{lit<, refl};
-ghost use Rattle.buffa_fields.specs.Members.{field, keep};
+ghost use Rattle.buffa.specs.Members.{field, keep};
 
 use crate::inventory::Inventory;
-use buffa_fields::fields::Fields;
-use buffa_fields::kept::{self, KeptFields};
-use buffa_fields::meaning::{And, And4};
-use buffa_fields::member::Member;
-use buffa_fields::message::{Listed, Listing};
-use buffa_fields::ordered_map::OrderedMapOf;
-use buffa_fields::ordered_nested::OrderedMapOfNested;
-use buffa_fields::visitor::Visitor;
-use buffa_map::map_codec::{Bool, BytesVec, Int32, Str};
-use buffa_wire::{Blank, DecodeContext, DecodeError, Formed, Tag, UnknownFields};
+use buffa::fields::{
+    And, And4, Fields, Formed, KeptFields, Listed, Listing, Member, OrderedMapOf,
+    OrderedMapOfNested, Visitor, kept,
+};
+use buffa::map_codec::{Bool, BytesVec, Int32, Str};
+use buffa::{Blank, DecodeContext, DecodeError, Tag, UnknownFields};
 use std::alloc::Global;
 use std::collections::BTreeMap;
 use std::string::String;

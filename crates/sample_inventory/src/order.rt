@@ -1,22 +1,15 @@
 //! buffa.sample.Order, made of inventory.proto by protoc-gen-buffa.
 
 ghost use Rattle.std.proofs.Common.{lit<, refl};
-ghost use Rattle.buffa_fields.specs.Members.{field, skip};
+ghost use Rattle.buffa.specs.Members.{field, skip};
 
 use crate::state::State;
-use buffa_fields::fields::Fields;
-use buffa_fields::kept;
-use buffa_fields::map_member::MapOf;
-use buffa_fields::meaning::{And, And13};
-use buffa_fields::member::Member;
-use buffa_fields::message::{Listed, Listing};
-use buffa_fields::optional::Optional;
-use buffa_fields::packed::Packed;
-use buffa_fields::plain::Plain;
-use buffa_fields::repeated::Repeated;
-use buffa_fields::visitor::Visitor;
-use buffa_map::map_codec::{Bool, BytesVec, Fixed64, Int32, Int64, Map, OpenEnum, Sint32, Str};
-use buffa_wire::{Blank, DecodeContext, DecodeError, EnumValue, Formed, Tag};
+use buffa::fields::{
+    And, And13, Fields, Formed, Listed, Listing, MapOf, Member, Optional, Packed, Plain, Repeated,
+    Visitor, kept,
+};
+use buffa::map_codec::{Bool, BytesVec, Fixed64, Int32, Int64, Map, OpenEnum, Sint32, Str};
+use buffa::{Blank, DecodeContext, DecodeError, EnumValue, Tag};
 use std::alloc::Global;
 use std::string::String;
 

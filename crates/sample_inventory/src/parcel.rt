@@ -1,19 +1,12 @@
 //! buffa.sample.Parcel, made of inventory.proto by protoc-gen-buffa.
 
 ghost use Rattle.std.proofs.Common.{lit<, refl};
-ghost use Rattle.buffa_fields.specs.Members.{field, skip};
+ghost use Rattle.buffa.specs.Members.{field, skip};
 
 use crate::inventory::Inventory;
-use buffa_fields::fields::Fields;
-use buffa_fields::kept;
-use buffa_fields::meaning::And3;
-use buffa_fields::member::Member;
-use buffa_fields::message::{Listed, Listing};
-use buffa_fields::nested::Nested;
-use buffa_fields::plain::Plain;
-use buffa_fields::visitor::Visitor;
-use buffa_map::map_codec::Int64;
-use buffa_wire::{Blank, DecodeContext, DecodeError, Formed, Tag};
+use buffa::fields::{And3, Fields, Formed, Listed, Listing, Member, Nested, Plain, Visitor, kept};
+use buffa::map_codec::Int64;
+use buffa::{Blank, DecodeContext, DecodeError, Tag};
 use std::alloc::Global;
 
 /// A parcel: a member that is a message.

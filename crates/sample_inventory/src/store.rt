@@ -1,19 +1,14 @@
 //! buffa.sample.Store, made of inventory.proto by protoc-gen-buffa.
 
 ghost use Rattle.std.proofs.Common.{lit<, refl};
-ghost use Rattle.buffa_fields.specs.Members.{field, skip};
+ghost use Rattle.buffa.specs.Members.{field, skip};
 
 use crate::inventory::Inventory;
-use buffa_fields::fields::Fields;
-use buffa_fields::kept;
-use buffa_fields::map_nested::MapOfNested;
-use buffa_fields::meaning::{And, And3};
-use buffa_fields::member::Member;
-use buffa_fields::message::{Listed, Listing};
-use buffa_fields::plain::Plain;
-use buffa_fields::visitor::Visitor;
-use buffa_map::map_codec::{Map, Str};
-use buffa_wire::{Blank, DecodeContext, DecodeError, Formed, Tag};
+use buffa::fields::{
+    And, And3, Fields, Formed, Listed, Listing, MapOfNested, Member, Plain, Visitor, kept,
+};
+use buffa::map_codec::{Map, Str};
+use buffa::{Blank, DecodeContext, DecodeError, Tag};
 use std::alloc::Global;
 use std::string::String;
 

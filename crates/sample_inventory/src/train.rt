@@ -1,19 +1,14 @@
 //! buffa.sample.Train, made of inventory.proto by protoc-gen-buffa.
 
 ghost use Rattle.std.proofs.Common.{lit<, refl};
-ghost use Rattle.buffa_fields.specs.Members.{field, skip};
+ghost use Rattle.buffa.specs.Members.{field, skip};
 
 use crate::wagon::Wagon;
-use buffa_fields::fields::Fields;
-use buffa_fields::kept;
-use buffa_fields::map_nested::MapOfNested;
-use buffa_fields::meaning::{And, And3};
-use buffa_fields::member::Member;
-use buffa_fields::message::{Listed, Listing};
-use buffa_fields::repeated_nested::RepeatedNested;
-use buffa_fields::visitor::Visitor;
-use buffa_map::map_codec::{Int32, Map};
-use buffa_wire::{Blank, DecodeContext, DecodeError, Formed, Tag};
+use buffa::fields::{
+    And, And3, Fields, Formed, Listed, Listing, MapOfNested, Member, RepeatedNested, Visitor, kept,
+};
+use buffa::map_codec::{Int32, Map};
+use buffa::{Blank, DecodeContext, DecodeError, Tag};
 use std::alloc::Global;
 
 /// A train: messages of thirteen members in a map and in a list.

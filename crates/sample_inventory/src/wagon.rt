@@ -1,30 +1,17 @@
 //! buffa.sample.Wagon, made of inventory.proto by protoc-gen-buffa.
 
 ghost use Rattle.std.proofs.Common.{lit<, refl};
-ghost use Rattle.buffa_fields.specs.Members.{field, keep};
+ghost use Rattle.buffa.specs.Members.{field, keep};
 
 use crate::load::Load;
 use crate::state::State;
-use buffa_fields::fields::Fields;
-use buffa_fields::group::Group;
-use buffa_fields::kept::{self, KeptFields};
-use buffa_fields::map_member::MapOf;
-use buffa_fields::map_nested::MapOfNested;
-use buffa_fields::meaning::{And, And14};
-use buffa_fields::member::Member;
-use buffa_fields::message::{Listed, Listing};
-use buffa_fields::nested::Nested;
-use buffa_fields::optional::Optional;
-use buffa_fields::ordered_map::OrderedMapOf;
-use buffa_fields::ordered_nested::OrderedMapOfNested;
-use buffa_fields::packed::Packed;
-use buffa_fields::plain::Plain;
-use buffa_fields::repeated::Repeated;
-use buffa_fields::repeated_group::RepeatedGroup;
-use buffa_fields::repeated_nested::RepeatedNested;
-use buffa_fields::visitor::Visitor;
-use buffa_map::map_codec::{Int32, Int64, Map, OpenEnum, Str};
-use buffa_wire::{Blank, DecodeContext, DecodeError, EnumValue, Formed, Tag, UnknownFields};
+use buffa::fields::{
+    And, And14, Fields, Formed, Group, KeptFields, Listed, Listing, MapOf, MapOfNested, Member,
+    Nested, Optional, OrderedMapOf, OrderedMapOfNested, Packed, Plain, Repeated, RepeatedGroup,
+    RepeatedNested, Visitor, kept,
+};
+use buffa::map_codec::{Int32, Int64, Map, OpenEnum, Str};
+use buffa::{Blank, DecodeContext, DecodeError, EnumValue, Tag, UnknownFields};
 use std::alloc::Global;
 use std::collections::BTreeMap;
 use std::string::String;

@@ -1,19 +1,15 @@
 //! buffa.sample.Explicit, made of members.proto by protoc-gen-buffa.
 
 ghost use Rattle.std.proofs.Common.{lit<, refl};
-ghost use Rattle.buffa_fields.specs.Members.{field, keep};
+ghost use Rattle.buffa.specs.Members.{field, keep};
 
-use buffa_fields::fields::Fields;
-use buffa_fields::kept::{self, KeptFields};
-use buffa_fields::meaning::And12;
-use buffa_fields::member::Member;
-use buffa_fields::message::{Listed, Listing};
-use buffa_fields::optional::Optional;
-use buffa_fields::visitor::Visitor;
-use buffa_map::map_codec::{
+use buffa::fields::{
+    And12, Fields, Formed, KeptFields, Listed, Listing, Member, Optional, Visitor, kept,
+};
+use buffa::map_codec::{
     Bool, Fixed32, Fixed64, Int32, Int64, Sfixed32, Sfixed64, Sint32, Sint64, Uint32, Uint64,
 };
-use buffa_wire::{Blank, DecodeContext, DecodeError, Formed, Tag, UnknownFields};
+use buffa::{Blank, DecodeContext, DecodeError, Tag, UnknownFields};
 use std::alloc::Global;
 
 /// Numbers of explicit presence: one that is the default is written where it is there.

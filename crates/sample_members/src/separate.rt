@@ -1,19 +1,13 @@
 //! buffa.sample.Separate, made of members.proto by protoc-gen-buffa.
 
 ghost use Rattle.std.proofs.Common.{lit<, refl};
-ghost use Rattle.buffa_fields.specs.Members.{field, skip};
+ghost use Rattle.buffa.specs.Members.{field, skip};
 
-use buffa_fields::fields::Fields;
-use buffa_fields::kept;
-use buffa_fields::meaning::And12;
-use buffa_fields::member::Member;
-use buffa_fields::message::{Listed, Listing};
-use buffa_fields::repeated::Repeated;
-use buffa_fields::visitor::Visitor;
-use buffa_map::map_codec::{
+use buffa::fields::{And12, Fields, Formed, Listed, Listing, Member, Repeated, Visitor, kept};
+use buffa::map_codec::{
     Bool, Fixed32, Fixed64, Int32, Int64, Sfixed32, Sfixed64, Sint32, Sint64, Uint32, Uint64,
 };
-use buffa_wire::{Blank, DecodeContext, DecodeError, Formed, Tag};
+use buffa::{Blank, DecodeContext, DecodeError, Tag};
 use std::alloc::Global;
 
 /// Lists of numbers, each in a field of its own.

@@ -6,5 +6,3 @@
 pub mod laws;
 pub mod node;
 pub mod shade;
-#[cfg(test)]
-mod tests;

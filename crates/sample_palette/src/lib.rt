@@ -6,5 +6,3 @@ pub mod laws;
 pub mod palette;
 pub mod shade;
 pub mod swatch;
-#[cfg(test)]
-mod tests;

@@ -1,27 +1,16 @@
 //! buffa.sample.Palette, made of palette.proto by protoc-gen-buffa.
 
 ghost use Rattle.std.proofs.Common.{lit<, refl};
-ghost use Rattle.buffa_fields.specs.Members.{field, field_kept, keep};
+ghost use Rattle.buffa.specs.Members.{field, field_kept, keep};
 
 use crate::shade::Shade;
 use crate::swatch::Swatch;
-use buffa_fields::fields::Fields;
-use buffa_fields::group::Group;
-use buffa_fields::keeping::Keeping;
-use buffa_fields::kept::{self, KeptFields};
-use buffa_fields::map_member::MapOf;
-use buffa_fields::meaning::{And, And9};
-use buffa_fields::member::Member;
-use buffa_fields::message::{Listed, Listing};
-use buffa_fields::nested::Nested;
-use buffa_fields::optional::Optional;
-use buffa_fields::ordered_map::OrderedMapOf;
-use buffa_fields::packed::Packed;
-use buffa_fields::plain::Plain;
-use buffa_fields::repeated::Repeated;
-use buffa_fields::visitor::Visitor;
-use buffa_map::map_codec::{ClosedEnum, Int32, Map};
-use buffa_wire::{Blank, DecodeContext, DecodeError, Formed, Tag, UnknownFields};
+use buffa::fields::{
+    And, And9, Fields, Formed, Group, Keeping, KeptFields, Listed, Listing, MapOf, Member, Nested,
+    Optional, OrderedMapOf, Packed, Plain, Repeated, Visitor, kept,
+};
+use buffa::map_codec::{ClosedEnum, Int32, Map};
+use buffa::{Blank, DecodeContext, DecodeError, Tag, UnknownFields};
 use std::alloc::Global;
 use std::collections::BTreeMap;
 

@@ -1,20 +1,15 @@
 //! buffa.sample.Swatch, made of palette.proto by protoc-gen-buffa.
 
 ghost use Rattle.std.proofs.Common.{lit<, refl};
-ghost use Rattle.buffa_fields.specs.Members.{field_kept, keep};
+ghost use Rattle.buffa.specs.Members.{field_kept, keep};
 
 use crate::shade::Shade;
-use buffa_fields::fields::Fields;
-use buffa_fields::keeping::Keeping;
-use buffa_fields::kept::{self, KeptFields};
-use buffa_fields::meaning::And3;
-use buffa_fields::member::Member;
-use buffa_fields::message::{Listed, Listing};
-use buffa_fields::optional::Optional;
-use buffa_fields::repeated::Repeated;
-use buffa_fields::visitor::Visitor;
-use buffa_map::map_codec::ClosedEnum;
-use buffa_wire::{Blank, DecodeContext, DecodeError, Formed, Tag, UnknownFields};
+use buffa::fields::{
+    And3, Fields, Formed, Keeping, KeptFields, Listed, Listing, Member, Optional, Repeated,
+    Visitor, kept,
+};
+use buffa::map_codec::ClosedEnum;
+use buffa::{Blank, DecodeContext, DecodeError, Tag, UnknownFields};
 use std::alloc::Global;
 
 /// A swatch: a message inside another, or a group, which passes on what it doesn't understand itself.

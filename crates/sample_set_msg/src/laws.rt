@@ -1,8 +1,20 @@
 //! Which message a MessageSet is: laws, each a function with nothing to do.
 
-ghost use Rattle.std.specs.Prelude.{◌≡◌, ◌↔◌, ℕ, List, [], codes};
-ghost use Rattle.buffa_wire.specs.Records.{Datum};
-ghost use Rattle.sample_set_msg.specs.Set.{AreItems, IsSetRefused, NestOneDeep, set_cost, set_levels, set_merged, set_records};
+ghost use Rattle.std.specs.Prelude.{◌≡◌, ◌↔◌, ◌&&◌, ◌++◌, ◌==◌, ◌∷◌, ◌^◌, ℕ, List, [], Err, Ok, codes, false, nat_lt, suc, true, zero};
+ghost use Rattle.buffa_bytes.specs.WireType.{same_wire};
+ghost use Rattle.buffa_bytes.specs.declared.error.DecodeError.{DecodeError};
+ghost use Rattle.buffa_bytes.specs.declared.error.DecodeError.TheVariants.{RecursionLimitExceeded};
+ghost use Rattle.buffa_bytes.specs.declared.wire_type.WireType.{WireType};
+ghost use Rattle.buffa_bytes.specs.declared.wire_type.WireType.TheVariants.{StartGroup};
+ghost use Rattle.buffa_fields.specs.Keep.{keep_takes};
+ghost use Rattle.buffa_message_set.specs.Item.{item_at, item_encoding};
+ghost use Rattle.buffa_wire.specs.BudgetLeft.{unknown_fields};
+ghost use Rattle.buffa_wire.specs.ByField.{cost_by, merged_by};
+ghost use Rattle.buffa_wire.specs.Encoding.{tagged_encoding};
+ghost use Rattle.buffa_wire.specs.Kept.{keep_need};
+ghost use Rattle.buffa_wire.specs.Records.{Datum, Records, bytes, fixed32, fixed64, group, height, no_records, one, varint};
+ghost use Rattle.buffa_wire.specs.Takes.{framed};
+ghost use Rattle.sample_set_msg.specs.Set.{AreItems, IsSetRefused, NestOneDeep, is_type_id, set_cost, set_field, set_levels, set_merged, set_need, set_records};
 ghost use Rattle.sample_set_msg.specs.Set.{StopIsPinned, set_encoding};
 
 use crate::set_msg::SetMsg;
@@ -21,6 +33,44 @@ pub fn sets_are_these()
     ensures element { ⟦<SetMsg as MessageSpec>⟧.COST ≡ 24 }
     ensures meaning { (m : SetMsg) → ⟦<SetMsg as Blank>⟧.meaning m ≡ m.fields.records }
     ensures blank { ⟦<SetMsg as Blank>⟧.blank_is ≡ [] }
+{}
+
+/// What a field makes of a MessageSet, and what it costs. An Item, behind the start tag of group 1, is read a level deeper; its
+/// message stands under its type id behind the other records, and it costs an unknown field. Any other field is kept as it is.
+pub fn fields_of_sets_are_these()
+    ensures item { (d id : ℕ) (v : List (ℕ × Datum)) (bs message rest : List ℕ) → item_at d bs ≡ Ok (id, message, rest) →
+        set_field (suc d) v 1 StartGroup bs ≡ Ok (v ++ (id, bytes message) ∷ [], rest) }
+    ensures malformed { (d : ℕ) (v : List (ℕ × Datum)) (bs : List ℕ) (e : DecodeError) → item_at d bs ≡ Err e →
+        set_field (suc d) v 1 StartGroup bs ≡ Err e }
+    ensures too_deep { (v : List (ℕ × Datum)) (bs : List ℕ) → set_field zero v 1 StartGroup bs
+        ≡ Err RecursionLimitExceeded }
+    ensures item_costs { (d : ℕ) (bs : List ℕ) → set_need d 1 StartGroup bs ≡ unknown_fields 1 }
+    ensures no_group { (d n : ℕ) (v : List (ℕ × Datum)) (w : WireType) (bs : List ℕ) →
+        ((n == 1) && same_wire StartGroup w) ≡ false →
+        (set_field d v n w bs ≡ framed keep_takes d v n w bs) × (set_need d n w bs ≡ keep_need d n w bs) }
+    ensures all { (d : ℕ) (v : List (ℕ × Datum)) (bs : List ℕ) → (set_merged d v bs ≡ merged_by (set_field d) v bs)
+        × (set_cost d bs ≡ cost_by (set_need d) d bs) }
+{}
+
+/// What the encoding of a MessageSet is: an Item for bytes under a type id, which is 1 to 2,147,483,647, and a field for any other
+/// record. As a message it has a group of number 1 for an Item, with the type id in field 2 and the message in field 3.
+pub fn encodings_of_sets_are_these()
+    ensures none { (set_encoding [] ≡ []) × (set_records [] ≡ []) }
+    ensures type_id { (n : ℕ) → is_type_id n ≡ (nat_lt 0 n && nat_lt n (2 ^ 31)) }
+    ensures item { (n : ℕ) (b : List ℕ) (rs : List (ℕ × Datum)) → is_type_id n ≡ true →
+        (set_encoding ((n, bytes b) ∷ rs) ≡ item_encoding n b ++ set_encoding rs)
+        × (set_records ((n, bytes b) ∷ rs)
+        ≡ (1, group (one 2 (varint n) (one 3 (bytes b) no_records))) ∷ set_records rs) }
+    ensures no_type_id { (n : ℕ) (b : List ℕ) (rs : List (ℕ × Datum)) → is_type_id n ≡ false →
+        (set_encoding ((n, bytes b) ∷ rs) ≡ tagged_encoding n (bytes b) ++ set_encoding rs)
+        × (set_records ((n, bytes b) ∷ rs) ≡ (n, bytes b) ∷ set_records rs) }
+    ensures number { (n x : ℕ) (rs : List (ℕ × Datum)) →
+        (set_encoding ((n, varint x) ∷ rs) ≡ tagged_encoding n (varint x) ++ set_encoding rs)
+        × (set_encoding ((n, fixed32 x) ∷ rs) ≡ tagged_encoding n (fixed32 x) ++ set_encoding rs)
+        × (set_encoding ((n, fixed64 x) ∷ rs) ≡ tagged_encoding n (fixed64 x) ++ set_encoding rs) }
+    ensures group_field { (n : ℕ) (qs : Records) (rs : List (ℕ × Datum)) →
+        set_encoding ((n, group qs) ∷ rs) ≡ tagged_encoding n (group qs) ++ set_encoding rs }
+    ensures levels { (v : List (ℕ × Datum)) → set_levels v ≡ height (set_records v) }
 {}
 
 /// Under which name a MessageSet is extended, and that its records are its unknown fields. Nothing is left out.

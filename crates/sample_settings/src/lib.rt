@@ -3,5 +3,3 @@
 #![tactic(auto)]
 
 pub mod settings;
-#[cfg(test)]
-mod tests;

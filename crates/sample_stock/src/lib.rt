@@ -10,5 +10,3 @@ pub mod orders;
 pub mod places;
 pub mod proxy;
 pub mod sets;
-#[cfg(test)]
-mod tests;

@@ -14,8 +14,6 @@ pub mod keep;
 pub mod laws;
 pub mod passed_on;
 pub mod round_trip;
-#[cfg(test)]
-mod tests;
 pub mod tree;
 pub mod two;
 pub mod word;

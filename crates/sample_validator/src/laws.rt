@@ -1,10 +1,13 @@
 //! What the definitions of options and rules say together: each law is a function with nothing to do, whose
 //! contract is the law.
 
-ghost use Rattle.std.specs.Prelude.{◌≡◌, ◌↔◌, ℕ, ℤ, List, [], ◌∷◌, FitsSigned, None, Option, Some, codes, map, option_map};
-ghost use Rattle.std.specs.Prelude.{pos};
+ghost use Rattle.std.specs.Prelude.{◌≡◌, ◌↔◌, ℕ, ℤ, List, [], ◌∷◌, Bool, FitsSigned, IfSome, None, Option, Some, codes, false, map, option_map};
+ghost use Rattle.std.specs.Prelude.{pos, true, unwrap_or};
 ghost use Rattle.std.specs.Int.{w64};
-ghost use Rattle.buffa_bytes.specs.Scalars.{sint64_of, sint64_encoding, zigzag};
+ghost use Rattle.std.specs.Int.Signed.{◌≤ℤ◌, ◌<ℤ◌};
+ghost use Rattle.std.specs.List.{AllByRecursion};
+ghost use Rattle.buffa_bytes.specs.Scalars.{bool_of, sint64_of, sint64_encoding, zigzag};
+ghost use Rattle.buffa_bytes.specs.Values.{int32_of};
 ghost use Rattle.buffa_bytes.specs.declared.wire_type.WireType.TheVariants.{Varint};
 ghost use Rattle.buffa_bytes.specs.Pinned.{IsCopied, SameIsOne};
 ghost use Rattle.buffa_wire.specs.BudgetLeft.{BudgetLeft, nothing};
@@ -16,13 +19,17 @@ ghost use Rattle.buffa_wire.specs.Records.{Datum, Held, height, records_of, vari
 ghost use Rattle.buffa_wire.specs.Takes.{cost_of, merged_of};
 ghost use Rattle.buffa_codec.specs.Packed.{numbers_in};
 ghost use Rattle.buffa_codec.specs.Decoded.{last_read};
+ghost use Rattle.buffa_codec.specs.Strict.{unless_found};
+ghost use Rattle.buffa_codec.specs.Sub.{sub};
 ghost use Rattle.buffa_fields.specs.Calls.{KeepsFields};
 ghost use Rattle.buffa_fields.specs.Keep.{keep_takes};
 ghost use Rattle.sample_validator.specs.Meaning.{OthersAreKept, TakesOptions, options_need, options_records, options_takes};
 ghost use Rattle.sample_validator.specs.Pinned.{EqualByMeaning, AcceptsOrBreaks, OneViolation, NotBoth};
+ghost use Rattle.sample_validator.specs.Rules.{Accepts, AreRead, BreaksRule, rules_in};
 ghost use Rattle.sample_validator.specs.declared.carrier.Carrier.{Carrier};
 ghost use Rattle.sample_validator.specs.declared.options.FieldOptions.{FieldOptions};
 ghost use Rattle.sample_validator.specs.declared.price.Price.{Price};
+ghost use Rattle.sample_validator.specs.declared.rules.Violation.TheVariants.{Missing, TooGreat, TooSmall};
 
 use crate::carrier::Carrier;
 use crate::options::FieldOptions;
@@ -41,6 +48,30 @@ pub fn judgements_are_pinned()
     ensures judged { AcceptsOrBreaks }
     ensures either { NotBoth }
     ensures told { OneViolation }
+{}
+
+/// Which values rules accept, and which rule a value breaks: both bounds may be met, a value below the least is too small even
+/// where it is above the greatest, too, and a value is missing only where one is asked for. Where each rule is found.
+pub fn rules_are_these()
+    ensures missing { (rules : Rules) → Accepts rules None ↔ (rules.required ≡ false) }
+    ensures told_missing { (rules : Rules) (o : Option ℤ) → BreaksRule rules o Missing ↔ ((o ≡ None) × (rules.required ≡ true)) }
+    ensures free { (v : ℤ) (asked : Bool) → Accepts (record { min = None; max = None; required = asked }) (Some v) }
+    ensures bound { (v least most : ℤ) (asked : Bool) →
+        Accepts (record { min = Some least; max = Some most; required = asked }) (Some v)
+        ↔ ((least ≤ℤ v) × (v ≤ℤ most)) }
+    ensures too_small { (rules : Rules) (o : Option ℤ) → BreaksRule rules o TooSmall
+        ↔ ((v least : ℤ) × (o ≡ Some v) × (rules.min ≡ Some least) × (v <ℤ least)) }
+    ensures too_great { (rules : Rules) (o : Option ℤ) → BreaksRule rules o TooGreat
+        ↔ ((v most : ℤ) × (o ≡ Some v) × (rules.max ≡ Some most) × (most <ℤ v)
+        × IfSome rules.min (λ least. least ≤ℤ v)) }
+    ensures found { (rs : List (ℕ × Datum)) →
+        ((rules_in rs).min ≡ last_read (λ d. option_map int32_of (varint_in d)) (sub 50011 rs))
+        × ((rules_in rs).max ≡ last_read (λ d. option_map int32_of (varint_in d)) (sub 50012 rs))
+        × ((rules_in rs).required ≡ unwrap_or (last_read (λ d. option_map bool_of (varint_in d)) (sub 50013 rs)) false) }
+    ensures read { (rs : List (ℕ × Datum)) → AreRead rs
+        ↔ (AllByRecursion (λ d. unless_found (varint_in d) Varint 50011 d ≡ None) (sub 50011 rs)
+        × AllByRecursion (λ d. unless_found (varint_in d) Varint 50012 d ≡ None) (sub 50012 rs)
+        × AllByRecursion (λ d. unless_found (varint_in d) Varint 50013 d ≡ None) (sub 50013 rs)) }
 {}
 
 /// A price is a number, read and written as a `sint64`, in lists too, packed or not.

@@ -16,4 +16,6 @@ mod labelled;
 #[cfg(test)]
 mod large;
 #[cfg(test)]
+mod required;
+#[cfg(test)]
 mod surface;

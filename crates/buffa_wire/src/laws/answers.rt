@@ -3,7 +3,7 @@
 
 ghost use Rattle.std.specs.Prelude.{◌≡◌, ◌≢◌, ◌<◌, ◌≤◌, ◌⊎◌, ◌^◌, ◌+◌, ◌-◌, ◌↔◌, ℕ, suc, List, [], ◌∷◌, ◌++◌, length, take, drop};
 ghost use Rattle.std.specs.Prelude.{Bool, true, false, Some, None, Result, Ok, Err, IsOk};
-ghost use Rattle.std.specs.Borrow.{Bor};
+ghost use Rattle.std.specs.Borrow.{Bor, MutBor};
 ghost use Rattle.buffa_bytes.specs.declared.error.DecodeError.{DecodeError};
 ghost use Rattle.buffa_bytes.specs.declared.error.DecodeError.TheVariants as decoding;
 ghost use Rattle.buffa_bytes.specs.declared.error.EncodeError.{EncodeError};
@@ -19,7 +19,7 @@ ghost use Rattle.buffa_bytes.specs.Pieces.{joined};
 ghost use Rattle.buffa_bytes.specs.Unread.{IsChunkOf, IsFrontOf, IsTailOf, MayBeCut, MovesUnlessFull, bytes_read};
 ghost use Rattle.buffa_bytes.specs.Written.{UsesRoom, Writes};
 ghost use Rattle.buffa_wire.specs.BudgetLeft.{BudgetLeft, Covers, Lacks, Pays, PaysAtMost, UnknownTaken, UnknownsSpent};
-ghost use Rattle.buffa_wire.specs.BudgetLeft.{defaults, minus, need_by, nothing, plus, units, unknown_fields};
+ghost use Rattle.buffa_wire.specs.BudgetLeft.{budget_left, defaults, minus, need_by, nothing, plus, units, unknown_fields};
 ghost use Rattle.buffa_wire.specs.Cache.{Cache, advanced, appended};
 ghost use Rattle.buffa_wire.specs.Kept.{more_left};
 ghost use Rattle.buffa_wire.specs.Message.{BeginsField, IsFieldMerged, IsJudged, IsLimit, IsMerged, IsMergedAlone, MergeFault};
@@ -99,6 +99,7 @@ pub fn budgets_are_these<X>()
     ensures pays_at_most { (before need after : BudgetLeft) → PaysAtMost before need after
         ↔ ((after.unknown ≤ before.unknown) × (before.unknown ≤ after.unknown + need.unknown)
         × (after.memory ≤ before.memory) × (before.memory ≤ after.memory + need.memory)) }
+    ensures left { (x : X) (budget : MutBor BudgetLeft) → budget_left (x, (budget, tt)) ≡ budget.now }
     ensures need { (x : X) (f : X → BudgetLeft) → need_by (Ok x) f ≡ f x }
     ensures no_need { (e : DecodeError) (f : X → BudgetLeft) → need_by (Err e) f ≡ nothing }
 {}

@@ -1,13 +1,16 @@
 //! What the definitions of records say together: each law is a function with nothing to do, whose contract
 //! is the law.
 
-ghost use Rattle.std.specs.Prelude.{◌≡◌, ◌≢◌, ◌-◌, ◌^◌, ◌≤◌, ◌↔◌, ◌∷◌, [], ◌++◌, ℕ, ℤ, List, Some, None, Ok, Err, true, false, length, pos, slice_index, ◌+◌, ◌<◌};
+ghost use Rattle.std.specs.Prelude.{◌≡◌, ◌≢◌, ◌-◌, ◌^◌, ◌≤◌, ◌↔◌, ◌∷◌, [], ◌++◌, ℕ, ℤ, List, Some, None, Ok, Err, true, false, length, pos, slice_index, ◌+◌, ◌<◌, Result};
 ghost use Rattle.std.specs.List.{AllByRecursion};
 ghost use Rattle.std.specs.Option.{option_and_then};
 ghost use Rattle.buffa_bytes.specs.declared.wire_type.WireType.{WireType};
 ghost use Rattle.buffa_bytes.specs.declared.error.DecodeError.{DecodeError};
 ghost use Rattle.buffa_bytes.specs.declared.error.DecodeError.TheVariants.{OutOfMemory, UnknownFieldLimitExceeded};
-ghost use Rattle.buffa_bytes.specs.Field.{SomeField, IsTag};
+ghost use Rattle.buffa_bytes.specs.Field.{PayloadFault, SomeField, IsTag};
+ghost use Rattle.buffa_bytes.specs.Front.{tag_at};
+ghost use Rattle.buffa_wire.specs.Message.{TakesMessageField};
+ghost use Rattle.buffa_wire.specs.declared.context.DecodeContext.{DecodeContext};
 ghost use Rattle.buffa_bytes.specs.Join.{Join};
 ghost use Rattle.buffa_bytes.specs.Varint.{IsByte};
 ghost use Rattle.buffa_wire.specs.Records.{Datum, Held, height, records_of};
@@ -122,9 +125,14 @@ pub fn merging_is_by_fields<M: MessageSpec>()
     ensures no_fields { (d : ℕ) (v : M.Meaning) (bs : List ℕ) → (Join (SomeField d) bs → ⊥) → M.merged d v bs ≡ None }
 {}
 
-/// No bytes cost nothing, and a field and what follows it cost what both do.
+/// No bytes cost nothing, and a field and what follows it cost what both do. What is no field costs what the type says of its
+/// tag, and nothing where no tag is there.
+#[tactic(auto, using(crate::proofs::TakesLemmas::cost_of_no_tag))]
 pub fn costs_add<M: MessageSpec>()
     ensures none { (d : ℕ) → M.cost d [] ≡ nothing }
+    ensures no_tag { (d : ℕ) (bs : List ℕ) (e : DecodeError) → tag_at bs ≡ Err e → M.cost d bs ≡ nothing }
+    ensures no_payload { (d n : ℕ) (w : WireType) (t bs : List ℕ) (e : DecodeError) → IsTag t n w → PayloadFault d n w bs e →
+        M.cost d (t ++ bs) ≡ M.need d n w bs }
     ensures next { (d : ℕ) (f r : List ℕ) → SomeField d f → M.cost d (f ++ r) ≡ plus (M.cost d f) (M.cost d r) }
 {}
 
@@ -185,6 +193,9 @@ where
     ensures levels { ⟦<M as MessageSpec>⟧.levels ≡ M.Form.levels }
     ensures refused { (d : ℕ) (v : M.Meaning) (n : ℕ) (w : WireType) (bs : List ℕ) (l : BudgetLeft) (e : DecodeError)
         (u : M.Meaning) → ⟦<M as MessageSpec>⟧.Refused d v n w bs l e u ↔ M.Form.Refused d v n w bs l e u }
+    ensures taken { (ctx : DecodeContext) (old new : M) (n : ℕ) (w : WireType) (bs rest : List ℕ) (after : BudgetLeft)
+        (r : Result (Unit {0}) DecodeError) → TakesMessageField M.Form.Taken ctx old n w bs r new after rest
+        ↔ M.Form.Taken ctx.depth old n w bs ctx.budget.now r new after rest }
     ensures normal { (v : M.Meaning) → ⟦<M as MessageSpec>⟧.normal v ↔ M.Form.normal v }
     ensures units { ⟦<M as MessageSpec>⟧.COST ≡ M.Form.COST }
 {}

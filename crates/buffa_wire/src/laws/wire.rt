@@ -270,6 +270,7 @@ pub fn answers_are_pinned<X, Y>()
 {}
 
 /// What refused bytes leave, in the words of the grammar. It leaves out groups, of which a tail is left.
+#[tactic(auto, using(buffa_bytes::proofs::LeftLemmas::end_stays))]
 pub fn rests_are_these()
     ensures no_varint { (bs : List ℕ) → past_no_varint bs ≡ drop 10 bs }
     ensures no_number { (bs : List ℕ) (e : DecodeError) → VarintFault bs e → (past_no_tag bs ≡ drop 10 bs)
@@ -282,6 +283,7 @@ pub fn rests_are_these()
     ensures payload { (bs : List ℕ) → (past_no_payload Varint bs ≡ drop 10 bs)
         × (past_no_payload LengthDelimited bs ≡ past_no_delimited bs) }
     ensures fixed { (bs : List ℕ) → (past_no_payload Fixed32 bs ≡ bs) × (past_no_payload Fixed64 bs ≡ bs) }
+    ensures end { (bs : List ℕ) → past_no_payload EndGroup bs ≡ bs }
 {}
 
 /// The same of what takes memory. It doesn't say whether out of memory is returned where the whole is there and isn't

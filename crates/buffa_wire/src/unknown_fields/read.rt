@@ -81,24 +81,30 @@ pub fn decode_unknown_field<B: Buf>(
     buf: &mut B,
     ctx: DecodeContext<'_>,
 ) -> Result<UnknownField, DecodeError>
+    // The payload, the unknown fields left and what is unread are what the field at the front says, or the error is its first
+    // fault; or memory ran out.
     ensures reads { GivesUnlessFull (λ f. (datum_of f.payload, (budget_left ctx.exit).unknown, B.unread buf.new)) result
         (field_in ctx.entry tag.number tag.wire_type (B.unread buf.old)) }
     ensures full { FullOnlyIf result (RecordTakesMemory ctx.entry.depth ctx.entry.budget.now.unknown tag.wire_type
         (B.unread buf.old)) }
     ensures number { IfOk result (λ f. f.number ≡ tag.number) }
+    // What is spent: no element memory, and unknown fields only.
     ensures memory { (budget_left ctx.exit).memory ≡ ctx.entry.budget.now.memory }
     ensures spent { UnknownsSpent (1 + bytes_read (B.unread buf.old) (B.unread buf.new))
         ctx.entry.budget.now.unknown (budget_left ctx.exit).unknown }
     ensures end { tag.wire_type ≡ WireType.EndGroup → budget_left ctx.exit ≡ ctx.entry.budget.now }
+    // What is unread after an error.
     ensures end_stays { tag.wire_type ≡ WireType.EndGroup → B.unread buf.new ≡ B.unread buf.old }
     ensures level { tag.wire_type ≡ WireType.StartGroup → ctx.entry.depth ≡ 0 → B.unread buf.new ≡ B.unread buf.old }
     ensures no_unknown_stays { ctx.entry.budget.now.unknown ≡ 0 → B.unread buf.new ≡ B.unread buf.old }
     ensures left { tag.wire_type ≢ WireType.StartGroup → 0 < ctx.entry.budget.now.unknown →
         LeavesUnlessFull result (past_no_payload tag.wire_type (B.unread buf.old)) (B.unread buf.new) }
+    // What is spent after an error.
     ensures counted { tag.wire_type ≢ WireType.StartGroup → tag.wire_type ≢ WireType.EndGroup → UnknownTaken
         ctx.entry.budget.now.unknown (budget_left ctx.exit).unknown }
     ensures deep_unknown { tag.wire_type ≡ WireType.StartGroup → ctx.entry.depth ≡ 0 → UnknownTaken
         ctx.entry.budget.now.unknown (budget_left ctx.exit).unknown }
+    // What lies behind the end of a limited buffer stays there, and what is unread is an end of what was.
     ensures kept { B.beyond buf.new ≡ B.beyond buf.old }
     ensures tail { IsTailOf (B.unread buf.new) (B.unread buf.old) }
 {

@@ -1,8 +1,8 @@
 // Settings as words; no settings are read of a word.
 
 use crate::members::lists::{numbers_word, with_word};
-use buffa_fields::held_map::MapNest;
-use buffa_map::map_codec::Str;
+use buffa::fields::MapNest;
+use buffa::map_codec::Str;
 use conformance_calls::messages::{Parted, Parts};
 use conformance_rows::fault::Fault;
 use conformance_rows::words::{Worded, copied, joined, records_word, text_word};

@@ -1,7 +1,7 @@
 // Messages from their fields as words; no message is read of a word.
 
 use crate::members::Members;
-use buffa_wire::{EnumValue, Enumeration};
+use buffa::{EnumValue, Enumeration};
 use conformance_calls::messages::{Parted, Parts, parted_word};
 use conformance_rows::fault::Fault;
 use conformance_rows::outcome::in_words;

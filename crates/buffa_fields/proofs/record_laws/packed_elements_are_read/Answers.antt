@@ -1,4 +1,4 @@
-use Rattle.std.proofs.Common.{◌++◌, ap, arith, length-append, ◌∙◌}
+use Rattle.std.proofs.Common.{ap, arith, length-append, ◌∙◌}
 use Rattle.buffa_bytes.proofs.ContentLemmas.{has_byte}
 use Rattle.buffa_fields.proofs.RecordLawLemmas.{more_are_packed, none_are_packed, value_before}
 use Rattle.buffa_fields.proofs.record_laws.packed_elements_are_read.Goals as goal

@@ -1,0 +1,10 @@
+use Rattle.sample_inventory.proofs.wagon.WagonFields.visit.Goals as goal
+
+pub visit-requires-4-clause-comes : goal.visit-requires-4-clause-comes
+visit-requires-4-clause-comes g c = g.V.Visitor.begins _ _ _ (c.visit-3.ensures.waits _ (c.visit-2.ensures.waits _ (c.visit.ensures.waits _ c.requires)))
+
+pub visit-requires-5-clause-comes : goal.visit-requires-5-clause-comes
+visit-requires-5-clause-comes g c = g.V.Visitor.begins _ _ _ (c.visit-4.ensures.waits _ (c.visit-3.ensures.waits _ (c.visit-2.ensures.waits _ (c.visit.ensures.waits _ c.requires))))
+
+pub visit-requires-6-clause-comes : goal.visit-requires-6-clause-comes
+visit-requires-6-clause-comes g c = g.V.Visitor.begins _ _ _ (c.visit-5.ensures.waits _ (c.visit-4.ensures.waits _ (c.visit-3.ensures.waits _ (c.visit-2.ensures.waits _ (c.visit.ensures.waits _ c.requires)))))

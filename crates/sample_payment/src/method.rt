@@ -1,0 +1,82 @@
+//! The oneof buffa.sample.Payment.method, made of payment.proto by protoc-gen-buffa.
+
+ghost use Rattle.buffa.specs.Members.{Other, This, case, enum_of, no_case};
+ghost use Rattle.sample_payment.specs.declared.method.Method.TheVariants.{Card, Cash, Transfer as TransferCase};
+
+use crate::transfer::Transfer;
+use buffa::fields::{Case, Nested, OneOf, Optional, Or, Set, Visitor, case_reads_back};
+use buffa::map_codec::{Int32, Str};
+use buffa::{Blank, DecodeContext, DecodeError, Tag};
+use std::alloc::Global;
+use std::string::String;
+
+/// oneof method {
+///     string card = 2;
+///     int32 cash = 3;
+///     Transfer transfer = 4;
+/// }
+#[derive(Drop)]
+pub enum Method {
+    Card(String),
+    Cash(i32),
+    Transfer(Transfer),
+}
+
+impl OneOf for Method {
+    type Meaning = Or<[u8; 0], Or<i32, Or<<Transfer as Blank>::Meaning, ()>>>;
+
+    ghost cases = { enum_of (case 2 ⟦<Optional<Str> as Case>⟧.words (
+        case 3 ⟦<Optional<Int32> as Case>⟧.words (
+        case 4 ⟦<Nested<Transfer> as Case>⟧.words (
+        no_case)))) (λ m. elim m [
+          | Card x ↦ This x
+          | Cash x ↦ Other (This x)
+          | TransferCase x ↦ Other (Other (This x))
+        ]) };
+
+    fn visit<V: Visitor>(&self, visitor: &mut V) {
+        match self {
+            Method::Card(it) => visitor.visit::<Set<Optional<Str>>>(2, it),
+            Method::Cash(it) => visitor.visit::<Set<Optional<Int32>>>(3, it),
+            Method::Transfer(it) => visitor.visit::<Set<Nested<Transfer>>>(4, it),
+        }
+    }
+
+    fn take(
+        slot: &mut Option<Method>,
+        alloc: Global,
+        tag: Tag,
+        buf: &mut &[u8],
+        ctx: DecodeContext<'_>,
+    ) -> Result<(), DecodeError> {
+        match tag.field_number() {
+            2 => {
+                let it = Optional::<Str>::read_value(alloc, tag, buf, ctx)?;
+                *slot = Some(Method::Card(it));
+                Ok(())
+            }
+            3 => {
+                let it = Optional::<Int32>::read_value(alloc, tag, buf, ctx)?;
+                *slot = Some(Method::Cash(it));
+                Ok(())
+            }
+            4 => match slot {
+                Some(Method::Transfer(it)) => {
+                    Nested::<Transfer>::merge_value(it, alloc, tag, buf, ctx)
+                }
+                _ => {
+                    let it = Nested::<Transfer>::read_value(alloc, tag, buf, ctx)?;
+                    *slot = Some(Method::Transfer(it));
+                    Ok(())
+                }
+            },
+            _ => Ok(()),
+        }
+    }
+
+    fn reads_back() {
+        case_reads_back::<Optional<Str>>();
+        case_reads_back::<Optional<Int32>>();
+        case_reads_back::<Nested<Transfer>>();
+    }
+}

@@ -1,0 +1,27 @@
+//! How a `oneof` is read and set.
+
+use crate::method::Method;
+use crate::payment::Payment;
+use std::alloc::{AllocError, Global};
+
+/// The cash that is paid, where it is paid in cash.
+pub fn cash_of(payment: &Payment) -> Option<i32> {
+    match &payment.method {
+        Some(Method::Cash(cash)) => Some(*cash),
+        _ => None,
+    }
+}
+
+/// Says that it is paid in cash; a card or a transfer that stood there is gone.
+pub fn pay_in_cash(payment: &mut Payment, cash: i32) {
+    payment.method = Some(Method::Cash(cash));
+}
+
+/// Says that it is paid by a card.
+///
+/// # Errors
+/// Where memory runs out.
+pub fn pay_by_card(alloc: Global, payment: &mut Payment, card: &str) -> Result<(), AllocError> {
+    payment.method = Some(Method::Card(String::from_str(alloc, card)?));
+    Ok(())
+}

@@ -1,0 +1,100 @@
+//! buffa.sample.Payment, made of payment.proto by protoc-gen-buffa.
+
+ghost use Rattle.std.proofs.Common.{lit<, refl};
+ghost use Rattle.buffa.specs.Members.{field, keep, one_of};
+
+use crate::method::Method;
+use buffa::fields::{
+    And4, Fields, Formed, KeptFields, Listed, Listing, Member, OneOf, Plain, Visitor, kept,
+    visit_one_of,
+};
+use buffa::map_codec::{Int32, Str};
+use buffa::{Blank, DecodeContext, DecodeError, Tag, UnknownFields};
+use std::alloc::Global;
+use std::string::String;
+
+/// What is paid, and how.
+///
+/// message Payment {
+///     int32 amount = 1;
+///     oneof method {
+///         string card = 2;
+///         int32 cash = 3;
+///         Transfer transfer = 4;
+///     }
+///     string note = 5;
+/// }
+#[derive(Drop)]
+pub struct Payment {
+    pub amount: i32,
+    pub method: Option<Method>,
+    pub note: String,
+    /// The fields that aren't declared, in order.
+    pub rest: UnknownFields,
+}
+
+impl Fields for Payment {
+    type Meaning = And4<i32, Option<<Method as OneOf>::Meaning>, [u8; 0], KeptFields>;
+
+    const COST: usize = 128;
+
+    ghost COST = { 128 };
+
+    ghost positive = { lit< tt };
+
+    ghost layout = { field 1 (λ m. m.amount) ⟦<Plain<Int32> as Member>⟧.shape (
+        one_of (λ m. m.method) ⟦<Method as OneOf>⟧.cases (
+        field 5 (λ m. m.note) ⟦<Plain<Str> as Member>⟧.shape (
+        keep (λ m. m.rest.records)))) };
+
+    ghost sound = { refl };
+
+    fn visit<V: Visitor>(&self, visitor: &mut V) {
+        visitor.visit::<Plain<Int32>>(1, &self.amount);
+        visit_one_of(&self.method, visitor);
+        visitor.visit::<Plain<Str>>(5, &self.note);
+        visitor.visit_kept(&self.rest);
+    }
+
+    fn take(
+        &mut self,
+        alloc: Global,
+        tag: Tag,
+        buf: &mut &[u8],
+        ctx: DecodeContext<'_>,
+    ) -> Result<(), DecodeError> {
+        match tag.field_number() {
+            1 => Plain::<Int32>::merge(&mut self.amount, alloc, tag, buf, ctx),
+            2 | 3 | 4 => Method::take(&mut self.method, alloc, tag, buf, ctx),
+            5 => Plain::<Str>::merge(&mut self.note, alloc, tag, buf, ctx),
+            _ => kept::keep(alloc, &mut self.rest, tag, buf, ctx),
+        }
+    }
+}
+
+impl Blank for Payment {
+    type Meaning = <Payment as Fields>::Meaning;
+
+    ghost meaning = { ⟦<Payment as Fields>⟧.layout.meaning };
+
+    ghost blank_is = { ⟦<Payment as Fields>⟧.layout.blank };
+
+    fn blank(alloc: Global) -> Payment {
+        Payment {
+            amount: 0,
+            method: None,
+            note: String::new(alloc),
+            rest: UnknownFields::new(alloc),
+        }
+    }
+}
+
+impl Listing for Payment {
+    ghost means = { λ m. refl };
+
+    ghost starts = { refl };
+}
+
+impl Formed for Payment {
+    type Form = Listed;
+}

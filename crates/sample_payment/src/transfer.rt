@@ -1,0 +1,88 @@
+//! buffa.sample.Transfer, made of payment.proto by protoc-gen-buffa.
+
+ghost use Rattle.std.proofs.Common.{lit<, refl};
+ghost use Rattle.buffa.specs.Members.{field, keep};
+
+use buffa::fields::{
+    And3, Fields, Formed, KeptFields, Listed, Listing, Member, Plain, Visitor, kept,
+};
+use buffa::map_codec::{Int32, Str};
+use buffa::{Blank, DecodeContext, DecodeError, Tag, UnknownFields};
+use std::alloc::Global;
+use std::string::String;
+
+/// Where money goes, and on which day.
+///
+/// message Transfer {
+///     string to = 1;
+///     int32 day = 2;
+/// }
+#[derive(Drop)]
+pub struct Transfer {
+    pub to: String,
+    pub day: i32,
+    /// The fields that aren't declared, in order.
+    pub rest: UnknownFields,
+}
+
+impl Fields for Transfer {
+    type Meaning = And3<[u8; 0], i32, KeptFields>;
+
+    const COST: usize = 56;
+
+    ghost COST = { 56 };
+
+    ghost positive = { lit< tt };
+
+    ghost layout = { field 1 (λ m. m.to) ⟦<Plain<Str> as Member>⟧.shape (
+        field 2 (λ m. m.day) ⟦<Plain<Int32> as Member>⟧.shape (
+        keep (λ m. m.rest.records))) };
+
+    ghost sound = { refl };
+
+    fn visit<V: Visitor>(&self, visitor: &mut V) {
+        visitor.visit::<Plain<Str>>(1, &self.to);
+        visitor.visit::<Plain<Int32>>(2, &self.day);
+        visitor.visit_kept(&self.rest);
+    }
+
+    fn take(
+        &mut self,
+        alloc: Global,
+        tag: Tag,
+        buf: &mut &[u8],
+        ctx: DecodeContext<'_>,
+    ) -> Result<(), DecodeError> {
+        match tag.field_number() {
+            1 => Plain::<Str>::merge(&mut self.to, alloc, tag, buf, ctx),
+            2 => Plain::<Int32>::merge(&mut self.day, alloc, tag, buf, ctx),
+            _ => kept::keep(alloc, &mut self.rest, tag, buf, ctx),
+        }
+    }
+}
+
+impl Blank for Transfer {
+    type Meaning = <Transfer as Fields>::Meaning;
+
+    ghost meaning = { ⟦<Transfer as Fields>⟧.layout.meaning };
+
+    ghost blank_is = { ⟦<Transfer as Fields>⟧.layout.blank };
+
+    fn blank(alloc: Global) -> Transfer {
+        Transfer {
+            to: String::new(alloc),
+            day: 0,
+            rest: UnknownFields::new(alloc),
+        }
+    }
+}
+
+impl Listing for Transfer {
+    ghost means = { λ m. refl };
+
+    ghost starts = { refl };
+}
+
+impl Formed for Transfer {
+    type Form = Listed;
+}

@@ -1,0 +1,160 @@
+"""A oneof: the member of the message that has it, and the file of its enum, laid out as rt fmt has it."""
+from depths import own_depth
+from names import TAKEN, variant
+
+# As many cases of one oneof are written.
+MOST_CASES = 40
+
+
+class OneOf:
+    """How a oneof stands in its message: as one member, which is an enum of its cases in an Option."""
+
+    is_required = is_list = is_encoded = is_bytes = keeps = has_getter = False
+    key = key_type = None
+
+    def __init__(self, world, field, name, cases):
+        self.world, self.field, self.it, self.name = world, field, field.it, name
+        self.cases = sorted(cases, key=lambda k: k.number)
+        self.number, self.last = self.cases[0].number, self.cases[-1].number
+        self.enum, self.told, self.imports = world.types[field.full], set(), [field.full]
+        self.in_contract, self.needs = name, {"OneOf", "visit_one_of"}
+        self.inside = [it for k in self.cases for it in k.inside]
+        self.rust, self.means, self.blank = f"Option<{self.enum}>", f"Option<<{self.enum} as OneOf>::Meaning>", "None"
+        # The cases are one in the other.
+        self.own_depth = max(at + 2 + own_depth(k.said) for at, k in enumerate(self.cases))
+        self.variants = {}
+        for case in self.cases:
+            self.name_variant(case)
+
+    def name_variant(self, case):
+        """Gives a case its name."""
+        rust = variant(case.name.rstrip("_"), self.enum)
+        other = self.variants.setdefault(rust, case)
+        if other is not case:
+            case.field.refuse(f"the name of its case is that of {other.field.full}, too")
+        case.variant = rust
+        # The type of a message may have the name, too, and so may what contracts import.
+        is_taken = rust in set(self.world.types.values()) | TAKEN | {"This", "Other"}
+        case.in_elim = rust + "Case" if is_taken else rust
+
+    def cost_of(self, messages):
+        """The bytes of the largest case, with those that say which it is, and whether one is."""
+        return 16 + max(k.cost_alone or messages[k.inside[-1]].cost(messages) for k in self.cases)
+
+    def declared(self):
+        return [f"oneof {self.it.name} {{"] + [f"    {k.declared()}" for k in self.cases] + ["}"]
+
+
+def uses_of_enum(one):
+    """The names that the file of an enum imports, by their words."""
+    needs = set().union(*(k.needs for k in one.cases))
+    needs |= {"Case", "case_reads_back", "DecodeContext", "DecodeError", "Global", "OneOf", "Or", "Set", "Tag", "Visitor"}
+    return needs | ({"Blank"} if any(" as Blank>" in k.said for k in one.cases) else set())
+
+
+def head(one, crate, module, over):
+    """What contracts cite, by the facade or by the crates below it."""
+    variants = [k.variant if k.in_elim == k.variant else f"{k.variant} as {k.in_elim}" for k in one.cases]
+    path = ".".join(["Rattle", crate, "specs.declared", *module, one.enum, "TheVariants"])
+    if over == "buffa":
+        made = ["ghost use Rattle.buffa.specs.Members.{Other, This, case, enum_of, no_case};"]
+    else:
+        made = ["ghost use Rattle.buffa_fields.specs.OneOfParts.{case, enum_of, no_case};"]
+        made += ["ghost use Rattle.buffa_fields.specs.declared.meaning.Or.TheVariants.{Other, This};"]
+    return made + [f"ghost use {path}.{{{', '.join(sorted(variants))}}};", ""]
+
+
+def enum(one, docs):
+    """The enum, with what the .proto says of it and of its cases."""
+    made = docs(one.field.said + [""] * bool(one.field.said) + one.declared())
+    made += ["#[derive(Drop)]", f"pub enum {one.enum} {{"]
+    for case in one.cases:
+        made += docs(case.field.said, "    ") + [f"    {case.variant}({case.value}),"]
+    return made + ["}", ""]
+
+
+def meaning(one):
+    """What the cases mean, one in the other."""
+    text = "()"
+    for case in reversed(one.cases):
+        text = f"Or<{case.said}, {text}>"
+    line = f"    type Meaning = {text};"
+    if len(line) <= 100:
+        return [line]
+    return folded(one)
+
+
+def folded(one):
+    """The same over several lines: what is left of the cases stands on one line as soon as it fits."""
+    texts, text = [], "()"
+    for case in reversed(one.cases):
+        texts.append(text)
+        text = f"Or<{case.said}, {text}>"
+    rests, lines, indent = texts[::-1], ["    type Meaning = Or<"], 8
+    for at, case in enumerate(one.cases):
+        lines.append(" " * indent + case.said + ",")
+        whole = " " * indent + rests[at] + ","
+        if len(whole) <= 100 or rests[at] == "()":
+            lines.append(whole)
+            break
+        lines.append(" " * indent + "Or<")
+        indent += 4
+    return lines + [" " * at + ">" + ("," if at > 4 else ";") for at in range(indent - 4, 3, -4)]
+
+
+def cases(one):
+    """The cases in contracts: each under its number, and which of them a value is."""
+    made = [f"case {k.number} ⟦<{k.member_type} as Case>⟧.words (" for k in one.cases]
+    made = ["    ghost cases = { enum_of (" + made[0]] + [f"        {it}" for it in made[1:]]
+    made += [f"        no_case{')' * (len(one.cases) + 1)} (λ m. elim m ["]
+    for at, case in enumerate(one.cases):
+        made.append(f"          | {case.in_elim} x ↦ {'Other (' * at}This x{')' * at}")
+    return made + ["        ]) };", ""]
+
+
+def visit(one):
+    made = ["    fn visit<V: Visitor>(&self, visitor: &mut V) {", "        match self {"]
+    for case in one.cases:
+        head = f"            {one.enum}::{case.variant}(it) =>"
+        call = f"visitor.visit::<Set<{case.member_type}>>({case.number}, it)"
+        if len(head) + len(call) + 2 <= 100:
+            made.append(f"{head} {call},")
+        else:
+            made += [f"{head} {{", f"                {call}", "            }"]
+    return made + ["        }", "    }", ""]
+
+
+def merge_value(one, case):
+    """The arm by which a message is merged into its own case, where that stands."""
+    head = f"                Some({one.enum}::{case.variant}(it)) => "
+    call = f"{case.member_type.replace('<', '::<', 1)}::merge_value(it, alloc, tag, buf, ctx)"
+    if len(head) + len(call) < 100:
+        return [f"{head}{call},"]
+    return [f"{head}{{", f"                    {call}", "                }"]
+
+
+def read_value(one, case, head, indent):
+    """The arm by which what is read takes the place of what stands; a refused field leaves that."""
+    call = f"{case.member_type.replace('<', '::<', 1)}::read_value(alloc, tag, buf, ctx)?;"
+    made = [f"{indent}{head} => {{", f"{indent}    let it = {call}"]
+    if len(made[-1]) > 100:
+        made[-1:] = [f"{indent}    let it =", f"{indent}        {call}"]
+    return made + [f"{indent}    *slot = Some({one.enum}::{case.variant}(it));", f"{indent}    Ok(())", f"{indent}}}"]
+
+
+def take(one):
+    """The function that takes a field: a message is merged into its own case, where that stands."""
+    made = ["    fn take("]
+    made += [f"        {it}," for it in (f"slot: &mut Option<{one.enum}>", "alloc: Global", "tag: Tag", "buf: &mut &[u8]", "ctx: DecodeContext<'_>")]
+    made += ["    ) -> Result<(), DecodeError> {", "        match tag.field_number() {"]
+    for case in one.cases:
+        if case.is_message:
+            made += [f"            {case.number} => match slot {{"] + merge_value(one, case)
+            made += read_value(one, case, "_", "                ") + ["            },"]
+        else:
+            made += read_value(one, case, str(case.number), "            ")
+    return made + ["            _ => Ok(()),", "        }", "    }"]
+
+
+def reads_back(one):
+    return ["", "    fn reads_back() {"] + [f"        case_reads_back::<{k.member_type}>();" for k in one.cases] + ["    }"]
