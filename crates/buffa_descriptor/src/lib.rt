@@ -9,8 +9,6 @@
 #![tactic(auto)]
 
 pub mod messages;
-#[cfg(test)]
-mod tests;
 
 pub use messages::descriptor_proto::{DescriptorProto, DescriptorProtoMeaning, DescriptorProtoOwn};
 pub use messages::descriptor_proto_extension_range::DescriptorProtoExtensionRange;

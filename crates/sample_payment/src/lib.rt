@@ -4,6 +4,4 @@
 pub mod method;
 pub mod pay;
 pub mod payment;
-#[cfg(test)]
-mod tests;
 pub mod transfer;

@@ -4,6 +4,8 @@
 #![tactic(auto)]
 
 #[cfg(test)]
+mod descriptor;
+#[cfg(test)]
 mod examples;
 #[cfg(test)]
 mod failure;
@@ -15,6 +17,8 @@ mod held;
 mod node;
 #[cfg(test)]
 mod palette;
+#[cfg(test)]
+mod payment;
 #[cfg(test)]
 mod settings;
 #[cfg(test)]

@@ -1,8 +1,8 @@
 //! Payments. The bytes are worked out by hand, from the protobuf encoding guide.
 
-use crate::method::Method;
-use crate::payment::Payment;
 use buffa::{Blank, DecodeError, Message, SizeCache};
+use sample_payment::method::Method;
+use sample_payment::payment::Payment;
 use std::string::String;
 use std::test::Fail;
 

@@ -2,14 +2,13 @@
 
 mod sets;
 
-use crate::messages::descriptor_proto::DescriptorProto;
-use crate::messages::field_descriptor_proto_label::FieldDescriptorProtoLabel;
-use crate::messages::field_descriptor_proto_type::FieldDescriptorProtoType;
-use crate::messages::field_options::FieldOptions;
-use crate::messages::file_descriptor_set::FileDescriptorSet;
-use buffa_ext::{Extension, ExtensionSet};
-use buffa_wire::scalars::{Bool, Sint64};
-use buffa_wire::{Blank, Message};
+use buffa::extension::codecs::{Bool, Sint64};
+use buffa::extension::{Extension, ExtensionSet};
+use buffa::{Blank, Message};
+use buffa_descriptor::{
+    DescriptorProto, FieldDescriptorProtoLabel, FieldDescriptorProtoType, FieldOptions,
+    FileDescriptorSet,
+};
 use std::alloc::Global;
 use std::test::Fail;
 
