@@ -2,9 +2,9 @@
 """Tries wrong bodies, many of a crate in one check, and sees that each is refused at the goal that it names.
 
     tests/wrong.py [CRATE..]   tries all, or those of some crates
-    tests/wrong.py look        proves nothing, and sees in half a minute that each can still be tried
+    tests/wrong.py look        proves nothing, and sees in some minutes that each can still be tried
     tests/wrong.py today       tries some twenty of them, others each day, until all had their turn
-    tests/wrong.py gate FILE   proves nothing, and sees that `rt ci`, which wrote FILE, refused each must-fail edit at its goal
+    tests/wrong.py gate FILE   sees that `rt ci`, which wrote FILE, refused each must-fail edit at its goal
     tests/wrong.py --name ..   writes the goal of each that is tried and names none
 
 A wrong body is an edit, tests/wrong/CRATE/FUNCTION-what_is_wrong.edit: a line 'file: src/x.rt', then pairs of lines
@@ -26,8 +26,8 @@ answer of its proof file is refused, since a right body may trip that as well: a
 answer. A law has no paths: name a law that speaks of what is changed in a clause without an answer.
 
 The crate as it stands is checked first, in its own folder, which leaves its work in out/; that costs little where out/
-holds the work of an earlier check. `today` goes without, for use behind `rt ci`, whose libraries it takes: it checks a
-crate once from nothing where no earlier check left work. Needs python3 and `rt`. The last line is 'N passed, M failed'.
+holds the work of an earlier check. `today` and `gate` go without, for use behind `rt ci`, whose libraries they take, and
+check the edited functions alone. Needs python3 and `rt`. The last line is 'N passed, M failed'.
 """
 import argparse
 import datetime
@@ -41,7 +41,7 @@ import tempfile
 import time
 from concurrent.futures import ThreadPoolExecutor
 
-from wrong_edits import TOP, Edit, below, functions, law_at, listed, paths_of, read
+from wrong_edits import TOP, Edit, below, functions, law_at, listed, module_of, paths_of, read
 from wrong_look import look
 
 # what the checker says of a name in a proof file that isn't there
@@ -83,8 +83,7 @@ def is_named(function, crate, name):
     *front, last = name.split("::")
     if last != function.name or "fn" in front:
         return False
-    module = [crate, *re.sub(r"(^src/|/?(\b(lib|main|mod))?\.rt$)", "", function.file).split("/")]
-    module = [it for it in module if it]
+    module = [crate, *module_of(function.file)]
     if not function.holder:
         return front == module
     rest, own = without_params(function.holder)
@@ -98,6 +97,16 @@ def is_named(function, crate, name):
         return front[:-1] == module and front[-1].partition("+")[0] in names
     holder = re.match(r"\w+(::\w+)*", rest)[0].rpartition("::")[2]
     return front[-1].partition("+")[0] == holder
+
+
+def path_of(function):
+    """The path of a function as the checker takes it, if it is one that stands alone or in an impl."""
+    at = module_of(function.file)
+    if function.holder:
+        rest, own = without_params(function.holder)
+        trait, _, of = rest.partition(" where ")[0].rpartition(" for ")
+        at.append(type_name(of, own) + re.sub(r"<.*", "", trait).strip().rpartition("::")[2])
+    return "::".join([*at, function.name])
 
 
 class Report:
@@ -315,8 +324,13 @@ class Tries:
                 it.alone = True
                 self.edits.append(it)
         begun = time.time()
-        laws = [law_at(self.crate, it.name) for it in batch if it.is_wide]
-        report = Report(check(f"{room}/crates/{self.crate}", self.options, laws))
+        paths = [law_at(self.crate, it.name) for it in batch if it.is_wide]
+        if self.options.today and not any(it.target and it.target.cycle for it in batch):
+            # no work is kept, so the edited functions alone are checked, where the checker knows them by these names
+            paths = [path_of(it.target) if it.target else law_at(self.crate, it.name) for it in batch]
+        report = Report(check(f"{room}/crates/{self.crate}", self.options, paths))
+        if paths and any(it.target and len(report.names(it, self.crate)) != 1 for it in batch):
+            report = Report(check(f"{room}/crates/{self.crate}", self.options))
         print(f"wrong: {self.crate}: {len(batch)} edits in one check, {time.time() - begun:.0f} s", flush=True)
         if self.options.keep:
             with open(f"{self.options.keep}/{self.crate}-{int(begun)}.log", "w", encoding="utf-8") as it:
@@ -393,17 +407,22 @@ def refuses(goal, line):
     return not goal or is_named or not PRECONDITION.search(told)
 
 
-def gate(file):
+def gate(file, options):
     """How many must-fail edits `rt ci` refused at what they name, and what is said of the others: at no precondition of a call, and not for a
-    name that is gone."""
+    name that is gone. One of which it told first that an answer no longer fits is tried here once more."""
     told = dict(re.findall(r"must-fail (\w+/\S+\.edit): (.*)", read(file)))
-    passed, failed = 0, []
-    for path in (it for crate in listed() for it in paths_of(crate) if "/must-fail/" in it):
-        goal, line = Edit(path).goal, told.get(f"{path.split('/')[-3]}/{os.path.basename(path)}", "it wasn't tried")
+    passed, failed, again = 0, [], {}
+    for crate, path in ((crate, it) for crate in listed() for it in paths_of(crate) if "/must-fail/" in it):
+        goal, line = Edit(path).goal, told.get(f"{crate}/{os.path.basename(path)}", "it wasn't tried")
         if refuses(goal, line):
             passed += 1
+        elif goal and re.match(r"refused, as it must be: (\./)?proofs/", line):
+            again.setdefault(crate, []).append(path)
         else:
             failed.append(f"wrong: {os.path.relpath(path, TOP)}: its goal is {goal}: {line}")
+    for crate, paths in again.items():
+        more, others = try_crate(crate, paths, options)
+        passed, failed = passed + more, failed + others
     return passed, failed
 
 
@@ -422,7 +441,8 @@ def main():
     crates = [it for it in options.crate if it not in modes and "gate" not in modes] or [it for it in listed() if paths_of(it)]
     options.today = options.day.toordinal() if "today" in modes else 0
     if "gate" in modes:
-        counts = [gate(options.crate[-1])]
+        options.today = True
+        counts = [gate(options.crate[-1], options)]
     elif "look" in modes:
         counts = [look(crates, options.lanes)]
     else:

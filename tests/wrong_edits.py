@@ -103,14 +103,18 @@ def functions(file, text):
     return found
 
 
+def module_of(path):
+    """The modules of a file of src/."""
+    return [it for it in re.sub(r"(^src/|/?(\b(lib|main|mod))?\.rt$)", "", path).split("/") if it]
+
+
 def law_at(crate, name):
     """The path of a law, by its name, as the checker takes it."""
     for at, _, names in os.walk(f"{TOP}/crates/{crate}/src"):
         for file in names:
             path = os.path.relpath(f"{at}/{file}", f"{TOP}/crates/{crate}")
             if any(it.name == name and not it.holder for it in functions(path, read(f"{at}/{file}"))):
-                module = re.sub(r"(^src/|/?(\b(lib|main|mod))?\.rt$)", "", path).split("/")
-                return "::".join([it for it in module if it] + [name])
+                return "::".join([*module_of(path), name])
     return name
 
 

@@ -35,8 +35,10 @@ class Look(Edit):
             at = read(f"{TOP}/crates/{file}").find(old)
             self.places.append((file, at, at + len(old), old, new))
 
-    def line(self, place):
-        return place[0], read(f"{TOP}/crates/{place[0]}").count("\n", 0, place[1]) + 1
+    def is_at(self, place, line, text):
+        """Whether the new text stands at this line of the file's text with the edits."""
+        at = text.find(place[4])
+        return bool(place[4].strip()) and at >= 0 and text.count("\n", 0, at) < line <= text.count("\n", 0, at + len(place[4])) + 1
 
     def touches(self, other):
         return any(a[0] == b[0] and (a[1] < b[2] and b[1] < a[2] or a[1] < 0 or b[1] < 0) for a in self.places for b in other.places)
@@ -104,7 +106,7 @@ def copy_to(room, crate, crates):
 
 
 def errors_of(edits, crate, crates):
-    """What the checker says of a copy with these edits: file, line and text of each error, but for ours."""
+    """What the checker says of a copy with these edits: file, line and text of each error, but for ours; and the files as they are there."""
     with tempfile.TemporaryDirectory(prefix="look-") as room:
         root = copy_to(room, crate, crates)
         begins = read(f"{room}/crates/{crate}/{root}").count("\n") - STOP.count("\n")
@@ -126,25 +128,36 @@ def errors_of(edits, crate, crates):
     others = [it for it in found if not (it[0] == f"{crate}/{root}" and it[1] > begins)]
     if not found:
         raise SystemExit(f"wrong: a copy of the crates isn't read as it should be: {said[-1000:]}")
-    return others
+    return others, texts
+
+
+def of_error(edits, file, line, texts):
+    """The edits of which an error may come: the one that stands there; else those of the law that it is in; else of the crates below."""
+    text = texts.get(file) or read(f"{TOP}/crates/{file}")
+    at = [it for it in edits if any(place[0] == file and it.is_at(place, line, text) for place in it.places)]
+    laws = {it.name for it in functions(file, text) if it.start < line <= it.end + 1}
+    lower = below(file.split("/")[0])
+    return (
+        at
+        or [it for it in edits if not it.target and it.name in laws]
+        or [it for it in edits if it.is_wide and it.crate in lower]
+        or [it for it in edits if it.crate in lower]
+        or edits
+    )
 
 
 def to_blame(edits, crate, crates):
-    """Takes edits out until the others are read together, and returns those: where they stand is an error, or it may
-    come of what they change for others."""
-    blamed, left = [], edits
-    while left:
-        errors = errors_of(left, crate, crates)
-        if not errors:
-            break
-        out = []
-        for inside, line, _ in errors:
-            at = [it for it in left if (inside, line) in [it.line(place) for place in it.places]]
-            lower = below(inside.split("/")[0])
-            out += at or [it for it in left if it.is_wide and it.crate in lower] or [it for it in left if it.crate in lower] or left
-        blamed += [it for it in left if it in out]
-        left = [it for it in left if it not in out]
-    return blamed
+    """The edits of which errors come, and what each is. What the checker says of many together may be another one's: each half is asked again."""
+    errors, texts = errors_of(edits, crate, crates)
+    if not errors:
+        return []
+    if len(edits) == 1:
+        return [(edits[0], errors)]
+    blamed = {it for file, line, _ in errors for it in of_error(edits, file, line, texts)}
+    parts = [it for it in edits if it in blamed], [it for it in edits if it not in blamed]
+    if not parts[1]:
+        parts = edits[: len(edits) // 2], edits[len(edits) // 2 :]
+    return [it for part in parts if part for it in to_blame(part, crate, crates)]
 
 
 def look(crates, lanes):
@@ -166,9 +179,9 @@ def look(crates, lanes):
         layer = next((it for it in layers if not any(edit.touches(other) for other in it)), None)
         layers.append([edit]) if layer is None else layer.append(edit)
     with ThreadPoolExecutor(lanes) as pool:
-        alone += [it for found in pool.map(lambda it: to_blame(it, program, together), layers) for it in found]
-        for edit, errors in zip(alone, pool.map(lambda it: errors_of([it], it.crate, []), alone)):
-            if errors and not edit.is_refused_by_its_law(errors):
-                failed[edit] = "{}:{}: {}".format(*errors[0])
-    print(f"wrong: {len(edits)} edits in {len(layers)} copies, and {len(alone)} of them in one each")
+        blamed = [it for found in pool.map(lambda it: to_blame(it, program, together), layers) for it, _ in found]
+        # what a change of one crate does to those above it is not asked: its own crate has to read it
+        for found in pool.map(lambda it: to_blame([it], it.crate, []), [*alone, *blamed]):
+            failed.update({edit: "{}:{}: {}".format(*errors[0]) for edit, errors in found if not edit.is_refused_by_its_law(errors)})
+    print(f"wrong: {len(edits)} edits in {len(layers)} copies, and {len(alone) + len(blamed)} of them in one each")
     return len(edits) - len(failed), [f"wrong: {it.crate}/{it.title}: BAD EDIT: {why}" for it, why in failed.items()]
