@@ -39,6 +39,20 @@ pub record Rules (K V : Type 0) : Type 0 where
   pub cost : ℕ
   pub keeps_undeclared : Bool
 
+-- The rules of codecs and a storage: how a key is read, and what it costs; how a value is read, and what it costs; which
+-- keys are the same, and whether their order is kept; the depth; the number; and whether what is undeclared is kept.
+abbrev pub rules : {K V : Type 0} → Reading K × ℕ → Reading V × ℕ → (K → K → Bool) × Bool → ℕ → ℕ → Bool → Rules K V
+rules key val storage depth number keeps = record {
+  key = key.0;
+  val = val.0;
+  same = storage.0;
+  keeps_order = storage.1;
+  depth = depth;
+  number = number;
+  cost = key.1 + val.1;
+  keeps_undeclared = keeps;
+}
+
 -- the record that is kept of an entry, and those of a run's entries, in order
 abbrev pub kept_of_entry : {K V : Type 0} → Rules K V → List ℕ → MapEntry K V → List (ℕ × Datum)
 kept_of_entry r entry says = if r.keeps_undeclared then undeclared_record r.number entry says.known else []

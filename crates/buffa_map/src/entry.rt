@@ -5,7 +5,7 @@ ghost use Rattle.buffa_bytes.specs.declared.error.DecodeError.TheVariants.{Eleme
 ghost use Rattle.buffa_wire.specs.BudgetLeft.{budget_left};
 ghost use Rattle.buffa_map.specs.Entry.{meant_entry};
 ghost use Rattle.buffa_map.specs.Lent.{records_before, records_after, capacity_before, capacity_after};
-ghost use Rattle.buffa_map.specs.Merge.{MergesEntry, MergesWhole, RefusesEntry, RefusesWhole, Rules, state};
+ghost use Rattle.buffa_map.specs.Merge.{MergesEntry, MergesWhole, RefusesEntry, RefusesWhole, rules, state};
 ghost use Rattle.buffa_map.specs.Pairs.{InOrder, SamePairs, put};
 ghost use Rattle.buffa_map.specs.Parts.{ReadsCut, ReadsParts, RefusesCut, RefusesParts};
 
@@ -111,28 +111,12 @@ fn merge_whole<
     keeper: &mut L,
 ) -> Result<(), DecodeError>
     requires { W.may how.now ctx.depth }
-    ensures ok { let rules : Rules _ _ = record {
-      key = KC.reading;
-      val = W.reading;
-      same = C.equal;
-      keeps_order = C.keeps_order;
-      depth = ctx.entry.depth;
-      number = number;
-      cost = KC.COST + W.COST;
-      keeps_undeclared = L.KEEPS;
-    } in OnOk result (MergesWhole rules
+    ensures ok { OnOk result (MergesWhole
+        (rules (KC.reading, KC.COST) (W.reading, W.COST) (C.equal, C.keeps_order) ctx.entry.depth number L.KEEPS)
         (state (C.pairs map.old) (L.records keeper.old) ctx.entry.budget.now) entry.now
         (state (C.pairs map.new) (L.records keeper.new) (budget_left ctx.exit))) }
-    ensures err { let rules : Rules _ _ = record {
-      key = KC.reading;
-      val = W.reading;
-      same = C.equal;
-      keeps_order = C.keeps_order;
-      depth = ctx.entry.depth;
-      number = number;
-      cost = KC.COST + W.COST;
-      keeps_undeclared = L.KEEPS;
-    } in IfErr result (RefusesWhole rules
+    ensures err { IfErr result (RefusesWhole
+        (rules (KC.reading, KC.COST) (W.reading, W.COST) (C.equal, C.keeps_order) ctx.entry.depth number L.KEEPS)
         (state (C.pairs map.old) (L.records keeper.old) ctx.entry.budget.now) entry.now
         (state (C.pairs map.new) (L.records keeper.new) (budget_left ctx.exit))) }
     ensures room { L.room keeper.old ≤ L.room keeper.new }
@@ -168,28 +152,12 @@ pub(crate) fn merge_entry_by<
     keeper: &mut L,
 ) -> Result<(), DecodeError>
     requires { W.may how.now ctx.depth }
-    ensures ok { let rules : Rules _ _ = record {
-      key = KC.reading;
-      val = W.reading;
-      same = C.equal;
-      keeps_order = C.keeps_order;
-      depth = ctx.entry.depth;
-      number = number;
-      cost = KC.COST + W.COST;
-      keeps_undeclared = L.KEEPS;
-    } in OnOk result (MergesEntry rules
+    ensures ok { OnOk result (MergesEntry
+        (rules (KC.reading, KC.COST) (W.reading, W.COST) (C.equal, C.keeps_order) ctx.entry.depth number L.KEEPS)
         (state (C.pairs map.old) (L.records keeper.old) ctx.entry.budget.now) (B.unread buf.old)
         (state (C.pairs map.new) (L.records keeper.new) (budget_left ctx.exit)) (B.unread buf.new)) }
-    ensures err { let rules : Rules _ _ = record {
-      key = KC.reading;
-      val = W.reading;
-      same = C.equal;
-      keeps_order = C.keeps_order;
-      depth = ctx.entry.depth;
-      number = number;
-      cost = KC.COST + W.COST;
-      keeps_undeclared = L.KEEPS;
-    } in IfErr result (RefusesEntry rules
+    ensures err { IfErr result (RefusesEntry
+        (rules (KC.reading, KC.COST) (W.reading, W.COST) (C.equal, C.keeps_order) ctx.entry.depth number L.KEEPS)
         (state (C.pairs map.old) (L.records keeper.old) ctx.entry.budget.now) (B.unread buf.old)
         (state (C.pairs map.new) (L.records keeper.new) (budget_left ctx.exit)) (B.unread buf.new)) }
     ensures room { L.room keeper.old ≤ L.room keeper.new }
@@ -238,29 +206,13 @@ pub fn merge_entry<
 >(alloc: Global, map: &mut C, buf: &mut B, ctx: DecodeContext<'_>) -> Result<(), DecodeError>
     // Accepted: a length and so many bytes are at the front, and they are an entry, which is put into the map unless it is
     // undeclared.
-    ensures ok { let rules : Rules _ _ = record {
-      key = KC.reading;
-      val = VC.reading;
-      same = C.equal;
-      keeps_order = C.keeps_order;
-      depth = ctx.entry.depth;
-      number = 0;
-      cost = KC.COST + VC.COST;
-      keeps_undeclared = false;
-    } in OnOk result (MergesEntry rules
+    ensures ok { OnOk result (MergesEntry
+        (rules (KC.reading, KC.COST) (VC.reading, VC.COST) (C.equal, C.keeps_order) ctx.entry.depth 0 false)
         (state (C.pairs map.old) [] ctx.entry.budget.now) (B.unread buf.old)
         (state (C.pairs map.new) [] (budget_left ctx.exit)) (B.unread buf.new)) }
     // Refused: the entry's first fault is the error, and the map is as it was.
-    ensures err { let rules : Rules _ _ = record {
-      key = KC.reading;
-      val = VC.reading;
-      same = C.equal;
-      keeps_order = C.keeps_order;
-      depth = ctx.entry.depth;
-      number = 0;
-      cost = KC.COST + VC.COST;
-      keeps_undeclared = false;
-    } in IfErr result (RefusesEntry rules
+    ensures err { IfErr result (RefusesEntry
+        (rules (KC.reading, KC.COST) (VC.reading, VC.COST) (C.equal, C.keeps_order) ctx.entry.depth 0 false)
         (state (C.pairs map.old) [] ctx.entry.budget.now) (B.unread buf.old)
         (state (C.pairs map.new) [] (budget_left ctx.exit)) (B.unread buf.new)) }
     // What lies behind the end of a limited buffer stays there.
@@ -306,29 +258,13 @@ pub fn merge_entry_with_unknowns<
     unknown: Option<&mut UnknownFields>,
 ) -> Result<(), DecodeError>
     // Accepted: the entry at the front is put into the map, or kept in the list where it is undeclared.
-    ensures ok { let rules : Rules _ _ = record {
-      key = KC.reading;
-      val = VC.reading;
-      same = C.equal;
-      keeps_order = C.keeps_order;
-      depth = ctx.entry.depth;
-      number = number;
-      cost = KC.COST + VC.COST;
-      keeps_undeclared = is_some unknown.entry;
-    } in OnOk result (MergesEntry rules
+    ensures ok { OnOk result (MergesEntry
+        (rules (KC.reading, KC.COST) (VC.reading, VC.COST) (C.equal, C.keeps_order) ctx.entry.depth number (is_some unknown.entry))
         (state (C.pairs map.old) (records_before unknown.entry) ctx.entry.budget.now) (B.unread buf.old)
         (state (C.pairs map.new) (records_after unknown.exit) (budget_left ctx.exit)) (B.unread buf.new)) }
     // Refused: its first fault is the error, and map and list are as they were.
-    ensures err { let rules : Rules _ _ = record {
-      key = KC.reading;
-      val = VC.reading;
-      same = C.equal;
-      keeps_order = C.keeps_order;
-      depth = ctx.entry.depth;
-      number = number;
-      cost = KC.COST + VC.COST;
-      keeps_undeclared = is_some unknown.entry;
-    } in IfErr result (RefusesEntry rules
+    ensures err { IfErr result (RefusesEntry
+        (rules (KC.reading, KC.COST) (VC.reading, VC.COST) (C.equal, C.keeps_order) ctx.entry.depth number (is_some unknown.entry))
         (state (C.pairs map.old) (records_before unknown.entry) ctx.entry.budget.now) (B.unread buf.old)
         (state (C.pairs map.new) (records_after unknown.exit) (budget_left ctx.exit)) (B.unread buf.new)) }
     // The list doesn't shrink, and what lies behind the end of a limited buffer stays there.

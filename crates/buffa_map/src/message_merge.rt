@@ -8,7 +8,7 @@ ghost use Rattle.buffa_wire.specs.BudgetLeft.{PaysAtMost, budget_left};
 ghost use Rattle.buffa_wire.specs.Message.{MergesBytes, MergesInside, MessageFault, cost_of_payload};
 ghost use Rattle.buffa_map.specs.Calls.{MergesMessages};
 ghost use Rattle.buffa_map.specs.Codec.{RefusesValue, Spends, ReadingTakesMemory, value_at, value_need};
-ghost use Rattle.buffa_map.specs.Merge.{MergesEntry, RefusesEntry, Rules, state};
+ghost use Rattle.buffa_map.specs.Merge.{MergesEntry, RefusesEntry, rules, state};
 ghost use Rattle.buffa_map.specs.Message.{message_reading};
 
 use crate::codec::MapCodec;
@@ -133,28 +133,12 @@ pub fn merge_message_entry_by<
 ) -> Result<(), DecodeError>
     requires may { (x : _) (b : _) (d : _) (w : _) → d + 1 ≡ ctx.depth → F.pre merge x b d w }
     requires keeps { MergesMessages (F.post merge) M.meaning M.merged M.cost ctx.depth }
-    ensures ok { let rules : Rules _ _ = record {
-      key = KC.reading;
-      val = message_reading M.blank_is M.merged M.cost;
-      same = C.equal;
-      keeps_order = C.keeps_order;
-      depth = ctx.entry.depth;
-      number = 0;
-      cost = KC.COST + M.COST;
-      keeps_undeclared = false;
-    } in OnOk result (MergesEntry rules
+    ensures ok { OnOk result (MergesEntry
+        (rules (KC.reading, KC.COST) (message_reading M.blank_is M.merged M.cost, M.COST) (C.equal, C.keeps_order) ctx.entry.depth 0 false)
         (state (C.pairs map.old) [] ctx.entry.budget.now) (B.unread buf.old)
         (state (C.pairs map.new) [] (budget_left ctx.exit)) (B.unread buf.new)) }
-    ensures err { let rules : Rules _ _ = record {
-      key = KC.reading;
-      val = message_reading M.blank_is M.merged M.cost;
-      same = C.equal;
-      keeps_order = C.keeps_order;
-      depth = ctx.entry.depth;
-      number = 0;
-      cost = KC.COST + M.COST;
-      keeps_undeclared = false;
-    } in IfErr result (RefusesEntry rules
+    ensures err { IfErr result (RefusesEntry
+        (rules (KC.reading, KC.COST) (message_reading M.blank_is M.merged M.cost, M.COST) (C.equal, C.keeps_order) ctx.entry.depth 0 false)
         (state (C.pairs map.old) [] ctx.entry.budget.now) (B.unread buf.old)
         (state (C.pairs map.new) [] (budget_left ctx.exit)) (B.unread buf.new)) }
     ensures kept { B.beyond buf.new ≡ B.beyond buf.old }

@@ -3,7 +3,7 @@
 ghost use Rattle.std.specs.Prelude.{◌≡◌, ◌+◌, [], IfErr, OnOk, true};
 ghost use Rattle.buffa_bytes.specs.Number.{IsNumber};
 ghost use Rattle.buffa_wire.specs.BudgetLeft.{budget_left};
-ghost use Rattle.buffa_map.specs.Merge.{ReadsRun, RefusesRun, Rules, state};
+ghost use Rattle.buffa_map.specs.Merge.{ReadsRun, RefusesRun, rules, state};
 ghost use Rattle.buffa_map.specs.Rewrite.{MatchRefusal, RefusesDecoding, RefusesEncoding, RewritesRun, WritesWalk, rewrite_error_text};
 
 use crate::codec::MapCodec;
@@ -54,28 +54,12 @@ fn read_anew<KC: MapCodec, VC: MapCodec, C: MapStorage<Key = KC::Value, Value = 
     ctx: DecodeContext<'_>,
     aside: &mut UnknownFields,
 ) -> Result<(), DecodeError>
-    ensures ok { let rules : Rules _ _ = record {
-      key = KC.reading;
-      val = VC.reading;
-      same = C.equal;
-      keeps_order = C.keeps_order;
-      depth = ctx.entry.depth;
-      number = number;
-      cost = KC.COST + VC.COST;
-      keeps_undeclared = true;
-    } in OnOk result (ReadsRun rules
+    ensures ok { OnOk result (ReadsRun
+        (rules (KC.reading, KC.COST) (VC.reading, VC.COST) (C.equal, C.keeps_order) ctx.entry.depth number true)
         (state [] aside.old.records ctx.entry.budget.now) (B.unread buf.old)
         (state (C.pairs map.new) aside.new.records (budget_left ctx.exit)) (B.unread buf.new)) }
-    ensures err { let rules : Rules _ _ = record {
-      key = KC.reading;
-      val = VC.reading;
-      same = C.equal;
-      keeps_order = C.keeps_order;
-      depth = ctx.entry.depth;
-      number = number;
-      cost = KC.COST + VC.COST;
-      keeps_undeclared = true;
-    } in IfErr result (RefusesRun rules
+    ensures err { IfErr result (RefusesRun
+        (rules (KC.reading, KC.COST) (VC.reading, VC.COST) (C.equal, C.keeps_order) ctx.entry.depth number true)
         (state [] aside.old.records ctx.entry.budget.now) (B.unread buf.old)
         (state (C.pairs map.new) aside.new.records (budget_left ctx.exit)) (B.unread buf.new)) }
     ensures kept { B.beyond buf.new ≡ B.beyond buf.old }
@@ -135,32 +119,16 @@ pub fn rewrite_map_field<
     requires { IsNumber number }
     // Accepted: the bytes are a run, which was read into the empty map; behind what stood in the sink are the map's records,
     // and then the undeclared entries.
-    ensures ok { let rules : Rules _ _ = record {
-      key = KC.reading;
-      val = VC.reading;
-      same = C.equal;
-      keeps_order = C.keeps_order;
-      depth = ctx.entry.depth;
-      number = number;
-      cost = KC.COST + VC.COST;
-      keeps_undeclared = true;
-    } in OnOk result (RewritesRun rules KC.writing VC.writing KC.fits VC.fits (C.walks map.new) ctx.entry.budget.now
+    ensures ok { OnOk result (RewritesRun
+        (rules (KC.reading, KC.COST) (VC.reading, VC.COST) (C.equal, C.keeps_order) ctx.entry.depth number true) KC.writing VC.writing KC.fits VC.fits (C.walks map.new) ctx.entry.budget.now
         (B.unread buf.old) (C.pairs map.new) (budget_left ctx.exit) (B.unread buf.new)
         (S.written sink.old) (S.written sink.new) (S.room sink.old) (S.room sink.new)) }
     // Refused: reading failed, and nothing was written; or writing failed, which it does only for want of room.
-    ensures refused { let rules : Rules _ _ = record {
-      key = KC.reading;
-      val = VC.reading;
-      same = C.equal;
-      keeps_order = C.keeps_order;
-      depth = ctx.entry.depth;
-      number = number;
-      cost = KC.COST + VC.COST;
-      keeps_undeclared = true;
-    } in IfErr result (λ e. MatchRefusal e
-        (RefusesDecoding rules ctx.entry.budget.now (B.unread buf.old) (C.pairs map.new) (budget_left ctx.exit)
+    ensures refused { let by = rules (KC.reading, KC.COST) (VC.reading, VC.COST) (C.equal, C.keeps_order) ctx.entry.depth number true in
+        IfErr result (λ e. MatchRefusal e
+        (RefusesDecoding by ctx.entry.budget.now (B.unread buf.old) (C.pairs map.new) (budget_left ctx.exit)
         (B.unread buf.new) (S.written sink.old) (S.written sink.new))
-        (RefusesEncoding rules KC.writing VC.writing (C.walks map.new) ctx.entry.budget.now (B.unread buf.old) (C.pairs map.new)
+        (RefusesEncoding by KC.writing VC.writing (C.walks map.new) ctx.entry.budget.now (B.unread buf.old) (C.pairs map.new)
         (budget_left ctx.exit) (B.unread buf.new) (S.written sink.old) (S.written sink.new) (S.room sink.old))) }
     // What lies behind the end of a limited buffer stays there.
     ensures kept { B.beyond buf.new ≡ B.beyond buf.old }

@@ -3,7 +3,7 @@
 ghost use Rattle.std.specs.Prelude.{◌≡◌, ◌+◌, ◌≤◌, IfErr, OnOk, is_some};
 ghost use Rattle.buffa_wire.specs.BudgetLeft.{budget_left};
 ghost use Rattle.buffa_map.specs.Lent.{records_before, records_after, capacity_before, capacity_after};
-ghost use Rattle.buffa_map.specs.Merge.{ReadsRun, RefusesRun, Rules, state};
+ghost use Rattle.buffa_map.specs.Merge.{ReadsRun, RefusesRun, rules, state};
 
 use crate::codec::{MapCodec, MapValueDecode};
 use crate::entry::merge_entry_by;
@@ -31,28 +31,12 @@ pub fn read_run_by<
     ctx: DecodeContext<'_>,
     keeper: &mut L,
 ) -> Result<(), DecodeError>
-    ensures ok { let rules : Rules _ _ = record {
-      key = KC.reading;
-      val = VC.reading;
-      same = C.equal;
-      keeps_order = C.keeps_order;
-      depth = ctx.entry.depth;
-      number = number;
-      cost = KC.COST + VC.COST;
-      keeps_undeclared = L.KEEPS;
-    } in OnOk result (ReadsRun rules
+    ensures ok { OnOk result (ReadsRun
+        (rules (KC.reading, KC.COST) (VC.reading, VC.COST) (C.equal, C.keeps_order) ctx.entry.depth number L.KEEPS)
         (state (C.pairs map.old) (L.records keeper.old) ctx.entry.budget.now) (B.unread buf.old)
         (state (C.pairs map.new) (L.records keeper.new) (budget_left ctx.exit)) (B.unread buf.new)) }
-    ensures err { let rules : Rules _ _ = record {
-      key = KC.reading;
-      val = VC.reading;
-      same = C.equal;
-      keeps_order = C.keeps_order;
-      depth = ctx.entry.depth;
-      number = number;
-      cost = KC.COST + VC.COST;
-      keeps_undeclared = L.KEEPS;
-    } in IfErr result (RefusesRun rules
+    ensures err { IfErr result (RefusesRun
+        (rules (KC.reading, KC.COST) (VC.reading, VC.COST) (C.equal, C.keeps_order) ctx.entry.depth number L.KEEPS)
         (state (C.pairs map.old) (L.records keeper.old) ctx.entry.budget.now) (B.unread buf.old)
         (state (C.pairs map.new) (L.records keeper.new) (budget_left ctx.exit)) (B.unread buf.new)) }
     ensures room { L.room keeper.old ≤ L.room keeper.new }
@@ -106,29 +90,13 @@ pub fn read_map_field<
 ) -> Result<(), DecodeError>
     // Accepted: the bytes are a run of records. The declared entries are folded over the old pairs, the undeclared ones are
     // kept where a list is passed, what they cost is spent, and nothing is left unread.
-    ensures ok { let rules : Rules _ _ = record {
-      key = KC.reading;
-      val = VC.reading;
-      same = C.equal;
-      keeps_order = C.keeps_order;
-      depth = ctx.entry.depth;
-      number = number;
-      cost = KC.COST + VC.COST;
-      keeps_undeclared = is_some unknown.entry;
-    } in OnOk result (ReadsRun rules
+    ensures ok { OnOk result (ReadsRun
+        (rules (KC.reading, KC.COST) (VC.reading, VC.COST) (C.equal, C.keeps_order) ctx.entry.depth number (is_some unknown.entry))
         (state (C.pairs map.old) (records_before unknown.entry) ctx.entry.budget.now) (B.unread buf.old)
         (state (C.pairs map.new) (records_after unknown.exit) (budget_left ctx.exit)) (B.unread buf.new)) }
     // Refused: the same of the records in front of the refused one, whose first fault is the error.
-    ensures err { let rules : Rules _ _ = record {
-      key = KC.reading;
-      val = VC.reading;
-      same = C.equal;
-      keeps_order = C.keeps_order;
-      depth = ctx.entry.depth;
-      number = number;
-      cost = KC.COST + VC.COST;
-      keeps_undeclared = is_some unknown.entry;
-    } in IfErr result (RefusesRun rules
+    ensures err { IfErr result (RefusesRun
+        (rules (KC.reading, KC.COST) (VC.reading, VC.COST) (C.equal, C.keeps_order) ctx.entry.depth number (is_some unknown.entry))
         (state (C.pairs map.old) (records_before unknown.entry) ctx.entry.budget.now) (B.unread buf.old)
         (state (C.pairs map.new) (records_after unknown.exit) (budget_left ctx.exit)) (B.unread buf.new)) }
     // The list doesn't shrink, and what lies behind the end of a limited buffer stays there.

@@ -2,6 +2,7 @@
 
 ghost use Rattle.std.specs.Prelude.{◌≡◌, ◌+◌, [], IfErr, OnOk, IsPermutation, false};
 ghost use Rattle.buffa_bytes.specs.Number.{IsNumber};
+ghost use Rattle.buffa_map.specs.Merge.{rules};
 ghost use Rattle.buffa_map.specs.Pairs.{SamePairs};
 ghost use Rattle.buffa_map.specs.Encoding.{AllHold};
 ghost use Rattle.sample_types.specs.Letters.{same_letters, spelled};
@@ -61,16 +62,8 @@ where
     ensures err { IfErr result (RefusesTrip KC.writing VC.writing (KC.COST + VC.COST) C.equal (C.pairs map.now)
         (C.walks map.now)) }
     ensures unchanged { IfErr result (λ fault. IfUnwritten fault (copy.new ≡ copy.old)) }
-    ensures stops { IfErr result (StopsTrip (record {
-      key = KC.reading;
-      val = VC.reading;
-      same = C.equal;
-      keeps_order = C.keeps_order;
-      depth = 0;
-      number = number;
-      cost = KC.COST + VC.COST;
-      keeps_undeclared = false;
-    }) KC.writing VC.writing (C.walks map.now) (C.pairs copy.new)) }
+    ensures stops { IfErr result (StopsTrip (rules (KC.reading, KC.COST) (VC.reading, VC.COST) (C.equal, C.keeps_order) 0 number false)
+        KC.writing VC.writing (C.walks map.now) (C.pairs copy.new)) }
 {
     let mut encoding = Vec::new(alloc);
     match write_field::<KC, VC, C, _>(map, number, &mut encoding) {
