@@ -15,7 +15,7 @@ use Rattle.buffa_bytes.proofs.SequenceLemmas.{has_byte, not_nil, ok_same}
 use Rattle.buffa_bytes.proofs.StepLemmas.{agree_err, agree_ok}
 use Rattle.buffa_bytes.proofs.TailLemmas.{tail_dropped}
 use Rattle.buffa_bytes.proofs.WireLemmas.{check_differs, check_same, same_false}
-use Rattle.buffa_bytes.specs.Field.{LengthFault, TagFault}
+use Rattle.buffa_bytes.specs.Field.{LengthFault}
 use Rattle.buffa_bytes.specs.Front.{delimited_at, skip_at, tag_at}
 use Rattle.buffa_bytes.specs.Gives.{◌>>=◌}
 use Rattle.buffa_bytes.specs.Left.{past_no_delimited, past_no_tag}
@@ -181,10 +181,6 @@ past_delimited_tail : (bs : List ℕ) (f : DecodeError) → LengthFault bs f →
 past_delimited_tail bs f (inl h) = tail_dropped 10 bs (past_no_delimited bs) (no_number bs f h).1
 past_delimited_tail bs f (inr (n, rest, t, few, is)) = subst (λ z. IsTailOf z bs) (sym (no_delimited_cut bs n rest t few)) (tail_behind t.0 rest bs t.2)
 
-past_tag_tail : (bs : List ℕ) (f : DecodeError) → TagFault bs f → IsTailOf (past_no_tag bs) bs
-past_tag_tail bs f (inl h) = tail_dropped 10 bs (past_no_tag bs) (no_number bs f h).0
-past_tag_tail bs f (inr (n, rest, t, bad)) = subst (λ z. IsTailOf z bs) (sym (at_left.no_tag bs n rest t)) (tail_behind t.0 rest bs t.2)
-
 module _ {K V : Type 0} (r : Rules K V) where
   -- ---- entries
   units_refused : (e : List ℕ) (left : BudgetLeft) → left.memory < r.cost → RefusesParts r.key r.val r.depth r.cost e left left ElementMemoryLimitExceeded
@@ -313,10 +309,10 @@ module _ {K V : Type 0} (r : Rules K V) where
         h ∙ ap (λ z. z ++ kept_of_run r es) k.keeps ∙ append_assoc old.records (kept_of_entry r k.entry k.says) (kept_of_run r es)
         ∙ ap (λ z. old.records ++ z) (sym (kept_cons r.keeps_undeclared k.says.known r.number k.entry (undeclared es)))
 
-    first_read : IsEquivalence r.same → (new : State K V) → ReadsRun r now rest new [] → ReadsRun r old bs new []
-    first_read laws new h = record {
+    first_read : IsEquivalence r.same → (new : State K V) (front : List ℕ) → ReadsRun r now front new [] → ReadsRun r old (found.0 ++ front) new []
+    first_read laws new front h = record {
       entries = said ∷ h.entries;
-      run = (found.0, rest, found.1, found.2, h.run);
+      run = (found.0, front, found.1, refl, h.run);
       folded = λ q. fold_same laws (step r.same old.pairs k.says) now.pairs h.entries k.put q ∙ h.folded q;
       order = λ keeps. h.order keeps ∙ ap (λ z. fold_entries r.same z h.entries) (k.order keeps);
       keeps = first_keeps new.records h.entries h.keeps;
@@ -324,33 +320,26 @@ module _ {K V : Type 0} (r : Rules K V) where
       whole = refl;
     }
 
+    all_read : IsEquivalence r.same → (new : State K V) → ReadsRun r now rest new [] → ReadsRun r old bs new []
+    all_read laws new h = subst (λ z. ReadsRun r old z new []) (sym found.2) (first_read laws new rest h)
+
     first_refused : IsEquivalence r.same → (new : State K V) (tail : List ℕ) (f : DecodeError) → RefusesRun r now rest new tail f → RefusesRun r old bs new tail f
     first_refused laws new tail f h = record {
-      entries = said ∷ h.entries;
+      front = found.0 ++ h.front;
       rest = h.rest;
-      left_after = h.left_after;
-      begins = (
-        found.0 ++ h.begins.0,
-        found.2 ∙ ap (λ z. found.0 ++ z) h.begins.1 ∙ sym (append_assoc found.0 h.begins.0 h.rest),
-        (found.0, h.begins.0, found.1, refl, h.begins.2),
-        first_paid old.left now.left h.left_after said h.entries k.pays h.begins.3,
-      );
+      split = found.2 ∙ ap (λ z. found.0 ++ z) h.split ∙ sym (append_assoc found.0 h.front h.rest);
       some = h.some;
-      folded = λ q. fold_same laws (step r.same old.pairs k.says) now.pairs h.entries k.put q ∙ h.folded q;
-      order = λ keeps. h.order keeps ∙ ap (λ z. fold_entries r.same z h.entries) (k.order keeps);
-      keeps = first_keeps new.records h.entries h.keeps;
-      fault = h.fault;
-      memory = h.memory;
-      unread = h.unread;
-      spent = h.spent;
+      now = h.now;
+      read = first_read laws h.now h.front h.read;
+      refused = h.refused;
     }
 
   runs_are_entries : IsEquivalence r.same → RunsAreEntries r
   runs_are_entries laws = record {
     none = λ old. record { entries = []; run = refl; folded = λ q. refl; order = λ keeps. refl; keeps = none_kept r.keeps_undeclared old.records; paid = (omega arith, omega arith); whole = refl };
-    more = λ old now new bs mid rest tag k h. first_read old now bs mid rest tag k laws new h;
+    more = λ old now new bs mid rest tag k h. all_read old now bs mid rest tag k laws new h;
     no_tag = λ old bs f some h.
-        stop_tag r old bs old bs (none_reached r old bs) (past_no_tag bs) f (past_tag_tail bs f (agree_err (tag_at bs) f (tag_sound bs) h)) refl (has_byte bs some) h;
+        stop_tag r old bs old bs (none_reached r old bs) (past_no_tag bs) f refl (has_byte bs some) h;
     number = λ old bs mid n w tag other. stop_other r old bs old bs (none_reached r old bs) mid n w (has_byte bs (tagged bs mid n w tag)) tag other;
     wire = λ old bs mid w tag other.
         stop_mismatch r old bs old bs (none_reached r old bs) mid r.number w (has_byte bs (tagged bs mid r.number w tag)) tag (WireTypeMismatch r.number LengthDelimited w) refl (check_differs r.number LengthDelimited w other);

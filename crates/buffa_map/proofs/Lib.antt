@@ -16,6 +16,7 @@ pub mod FieldsLemmas
 pub mod PartsLemmas
 pub mod MergeLemmas
 pub mod StepLemmas
+pub mod StopLemmas
 pub mod WriteLemmas
 pub mod MessageFieldLemmas
 pub mod FrontLemmas

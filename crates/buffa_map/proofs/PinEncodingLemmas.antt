@@ -25,10 +25,11 @@ use Rattle.buffa_map.specs.PinnedEncodings.{MapFieldIsPinned, MessagesArePinned,
 use Rattle.buffa_map.specs.Rewrite.{RefusesDecoding, RefusesEncoding, RefusesRewrite, RewritesRun}
 use Rattle.buffa_map.specs.Run.{EntryRecord, ArePaid, Run, fold_entries, undeclared_records}
 use Rattle.buffa_map.specs.Encoding.{HasEncoding, RefusesField, WritesField, entry_encoding, field_encoding, saturated}
-use Rattle.buffa_map.proofs.PinLemmas.{fault_of, one_over, run_is_pinned, run_one}
+use Rattle.buffa_map.proofs.PinLemmas.{one_over, run_is_pinned, run_one}
 use Rattle.buffa_map.proofs.PutLemmas.{key_or, lookup_entry-put}
 use Rattle.buffa_map.proofs.RunLemmas.{run_complete, run_faulty}
 use Rattle.buffa_map.proofs.SizeLemmas.{length-field_encoding}
+use Rattle.buffa_map.proofs.StopLemmas.{run_fault}
 use Rattle.buffa_map.proofs.WalkLemmas.{one_size, permuted}
 
 module _ {K V : Type 0} (key : Writing K) (val : Writing V) where
@@ -110,7 +111,7 @@ module _ {K V : Type 0} (r : Rules K V) (laws : IsEquivalence r.same)
   read_no_fault : (es : List (EntryRecord K V)) (f : DecodeError) → Run r.key r.val r.depth r.number bytes es → ArePaid r.key r.val r.depth r.cost (unknown_cost r) left es over → RefusesDecoding r left bytes b last y old w f → f ≢ decoding.OutOfMemory → ⊥
   read_no_fault es f run paid k ne =
       ok_no_err (sym (run_complete r.key r.val r.depth r.number r.cost (unknown_cost r) key_free val_free left bytes es over run paid)
-      ∙ (run_faulty r.key r.val r.depth r.number r.cost (unknown_cost r) key_free val_free left bytes f (fault_of r key_free val_free (state [] [] left) bytes (state b k.0 last) y f k.1 ne)).1)
+      ∙ (run_faulty r.key r.val r.depth r.number r.cost (unknown_cost r) key_free val_free left bytes f (run_fault r (state [] [] left) bytes (state b k.0 last) y f k.1 ne)).1)
 
   same_runs : (es fs : List (EntryRecord K V)) → Run r.key r.val r.depth r.number bytes es → Run r.key r.val r.depth r.number bytes fs → es ≡ fs
   same_runs es fs h k = run_one r.key r.val r.depth r.number r.cost (unknown_cost r) key_free val_free bytes es fs h k
@@ -182,7 +183,7 @@ module _ {K V : Type 0} (r : Rules K V) (laws : IsEquivalence r.same)
     written = λ m e h k ne. written_no_refusal m h e k k.encoding ne;
     either = λ f e h k ne.
         ok_no_err (sym (run_complete r.key r.val r.depth r.number r.cost (unknown_cost r) key_free val_free left bytes k.entries last k.run k.paid)
-        ∙ (run_faulty r.key r.val r.depth r.number r.cost (unknown_cost r) key_free val_free left bytes f (fault_of r key_free val_free (state [] [] left) bytes (state a h.0 over) x f h.1 ne)).1);
+        ∙ (run_faulty r.key r.val r.depth r.number r.cost (unknown_cost r) key_free val_free left bytes f (run_fault r (state [] [] left) bytes (state a h.0 over) x f h.1 ne)).1);
     faults = λ plain f g h k ne nf.
         let same = (run_is_pinned r key_free val_free).faults plain (state [] [] left) bytes (state a h.0 over) (state b k.0 last) x y f g h.1 k.1 ne nf in
         let stops = (run_is_pinned r key_free val_free).stops (state [] [] left) bytes (state a h.0 over) (state b k.0 last) x y f g h.1 k.1 ne nf in

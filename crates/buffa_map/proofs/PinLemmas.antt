@@ -16,15 +16,16 @@ use Rattle.buffa_bytes.specs.Field.{TakesDelimited}
 use Rattle.buffa_bytes.specs.Front.{delimited_at, tag_at}
 use Rattle.buffa_map.specs.Codec.{Reading, RefusesValue, Spends, value_at, value_need}
 use Rattle.buffa_map.specs.Entry.{EntryFault, inner_need, need_at, need_of, blanks}
-use Rattle.buffa_map.specs.Merge.{HasWholeRecord, RefusesEntry, Rules, State, RefusesRun, unknown_cost, kept_of_entry, kept_of_run}
+use Rattle.buffa_map.specs.Merge.{RefusesEntry, Rules, State, RefusesRun, unknown_cost, kept_of_entry, kept_of_run}
 use Rattle.buffa_map.specs.Pairs.{SamePairs}
 use Rattle.buffa_map.specs.Pinned.{SameState, EntryIsPinned, RunIsPinned, ValueIsPinned}
-use Rattle.buffa_map.specs.Run.{EntryRecord, ArePaid, RecordFault, Run, RunFault, fold_entries, inner_needs, record_at, record_need, step, undeclared}
+use Rattle.buffa_map.specs.Run.{EntryRecord, ArePaid, RecordFault, Run, RunFault, fold_entries, inner_needs, record_at, step, undeclared}
 use Rattle.buffa_map.proofs.EntryLemmas.{Plain, need_by-nothing, value_faulty}
 use Rattle.buffa_map.proofs.FrontLemmas.{paid_no_fault, same_front, same_taken}
 use Rattle.buffa_map.proofs.NeedLemmas.{need_free}
 use Rattle.buffa_bytes.proofs.ResultLemmas.{not_ok}
 use Rattle.buffa_map.proofs.RunLemmas.{InFault, in_faulty, run_complete, run_faulty, said_complete, said_faulty, extra_kept}
+use Rattle.buffa_map.proofs.StopLemmas.{HasWholeRecord, LeavesRecord, SpendsOnRecord, broken, leaves, pairs_stand, record_need, records_stand, run_fault, spends}
 use Rattle.buffa_map.proofs.TailLemmas.{no_tag, one_number, one_wire, one_after}
 
 err_one : {A : Type 0} {x y : DecodeError} {r : Result A DecodeError} → r ≡ Err x → r ≡ Err y → x ≡ y
@@ -208,67 +209,77 @@ module _ {K V : Type 0} (r : Rules K V)
     l ∙ ap (λ z. old.records ++ kept_of_run r z) e ∙ sym m,
   )
 
-  pub fault_of : (old : State K V) (bs : List ℕ) (a : State K V) (x : List ℕ) (f : DecodeError) → RefusesRun r old bs a x f → f ≢ OutOfMemory → RunFault r.key r.val r.depth r.number r.cost (unknown_cost r) old.left bs f
-  fault_of old bs a x f h ne = (h.entries, h.rest, h.left_after, h.begins, h.some, h.fault ne)
-
   module _ (old : State K V) (bs : List ℕ) (a b : State K V) (x y : List ℕ) (f g : DecodeError)
       (h : RefusesRun r old bs a x f) (k : RefusesRun r old bs b y g) (ne : f ≢ OutOfMemory) (nf : g ≢ OutOfMemory) where
-    stopped_same : (h.entries ≡ k.entries) × (h.rest ≡ k.rest)
-    stopped_same = stop_one r.key r.val r.depth r.number r.cost (unknown_cost r) key_free val_free h.entries k.entries old.left h.left_after k.left_after bs h.begins.0 h.rest k.begins.0 k.rest f g
-        h.begins.1 h.begins.2 h.begins.3 (h.fault ne) k.begins.1 k.begins.2 k.begins.3 (k.fault nf)
+    abbrev h_leaves : LeavesRecord r.number h.rest f x
+    h_leaves = leaves r old bs a x f h
+
+    abbrev k_leaves : LeavesRecord r.number k.rest g y
+    k_leaves = leaves r old bs b y g k
+
+    stopped_same : (h.read.entries ≡ k.read.entries) × (h.rest ≡ k.rest)
+    stopped_same = stop_one r.key r.val r.depth r.number r.cost (unknown_cost r) key_free val_free h.read.entries k.read.entries old.left h.now.left k.now.left bs h.front h.rest k.front k.rest f g
+        h.split h.read.run h.read.paid (broken r old bs a x f h ne) k.split k.read.run k.read.paid (broken r old bs b y g k nf)
 
     stopped_after : SamePairs r.same a.pairs b.pairs × (a.records ≡ b.records)
-    stopped_after = after_same old a b h.entries k.entries stopped_same.0 h.folded k.folded h.keeps k.keeps
+    stopped_after = after_same old a b h.read.entries k.read.entries stopped_same.0 (rw (pairs_stand r old bs a x f h) h.read.folded) (rw (pairs_stand r old bs b y g k) k.read.folded)
+        (records_stand r old bs a x f h ∙ h.read.keeps) (records_stand r old bs b y g k ∙ k.read.keeps)
 
-    one_unread : RecordFault r.key r.val r.depth r.number r.cost (unknown_cost r) h.left_after h.rest f → x ≡ y
+    one_unread : RecordFault r.key r.val r.depth r.number r.cost (unknown_cost r) h.now.left h.rest f → x ≡ y
     one_unread (inl bad) =
         let is = tag_faulty h.rest f bad in
         let same = stopped_same.1 in
-        h.unread.past_no_tag f is ∙ ap past_no_tag same ∙ sym (k.unread.past_no_tag f (ap tag_at (sym same) ∙ is))
+        h_leaves.past_no_tag f is ∙ ap past_no_tag same ∙ sym (k_leaves.past_no_tag f (ap tag_at (sym same) ∙ is))
     one_unread (inr (inl (n, w, m, t, other, which))) =
         let is = tag_read h.rest m n w t in
-        h.unread.past_tag n w m is (inl other) ∙ sym (k.unread.past_tag n w m (ap tag_at (sym stopped_same.1) ∙ is) (inl other))
+        h_leaves.past_tag n w m is (inl other) ∙ sym (k_leaves.past_tag n w m (ap tag_at (sym stopped_same.1) ∙ is) (inl other))
     one_unread (inr (inr (inl (w, m, t, other, which)))) =
         let is = tag_read h.rest m r.number w t in
-        h.unread.past_tag r.number w m is (inr other) ∙ sym (k.unread.past_tag r.number w m (ap tag_at (sym stopped_same.1) ∙ is) (inr other))
+        h_leaves.past_tag r.number w m is (inr other) ∙ sym (k_leaves.past_tag r.number w m (ap tag_at (sym stopped_same.1) ∙ is) (inr other))
     one_unread (inr (inr (inr (m, t, inl bad)))) =
         let is = tag_read h.rest m r.number LengthDelimited t in
         let short = delimited_faulty m f bad in
-        h.unread.past_no_delimited m f is short ∙ sym (k.unread.past_no_delimited m f (ap tag_at (sym stopped_same.1) ∙ is) short)
+        h_leaves.past_no_delimited m f is short ∙ sym (k_leaves.past_no_delimited m f (ap tag_at (sym stopped_same.1) ∙ is) short)
     one_unread (inr (inr (inr (m, t, inr (u, e, after, v, split, bad))))) =
         let is = tag_read h.rest m r.number LengthDelimited t in
-        h.unread.past ne m e after is (u, v, split) ∙ sym (k.unread.past nf m e after (ap tag_at (sym stopped_same.1) ∙ is) (u, v, split))
+        h_leaves.past ne m e after is (u, v, split) ∙ sym (k_leaves.past nf m e after (ap tag_at (sym stopped_same.1) ∙ is) (u, v, split))
 
     module _ (plain : Plain r.key r.val r.depth) where
-      stopped_over : h.left_after ≡ k.left_after
-      stopped_over = one_over r.key r.val r.depth r.number r.cost (unknown_cost r) key_free val_free old.left h.left_after k.left_after h.entries k.entries stopped_same.0 h.begins.3 k.begins.3
+      abbrev h_spends : SpendsOnRecord r h.now.left h.rest f a.left
+      h_spends = spends r old bs a x f h
+
+      abbrev k_spends : SpendsOnRecord r k.now.left k.rest g b.left
+      k_spends = spends r old bs b y g k
+
+      stopped_over : h.now.left ≡ k.now.left
+      stopped_over = one_over r.key r.val r.depth r.number r.cost (unknown_cost r) key_free val_free old.left h.now.left k.now.left h.read.entries k.read.entries stopped_same.0 h.read.paid k.read.paid
 
       stopped_left : a.left ≡ b.left
       stopped_left =
           let none = record_none r.key r.val r.depth r.number r.cost (unknown_cost r) key_free val_free plain h.rest in
           let nil = record_none r.key r.val r.depth r.number r.cost (unknown_cost r) key_free val_free plain k.rest in
           let rest = stopped_same.1 in
-          elim (record_there r.key r.val r.depth r.number r.cost (unknown_cost r) key_free val_free h.left_after h.rest f (h.fault ne)) [
-            | inl away ↦ h.spent.unspent away ∙ stopped_over ∙ sym (k.spent.unspent (λ z. away (subst (HasWholeRecord r.number) (sym rest) z)))
+          elim (record_there r.key r.val r.depth r.number r.cost (unknown_cost r) key_free val_free h.now.left h.rest f (broken r old bs a x f h ne)) [
+            | inl away ↦ h_spends.unspent away ∙ stopped_over ∙ sym (k_spends.unspent (λ z. away (subst (HasWholeRecord r.number) (sym rest) z)))
             | inr (mid, e, after, tag, t) ↦
                 let one = ap (λ (z : BudgetLeft). z.memory) stopped_over in
                 let two = ap (λ (z : BudgetLeft). z.unknown) stopped_over in
-                let hc = h.spent.charged ne mid e after tag t in
-                let kc = k.spent.charged nf mid e after (subst (λ z. tag_at z ≡ Ok (r.number, LengthDelimited, mid)) rest tag) t in
-                same_left a.left b.left (omega (arith, h.spent.most, k.spent.most, h.spent.no_unknown ne, k.spent.no_unknown nf, two, ap (λ (z : BudgetLeft). z.unknown) none, ap (λ (z : BudgetLeft). z.unknown) nil))
-                (spent_one h.left_after.memory k.left_after.memory r.cost (record_need r.key r.val r.depth h.rest).memory (record_need r.key r.val r.depth k.rest).memory a.left.memory b.left.memory one (ap (λ (z : BudgetLeft). z.memory) none) (ap (λ (z : BudgetLeft). z.memory) nil) h.spent.units k.spent.units hc kc)
+                let hc = h_spends.charged ne mid e after tag t in
+                let kc = k_spends.charged nf mid e after (subst (λ z. tag_at z ≡ Ok (r.number, LengthDelimited, mid)) rest tag) t in
+                same_left a.left b.left (omega (arith, h_spends.most, k_spends.most, h_spends.no_unknown ne, k_spends.no_unknown nf, two, ap (λ (z : BudgetLeft). z.unknown) none, ap (λ (z : BudgetLeft). z.unknown) nil))
+                (spent_one h.now.left.memory k.now.left.memory r.cost (record_need r.key r.val r.depth h.rest).memory (record_need r.key r.val r.depth k.rest).memory a.left.memory b.left.memory one (ap (λ (z : BudgetLeft). z.memory) none) (ap (λ (z : BudgetLeft). z.memory) nil) h_spends.units k_spends.units hc kc)
           ]
 
       stopped_one : (f ≡ g) × SameState r a b
       stopped_one =
-          let p = run_faulty r.key r.val r.depth r.number r.cost (unknown_cost r) key_free val_free old.left bs f (fault_of old bs a x f h ne) in
-          let q = run_faulty r.key r.val r.depth r.number r.cost (unknown_cost r) key_free val_free old.left bs g (fault_of old bs b y g k nf) in (
+          let p = run_faulty r.key r.val r.depth r.number r.cost (unknown_cost r) key_free val_free old.left bs f (run_fault r old bs a x f h ne) in
+          let q = run_faulty r.key r.val r.depth r.number r.cost (unknown_cost r) key_free val_free old.left bs g (run_fault r old bs b y g k nf) in (
             p.2 plain ∙ err_one p.1 q.1 ∙ sym (q.2 plain),
             record {
               pairs = stopped_after.0;
               records = stopped_after.1;
               left = stopped_left;
-              order = λ o. h.order o ∙ ap (fold_entries r.same old.pairs) stopped_same.0 ∙ sym (k.order o);
+              order = λ o. pairs_stand r old bs a x f h ∙ h.read.order o ∙ ap (fold_entries r.same old.pairs) stopped_same.0 ∙ sym (k.read.order o) ∙ sym (pairs_stand r old bs b y g k);
             },
           )
 
@@ -287,11 +298,11 @@ module _ {K V : Type 0} (r : Rules K V)
         );
     refused = λ old bs a b x y f h k ne.
         ok_no_err (sym (run_complete r.key r.val r.depth r.number r.cost (unknown_cost r) key_free val_free old.left bs h.entries a.left h.run h.paid)
-        ∙ (run_faulty r.key r.val r.depth r.number r.cost (unknown_cost r) key_free val_free old.left bs f (fault_of old bs b y f k ne)).1);
+        ∙ (run_faulty r.key r.val r.depth r.number r.cost (unknown_cost r) key_free val_free old.left bs f (run_fault r old bs b y f k ne)).1);
     stops = λ old bs a b x y f g h k ne nf.
         let same = stopped_same old bs a b x y f g h k ne nf in
         let after = stopped_after old bs a b x y f g h k ne nf in
-        (same.0, same.1, after.0, after.1, one_unread old bs a b x y f g h k ne nf (h.fault ne));
+        (same.0, same.1, after.0, after.1, one_unread old bs a b x y f g h k ne nf (broken r old bs a x f h ne));
     faults = λ plain old bs a b x y f g h k ne nf. stopped_one old bs a b x y f g h k ne nf plain;
   }
 

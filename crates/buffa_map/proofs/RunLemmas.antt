@@ -20,7 +20,7 @@ use Rattle.buffa_bytes.specs.Sequence.{join, ParsesEach}
 use Rattle.buffa_map.specs.Codec.{Reading}
 use Rattle.buffa_map.specs.Entry.{IsEntry, FaultOf, EntryOf, EntryFault, blanks, inner_need, need_at, need_of}
 use Rattle.buffa_map.specs.Pairs.{InOrder, put, SamePairs}
-use Rattle.buffa_map.specs.Run.{EntryRecord, IsRecord, Run, ArePaid, RecordFault, RunFault, entry_in, inner_needs, lacks, record_need, record_at, after_entry, next_record, run_of, step, fold_entries, undeclared, undeclared_record, undeclared_records}
+use Rattle.buffa_map.specs.Run.{EntryRecord, IsRecord, Run, ArePaid, RecordFault, RunFault, entry_in, inner_needs, lacks, record_at, after_entry, next_record, run_of, step, fold_entries, undeclared, undeclared_record, undeclared_records}
 use Rattle.buffa_map.specs.Merge.{Rules, kept_of_entry, kept_of_run}
 use Rattle.buffa_map.specs.declared.map_entry.MapEntry.{MapEntry}
 use Rattle.buffa_bytes.proofs.SequenceLemmas.{Answers, answer, answers_as, along_sound, along_complete, along_faulty}
@@ -107,10 +107,6 @@ module _ {K V : Type 0} (key : Reading K) (val : Reading V) (d n : ℕ) where
       let u : TakesTag bs g w mid = agree_ok (tag_at bs) (g, w, mid) (tag_sound bs) h in
       let wire : w ≡ LengthDelimited = checked_same g LengthDelimited w checked in
       inr (inr (inr (mid, takes_tag_as bs mid g n w LengthDelimited u same wire, k)))
-
-  -- what is needed in a record, once its tag is read
-  pub record_needs : (bs mid : List ℕ) (g : ℕ) (w : WireType) → tag_at bs ≡ Ok (g, w, mid) → record_need key val d bs ≡ inner_need key val d mid
-  record_needs bs mid g w h = rw h refl
 
   -- what follows a length and an entry is less
   pub entry_falls : (bs e : List ℕ) (s : MapEntry K V) (rest : List ℕ) → EntryOf key val d bs e s rest → length rest ≤ length bs

@@ -1,19 +1,20 @@
 -- Where readers leave what is unread.
-use Rattle.std.proofs.Common.{◌≡◌, ℕ, List, ◌++◌, Ok, Err, length, take, drop, ap, append_assoc, refl, subst, sym, ◌∙◌, ◌<◌, ◌≤◌}
+use Rattle.std.proofs.Common.{◌≡◌, inl, inr, ℕ, List, ◌++◌, Ok, Err, length, take, drop, ap, append_assoc, refl, subst, sym, ◌∙◌, ◌<◌, ◌≤◌}
 use Rattle.std.proofs.lemmas.Bool.{lt-ltb}
 use Rattle.std.proofs.Math.Seq.{drop-append_seam}
 use Rattle.buffa_bytes.proofs.DelimitedLemmas.{delimited_sound, delimited_taken, taken_sound}
 use Rattle.buffa_bytes.proofs.FieldLemmas.{ok_same, tag_sound}
-use Rattle.buffa_bytes.proofs.LeftLemmas.{past_cut}
+use Rattle.buffa_bytes.proofs.LeftLemmas.{no_number, past_cut}
+use Rattle.buffa_bytes.proofs.LeftLemmas as at_left
 use Rattle.buffa_bytes.proofs.StepLemmas.{agree_err, agree_ok}
 use Rattle.buffa_bytes.proofs.TailLemmas.{tail_dropped}
-use Rattle.buffa_bytes.specs.Left.{past_no_delimited, past_no_varint}
+use Rattle.buffa_bytes.specs.Left.{past_no_delimited, past_no_tag, past_no_varint}
 use Rattle.buffa_bytes.specs.Unread.{IsTailOf}
 use Rattle.buffa_bytes.specs.declared.error.DecodeError.{DecodeError}
 use Rattle.buffa_bytes.specs.declared.error.DecodeError.TheVariants.{UnexpectedEof}
 use Rattle.buffa_bytes.proofs.LendLemmas.{delimited_front}
 use Rattle.buffa_bytes.specs.declared.wire_type.WireType.{WireType}
-use Rattle.buffa_bytes.specs.Field.{TakesDelimited}
+use Rattle.buffa_bytes.specs.Field.{TagFault, TakesDelimited}
 use Rattle.buffa_bytes.specs.Front.{taken, varint_at, delimited_at, tag_at}
 
 pub tail_behind : (front rest all : List ℕ) → all ≡ front ++ rest → IsTailOf rest all
@@ -23,6 +24,10 @@ pub tag_tail : (bs rest : List ℕ) (n : ℕ) (w : WireType) → tag_at bs ≡ O
 tag_tail bs rest n w h =
     let t = agree_ok (tag_at bs) (n, w, rest) (tag_sound bs) h in
     tail_behind t.0 rest bs t.2
+
+pub past_tag_tail : (bs : List ℕ) (f : DecodeError) → TagFault bs f → IsTailOf (past_no_tag bs) bs
+past_tag_tail bs f (inl h) = tail_dropped 10 bs (past_no_tag bs) (no_number bs f h).0
+past_tag_tail bs f (inr (n, rest, t, bad)) = subst (λ z. IsTailOf z bs) (sym (at_left.no_tag bs n rest t)) (tail_behind t.0 rest bs t.2)
 
 pub delimited_short : (bs : List ℕ) (f : DecodeError) → varint_at bs ≡ Err f → delimited_at bs ≡ Err f
 delimited_short bs f v = rw v refl

@@ -1,7 +1,7 @@
 -- What reading entries does to a map, to the records that are kept beside it, and to a budget.
 use Rattle.std.specs.Prelude.{◌≡◌, ◌≢◌, ℕ, ◌+◌, ◌<◌, ◌≤◌, Bool, List, [], ◌++◌, ◌⊎◌, cond, if◌then◌else◌, true, Ok, Err, IsOk}
 use Rattle.buffa_bytes.specs.declared.error.DecodeError.{DecodeError}
-use Rattle.buffa_bytes.specs.declared.error.DecodeError.TheVariants.{OutOfMemory}
+use Rattle.buffa_bytes.specs.declared.error.DecodeError.TheVariants.{OutOfMemory, UnexpectedField, WireTypeMismatch}
 use Rattle.buffa_bytes.specs.Left.{past_no_tag, past_no_delimited}
 use Rattle.buffa_bytes.specs.Unread.{IsTailOf}
 use Rattle.buffa_bytes.specs.declared.wire_type.WireType.{WireType}
@@ -14,7 +14,7 @@ use Rattle.buffa_map.specs.Codec.{Reading}
 use Rattle.buffa_map.specs.Entry.{EntryFault, EntryOf, IsEntry, inner_need, need_of}
 use Rattle.buffa_map.specs.Fields.{EntryFieldsTakeMemory}
 use Rattle.buffa_map.specs.Pairs.{InOrder, SamePairs}
-use Rattle.buffa_map.specs.Run.{fold_entries, ArePaid, RecordFault, Run, RunBegins, EntryRecord, record_need, step, undeclared_record, undeclared_records}
+use Rattle.buffa_map.specs.Run.{fold_entries, ArePaid, Run, EntryRecord, step, undeclared_record, undeclared_records}
 use Rattle.buffa_map.specs.declared.map_entry.MapEntry.{MapEntry}
 
 -- the pairs of the map, the records that are kept, and what is left of the budget
@@ -126,10 +126,6 @@ MergesWhole r old e new = (bytes rest : List ℕ) → delimited_at bytes ≡ Ok 
 abbrev pub RefusesWhole : {K V : Type 0} → Rules K V → State K V → List ℕ → State K V → DecodeError → Type 0
 RefusesWhole r old e new f = (bytes rest : List ℕ) → delimited_at bytes ≡ Ok (e, rest) → RefusesEntry r old bytes new rest f
 
--- a tag of this number, a length and so many bytes begin the bytes
-abbrev pub HasWholeRecord : ℕ → List ℕ → Type 0
-HasWholeRecord n bs = (mid : List ℕ) × (tag_at bs ≡ Ok (n, LengthDelimited, mid)) × IsOk (delimited_at mid)
-
 -- the records of some entries are all of the bytes, and were read
 pub record ReadsRun {K V : Type 0} (r : Rules K V) (old : State K V) (bytes : List ℕ) (new : State K V) (rest : List ℕ) : Type 0 where
   pub entries : List (EntryRecord K V)
@@ -140,41 +136,21 @@ pub record ReadsRun {K V : Type 0} (r : Rules K V) (old : State K V) (bytes : Li
   pub paid : ArePaid r.key r.val r.depth r.cost (unknown_cost r) old.left entries new.left
   pub whole : rest ≡ []
 
--- What a refused record leaves unread: a tail of what was. It is what follows the tag, where it is another; what follows
--- the entry, where that was there and had a fault; what follows its length, or no length, where it wasn't; what follows no
--- tag, where none was there.
-pub record LeavesRecord (n : ℕ) (bytes : List ℕ) (f : DecodeError) (unread : List ℕ) : Type 0 where
-  pub tail : IsTailOf unread bytes
-  pub past_no_tag : (x : DecodeError) → tag_at bytes ≡ Err x → unread ≡ past_no_tag bytes
-  pub past_tag : (g : ℕ) (w : WireType) (mid : List ℕ) → tag_at bytes ≡ Ok (g, w, mid) → (g ≢ n) ⊎ (w ≢ LengthDelimited) → unread ≡ mid
-  pub past : f ≢ OutOfMemory → (mid e after : List ℕ) → tag_at bytes ≡ Ok (n, LengthDelimited, mid) → TakesDelimited mid e after → unread ≡ after
-  pub within : (mid e after : List ℕ) → tag_at bytes ≡ Ok (n, LengthDelimited, mid) → TakesDelimited mid e after → IsTailOf after unread
-  pub past_no_delimited : (mid : List ℕ) (x : DecodeError) → tag_at bytes ≡ Ok (n, LengthDelimited, mid) → delimited_at mid ≡ Err x → unread ≡ past_no_delimited mid
+-- no tag of a field of number n and of bytes begins the bytes, and f is why; what is left follows the tag, or what is none
+abbrev pub RefusesTag : ℕ → List ℕ → List ℕ → DecodeError → Type 0
+RefusesTag n bytes tail f =
+    ((tag_at bytes ≡ Err f) × (tail ≡ past_no_tag bytes))
+    ⊎ ((g : ℕ) × (w : WireType) × (tag_at bytes ≡ Ok (g, w, tail))
+    × (((g ≢ n) × (f ≡ UnexpectedField g)) ⊎ ((g ≡ n) × (w ≢ LengthDelimited) × (f ≡ WireTypeMismatch n LengthDelimited w))))
 
--- What a refused record spends of a budget: what its entry does, and nothing where no record of the number was there.
-pub record SpendsOnRecord {K V : Type 0} (r : Rules K V) (left : BudgetLeft) (bytes : List ℕ) (f : DecodeError) (left_after : BudgetLeft) : Type 0 where
-  pub units : (left_after.memory ≡ left.memory)
-      ⊎ ((left_after.memory + r.cost ≤ left.memory)
-      × (left.memory ≤ left_after.memory + (r.cost + (record_need r.key r.val r.depth bytes).memory)))
-  pub charged : f ≢ OutOfMemory → (mid e after : List ℕ) → tag_at bytes ≡ Ok (r.number, LengthDelimited, mid) → TakesDelimited mid e after → r.cost ≤ left.memory → left_after.memory + r.cost ≤ left.memory
-  pub unspent : (HasWholeRecord r.number bytes → ⊥) → left_after ≡ left
-  pub most : left_after.unknown ≤ left.unknown
-  pub one_unknown : left.unknown ≤ left_after.unknown + (unknown_cost r + (record_need r.key r.val r.depth bytes).unknown)
-  pub no_unknown : f ≢ OutOfMemory → left.unknown ≤ left_after.unknown + (record_need r.key r.val r.depth bytes).unknown
-
--- The records of some entries begin the bytes, and were read: they are folded over the old map, kept, and paid. What
--- follows them was refused, and f is why: the record's first fault; or memory ran out, which it does only where merging
--- the entry of a record takes memory.
+-- The records in front were read, as a run of their own; what follows them was refused, and f is why: no tag of the field
+-- begins it, or one does, and the entry behind it was refused.
 pub record RefusesRun {K V : Type 0} (r : Rules K V) (old : State K V) (bytes : List ℕ) (new : State K V) (tail : List ℕ) (f : DecodeError) : Type 0 where
-  pub entries : List (EntryRecord K V)
+  pub front : List ℕ
   pub rest : List ℕ
-  pub left_after : BudgetLeft
-  pub begins : RunBegins r.key r.val r.depth r.number r.cost (unknown_cost r) old.left bytes entries rest left_after
+  pub split : bytes ≡ front ++ rest
   pub some : rest ≢ []
-  pub folded : SamePairs r.same (fold_entries r.same old.pairs entries) new.pairs
-  pub order : InOrder r.keeps_order (fold_entries r.same old.pairs entries) new.pairs
-  pub keeps : new.records ≡ old.records ++ kept_of_run r entries
-  pub fault : f ≢ OutOfMemory → RecordFault r.key r.val r.depth r.number r.cost (unknown_cost r) left_after rest f
-  pub memory : f ≡ OutOfMemory → (mid : List ℕ) × (tag_at rest ≡ Ok (r.number, LengthDelimited, mid)) × EntryTakesMemory r left_after mid f
-  pub unread : LeavesRecord r.number rest f tail
-  pub spent : SpendsOnRecord r left_after rest f new.left
+  pub now : State K V
+  pub read : ReadsRun r old front now []
+  pub refused : (RefusesTag r.number rest tail f × (new ≡ now))
+      ⊎ ((mid : List ℕ) × (tag_at rest ≡ Ok (r.number, LengthDelimited, mid)) × RefusesEntry r now mid new tail f)

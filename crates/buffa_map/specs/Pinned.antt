@@ -43,7 +43,7 @@ module _ {K V : Type 0} (r : Rules K V) where
         ReadsRun r old bs a x → RefusesRun r old bs b y f → (f ≢ OutOfMemory) → ⊥
     pub stops : (old : State K V) (bs : List ℕ) (a b : State K V) (x y : List ℕ) (f g : DecodeError) →
         (h : RefusesRun r old bs a x f) (k : RefusesRun r old bs b y g) → (f ≢ OutOfMemory) → (g ≢ OutOfMemory) →
-        (h.entries ≡ k.entries) × (h.rest ≡ k.rest) × SamePairs r.same a.pairs b.pairs × (a.records ≡ b.records) × (x ≡ y)
+        (h.read.entries ≡ k.read.entries) × (h.rest ≡ k.rest) × SamePairs r.same a.pairs b.pairs × (a.records ≡ b.records) × (x ≡ y)
     pub faults : ArePlainRules → (old : State K V) (bs : List ℕ) (a b : State K V) (x y : List ℕ) (f g : DecodeError) →
         RefusesRun r old bs a x f → RefusesRun r old bs b y g → (f ≢ OutOfMemory) → (g ≢ OutOfMemory) → (f ≡ g) × SameState r a b
 

@@ -8,11 +8,11 @@ use Rattle.buffa_bytes.specs.declared.wire_type.WireType.{WireType}
 use Rattle.buffa_bytes.specs.declared.wire_type.WireType.TheVariants.{LengthDelimited}
 use Rattle.buffa_bytes.specs.declared.error.DecodeError.{DecodeError}
 use Rattle.buffa_bytes.specs.declared.error.DecodeError.TheVariants.{ElementMemoryLimitExceeded, UnexpectedField, UnknownFieldLimitExceeded, WireTypeMismatch}
-use Rattle.buffa_wire.specs.BudgetLeft.{BudgetLeft, need_by, nothing, plus}
+use Rattle.buffa_wire.specs.BudgetLeft.{BudgetLeft, nothing, plus}
 use Rattle.buffa_wire.specs.Records.{Datum, bytes}
 use Rattle.buffa_bytes.specs.Sequence.{parse_all}
 use Rattle.buffa_map.specs.Codec.{Reading}
-use Rattle.buffa_map.specs.Entry.{IsEntry, EntryFault, blanks, entry_of, inner_need, need_at, need_of}
+use Rattle.buffa_map.specs.Entry.{IsEntry, EntryFault, blanks, entry_of, need_at, need_of}
 use Rattle.buffa_map.specs.Pairs.{put}
 use Rattle.buffa_map.specs.declared.map_entry.MapEntry.{MapEntry}
 
@@ -54,10 +54,6 @@ module _ {K V : Type 0} (key : Reading K) (val : Reading V) (d : ℕ) where
   ArePaid cost unknown_cost left es left_after =
       (left_after.memory + (length es * cost + (inner_needs es).memory) ≡ left.memory)
       × (left_after.unknown + (length (undeclared es) * unknown_cost + (inner_needs es).unknown) ≡ left.unknown)
-
-  -- what the messages cost that are merged in the record at the front, if a tag, a length and an entry are there
-  abbrev pub record_need : List ℕ → BudgetLeft
-  record_need bs = need_by (tag_at bs) (λ t. inner_need key val d t.2)
 
   -- What the entry e says, if left pays for it. Where a fault inside a message isn't named, or what the messages cost
   -- isn't left, the error stands for any that may be told.

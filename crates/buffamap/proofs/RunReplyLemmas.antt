@@ -12,6 +12,7 @@ use Rattle.buffa_map.specs.Pairs.{SamePairs}
 use Rattle.buffa_map.specs.Merge.{ReadsRun, Rules, RefusesRun, kept_of_run, state, unknown_cost}
 use Rattle.buffa_map.specs.Run.{fold_entries, ArePaid, Run, EntryRecord, run_of}
 use Rattle.buffa_map.proofs.RunLemmas.{run_complete, run_faulty}
+use Rattle.buffa_map.proofs.StopLemmas.{run_fault}
 
 module _ {K V : Type 0} (key : Reading K) (val : Reading V) (eq : K → K → Bool) (cost : ℕ) (keeps : Bool)
     (key_free : key.nested ≡ false → (d : ℕ) (c : Content) → key.cost d c ≡ nothing) (val_free : val.nested ≡ false → (d : ℕ) (c : Content) → val.cost d c ≡ nothing)
@@ -39,7 +40,7 @@ module _ {K V : Type 0} (key : Reading K) (val : Reading V) (eq : K → K → Bo
   pub stops : (unread : List ℕ) (f : DecodeError) → RefusesRun by (state old records left) bs (state new kept over) unread f →
       f ≢ OutOfMemory → run_of key val 100 n cost (unknown_cost by) defaults bs ≡ Err f
   stops unread f k ne =
-      let q = run_faulty key val d n cost (unknown_cost by) key_free val_free left bs f (k.entries, k.rest, k.left_after, k.begins, k.some, k.fault ne) in
+      let q = run_faulty key val d n cost (unknown_cost by) key_free val_free left bs f (run_fault by (state old records left) bs (state new kept over) unread f k ne) in
       let all : run_of key val d n cost (unknown_cost by) left bs ≡ Err f = q.1 ∙ ap (λ z. Err z) (sym (q.2 (key_plain, val_plain))) in
       subst (λ z. run_of key val z n cost (unknown_cost by) defaults bs ≡ Err f) is_d (subst (λ z. run_of key val d n cost (unknown_cost by) z bs ≡ Err f) is_left all)
 

@@ -15,6 +15,7 @@ use Rattle.buffa_map.specs.Rewrite.{MatchRefusal, RefusesDecoding, RefusesEncodi
 use Rattle.buffa_map.specs.Run.{EntryRecord, ArePaid, RecordFault, Run, RunBegins, inner_needs}
 use Rattle.buffa_map.specs.declared.rewrite.RewriteError.{RewriteError}
 use Rattle.buffa_map.specs.declared.rewrite.RewriteError.TheVariants.{Decode, Encode}
+use Rattle.buffa_map.proofs.StopLemmas.{broken}
 use Rattle.sample_types.specs.Passed.{IsShortage}
 
 -- a budget is its unknown fields left and its element memory left
@@ -127,7 +128,8 @@ module _ {K : Type 0} (rk : Reading K) (rv : Reading ℤ) (eq : K → K → Bool
   pub stop_is_shortage : (d : ℕ) (left : BudgetLeft) (out : List ℕ) (gs : List (EntryRecord K ℤ)) → ((e : List ℕ) → need_of rk rv d cost e ≡ units cost) → OneReading rk rv → Run rk rv d n out gs →
       RefusesRun (keeping rk rv eq keeps d n cost) (state pairs records left) out new unread f → IsShortage f
   stop_is_shortage d left out gs plain one run h =
-      is_shortage f (λ no. stop_is_limit rk rv d n cost 1 plain one left h.left_after out h.rest gs h.entries f run h.begins h.some (h.fault no))
+      is_shortage f (λ no. stop_is_limit rk rv d n cost 1 plain one left h.now.left out h.rest gs h.read.entries f run (h.front, h.split, h.read.run, h.read.paid) h.some
+      (broken (keeping rk rv eq keeps d n cost) (state pairs records left) out new unread f h no))
 
 -- the same reading of the whole, by the names of the clause
 pub read_whole : {K : Type 0} (rk : Reading K) (rv : Reading ℤ) (eq : K → K → Bool) (keeps : Bool) (n cost : ℕ) (pairs : List (K × ℤ)) (records : List (ℕ × Datum)) (new : State K ℤ) (rest : List ℕ)

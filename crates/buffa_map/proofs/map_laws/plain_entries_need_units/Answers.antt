@@ -1,7 +1,7 @@
 use Rattle.std.proofs.Common.{◌≡◌, ◌+◌, ap, arith}
 use Rattle.buffa_wire.specs.BudgetLeft.{units}
-use Rattle.buffa_bytes.specs.Front.{delimited_at, tag_at}
-use Rattle.buffa_map.specs.Entry.{blanks, inner_need, need_at}
+use Rattle.buffa_bytes.specs.Front.{delimited_at}
+use Rattle.buffa_map.specs.Entry.{blanks, need_at}
 use Rattle.buffa_map.proofs.EntryLemmas.{need_by-nothing}
 use Rattle.buffa_map.proofs.NeedLemmas.{need_free}
 use Rattle.buffa_map.proofs.RunLemmas.{inner_free}
@@ -19,11 +19,6 @@ returns g c = record {
       let key = g.KC.MapValueDecode.reading in
       let val = g.VC.MapValueDecode.reading in
       need_by-nothing (delimited_at bs) (λ e. need_at key val d (blanks key val d) e.0) (λ e. need_free key val d g.met.KC.MapValueDecode.free g.met.VC.MapValueDecode.free (blanks key val d) e.0 plain);
-  next = λ plain d bs.
-      let key = g.KC.MapValueDecode.reading in
-      let val = g.VC.MapValueDecode.reading in
-      need_by-nothing (tag_at bs) (λ t. inner_need key val d t.2) (λ t. need_by-nothing (delimited_at t.2) (λ e. need_at key val d (blanks key val d) e.0)
-      (λ e. need_free key val d g.met.KC.MapValueDecode.free g.met.VC.MapValueDecode.free (blanks key val d) e.0 plain));
   run = λ plain d es.
       inner_free g.KC.MapValueDecode.reading g.VC.MapValueDecode.reading d g.met.KC.MapValueDecode.free g.met.VC.MapValueDecode.free es plain;
 }

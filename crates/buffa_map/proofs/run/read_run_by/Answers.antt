@@ -10,7 +10,7 @@ pub returns-in_err-tag-clause-err : goal.returns-in_err-tag-clause-err
 returns-in_err-tag-clause-err g c =
     let p = err_from_is_err_and c.from_residual.result c.from_residual.ensures.1 in
     let more : 0 < length (g.B.Buf.unread c.records.buf) = omega (arith, c.remaining.ensures, c.records-test.true) in
-    rw (p.1, p.2) (stop_tag _ _ _ _ _ c.records.invariant.0 _ c.in_err-tag.field-0.0 c.in_err-tag.ensures.tail c.in_err-tag.ensures.left more c.in_err-tag.ensures.reads)
+    rw (p.1, p.2) (stop_tag _ _ _ _ _ c.records.invariant.0 _ c.in_err-tag.field-0.0 c.in_err-tag.ensures.left more c.in_err-tag.ensures.reads)
 
 pub returns-then-field_number-number-clause-err : goal.returns-then-field_number-number-clause-err
 returns-then-field_number-number-clause-err g c =

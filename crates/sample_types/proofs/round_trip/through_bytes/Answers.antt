@@ -3,6 +3,7 @@ use Rattle.std.proofs.lemmas.List.{nil_from_length}
 use Rattle.buffa_wire.specs.BudgetLeft.{BudgetLeft}
 use Rattle.buffa_map.specs.Run.{Run}
 use Rattle.buffa_map.specs.Encoding.{field_encoding}
+use Rattle.buffa_map.proofs.StopLemmas.{run_fault}
 use Rattle.sample_types.proofs.TripLemmas.{as_units, cost_came, costs_more, order_came, pairs_came, stopped, unwritten, wrote}
 use Rattle.sample_types.proofs.round_trip.through_bytes.Goals as goal
 
@@ -51,8 +52,8 @@ returns-clause-err g c =
       (
         (λ none. k.some (nil_from_length k.rest (omega (
           arith,
-          ap length (sym k.begins.1),
-          length-append k.begins.0 k.rest,
+          ap length (sym k.split),
+          length-append k.front k.rest,
           ap length encoding,
           ap (λ z. length (field_encoding g.KC.MapCodec.writing g.VC.MapCodec.writing c.args.number z)) none,
         )))),
@@ -61,7 +62,7 @@ returns-clause-err g c =
             let more = costs_more key val depth c.args.number
             (λ one e. c.plain_entries_need_units.ensures.entry (g.met.KC.MapCodec.plain, g.met.VC.MapCodec.plain) depth one e)
             (λ es. c.plain_entries_need_units.ensures.run (g.met.KC.MapCodec.plain, g.met.VC.MapCodec.plain) depth es) (c.one_reading.ensures.run_or_fault depth c.args.number) cost c.new-ctx.result.budget.now c.as_slice-rest.result.now t.entries c.in-Err-read_map_field.error run
-            (k.entries, k.rest, k.left_after, k.begins, k.some, k.fault named) in
+            (run_fault _ _ _ _ _ _ k named) in
             (more.0, subst (λ x. x < length w.0 * cost) memory (subst (λ x. c.new-ctx.result.budget.now.memory < x * cost) t.many more.1)),
       ),
     )
