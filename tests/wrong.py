@@ -138,7 +138,8 @@ class Report:
 
     def names(self, edit, crate):
         """What the checker calls the function that must not be proved."""
-        return [it for it in self.said if (is_named(edit.target, crate, it) if edit.target else it.split("::")[-1] == edit.name)]
+        own = [it for it in self.said if it.startswith(f"{crate}::")]
+        return [it for it in own if (is_named(edit.target, crate, it) if edit.target else it.split("::")[-1] == edit.name)]
 
     def is_of_law(self, edit, crate):
         """Whether each error of the text stands in the law of that name, in a file that the edit leaves as it is."""
