@@ -161,7 +161,7 @@ def index(crates):
             if line and not line.startswith("#"):
                 rows[line.split("\t")[1]] = rows.get(line.split("\t")[1], 0) + 1
         out.append(f"`{os.path.basename(path)}` | " + ", ".join(f"`{name}` {number}" for name, number in sorted(rows.items())))
-    out += ["", "## Wrong bodies that the gate tries", "", "The checker refuses each of them, at the goal that it names: `tests/wrong.py gate`. Others are in `tests/wrong`.", ""]
+    out += ["", "## Wrong bodies that the gate tries", "", "The checker refuses each of them, at its goal where it names one: `tests/wrong.py gate`. Others are in `tests/wrong`.", ""]
     out += ["Function | What is wrong | The goal that is open then", "---|---|---", *wrong_bodies(crates)]
     return "\n".join(out) + "\n", count["Calls"], count["Laws"]
 

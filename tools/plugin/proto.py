@@ -328,7 +328,7 @@ class Message:
         over = [it.field.full for k in self.members[MOST:] for it in getattr(k, "cases", [k])]
         if over:
             way = f"leave out those behind the {MOST}th, by --buffa_opt=" + ",".join(f"leave={name}" for name in over)
-            raise Refused(f"{self.name.at()}: it has {len(self.members)} fields, of which {MOST} are proved in one message: {way}", over)
+            raise Refused(f"{self.name.at()}: it has {len(self.members)} members, of which {MOST} are proved in one message: {way}", over)
 
     def member_of_itself(self):
         """The member in which the message holds itself, if it is one list, one map or one message, and what it makes of the message."""
