@@ -53,7 +53,7 @@ pub use crate::held_laws::{
 };
 use crate::keeping::Keeping;
 pub use crate::level_laws::{
-    levels_of_fields_are_exact, messages_in_lists_are_these,
+    exact_levels_are_these, levels_of_fields_are_exact, messages_in_lists_are_these,
     messages_in_lists_of_themselves_are_these, messages_in_members_are_these,
     values_have_no_messages,
 };
@@ -89,7 +89,7 @@ use crate::repeated_nested::RepeatedNested;
 pub use crate::word_laws::{
     fields_are_taken_by_these, fields_that_are_not_declared_are_taken_so, keeping_members_take_so,
     maps_and_messages_fit_so, members_put_aside_so, members_take_so, numbers_are_put_aside_so,
-    tests_are_these,
+    tests_are_these, what_is_required_is_there,
 };
 pub use crate::written_laws::{
     entries_cost_what_is_in_them, fields_cost_what_is_in_them, groups_are_written,

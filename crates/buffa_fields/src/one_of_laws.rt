@@ -21,7 +21,7 @@ ghost use Rattle.buffa_fields.specs.Values.{IfThere};
 ghost use Rattle.buffa_fields.specs.declared.meaning.Or.{Or};
 ghost use Rattle.buffa_fields.specs.declared.meaning.Or.TheVariants.{Other, This};
 
-use crate::case::Case;
+use crate::case::{Case, Set};
 use crate::fields::Fields;
 use crate::group::Group;
 use crate::member::Member;
@@ -89,6 +89,16 @@ pub fn members_that_may_be_cases_are_these<C: ProtoType, N: Message>()
         (⟦<Group<N> as Case>⟧.merges ≡ true) × (a.meaning ≡ b.meaning) × (a.blank ≡ b.blank) × (a.whole ≡ b.whole)
         × (a.takes ≡ b.takes) × (a.checks ≡ b.checks) × (a.need ≡ b.need) × (a.records ≡ b.records) × (a.slots ≡ b.slots)
         × (a.levels ≡ b.levels) × (a.Exact ↔ b.Exact) × ((v : _) → a.normal v ↔ b.normal v)
+        × ((d n : ℕ) (w : _) (bs : List ℕ) → a.asks d n w bs ↔ b.asks d n w bs) × RefusesUnder a b.refuses }
+{}
+
+/// The value of a case, as a member (`Set`), means what the case's member type makes of a value that is there, and else is what that is.
+pub fn values_of_cases_are_these<C: Case>()
+    ensures meaning { (v : C.Value) → ⟦<Set<C> as Member>⟧.shape.meaning v ≡ C.form.meaning (Some v) }
+    ensures alike { let a = ⟦<Set<C> as Member>⟧.shape in let b = C.form in
+        (a.blank ≡ b.blank) × (a.whole ≡ b.whole) × (a.takes ≡ b.takes) × (a.checks ≡ b.checks) × (a.need ≡ b.need)
+        × (a.records ≡ b.records) × (a.slots ≡ b.slots) × (a.levels ≡ b.levels) × (a.Exact ↔ b.Exact)
+        × ((v : _) → a.normal v ↔ b.normal v)
         × ((d n : ℕ) (w : _) (bs : List ℕ) → a.asks d n w bs ↔ b.asks d n w bs) × RefusesUnder a b.refuses }
 {}
 

@@ -17,6 +17,7 @@ ghost use Rattle.buffa_map.specs.Entry.{EntryFault, IsEntry, entry_of, need_of};
 ghost use Rattle.buffa_map.specs.Fields.{EntryFieldsTakeMemory};
 ghost use Rattle.buffa_map.specs.declared.map_entry.MapEntry.{MapEntry};
 ghost use Rattle.buffa_fields.specs.KeptLists.{varints};
+ghost use Rattle.buffa_fields.specs.KeptMaps.{IsUndeclaredAt};
 ghost use Rattle.buffa_fields.specs.Lists.{element_at, elements_in};
 ghost use Rattle.buffa_fields.specs.Refusals.{RefusesElements};
 
@@ -170,6 +171,8 @@ where
     ensures fault { (d n : ℕ) (t e more : List ℕ) (f : _) → IsVarint t (length e) → entry_of KC.reading VC.reading d e ≡ Err f →
         ⟦<MapOf<KC, VC> as Keeping>⟧.aside.need d n WireType.LengthDelimited ((t ++ e) ++ more)
         ≡ need_of KC.reading VC.reading d (KC.COST + VC.COST) e }
+    ensures undeclared { (d : ℕ) (e : List ℕ) → IsUndeclaredAt KC.reading VC.reading d e
+        ↔ ((s : MapEntry KC.Value.Meaning VC.Value.Meaning) × IsEntry KC.reading VC.reading d e s × (s.known ≡ false)) }
     ensures aside { (x : Datum) → ⟦<MapOf<KC, VC> as Keeping>⟧.aside.IsAside x → (e : List ℕ) × (x ≡ bytes e)
         × ((d : ℕ) → ⟦<MapOf<KC, VC> as Keeping>⟧.aside.levels x ≤ d →
         (s : MapEntry KC.Value.Meaning VC.Value.Meaning) × IsEntry KC.reading VC.reading d e s × (s.known ≡ false)) }

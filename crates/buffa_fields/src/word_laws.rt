@@ -2,6 +2,7 @@
 //! wire and of maps say, and is a function with nothing to do.
 
 ghost use Rattle.std.specs.Prelude.{◌≡◌, ◌≢◌, ◌↔◌, ◌==◌, ◌<◌, ℕ, Bool, List, [], ◌∷◌, ◌++◌, None, Option, Some, Ok, Err, Result, MatchResult, OnErr, cond, false, length, max, true};
+ghost use Rattle.std.specs.List.{list_all};
 ghost use Rattle.std.specs.List.Sorted.{IsStrictlySortedBy};
 ghost use Rattle.std.specs.Map.{keys_of};
 ghost use Rattle.std.specs.Option.{option_map};
@@ -41,7 +42,11 @@ use crate::fields::Fields;
 use crate::keeping::Keeping;
 use crate::member::Member;
 use crate::one_of::OneOf;
+use crate::required::Required;
+use buffa_map::map_codec::Map;
 use buffa_wire::{Enumeration, Message};
+use std::collections::BTreeMap;
+use std::hash::Hash;
 
 /// One of two, by a test; of a value that may be absent, if it is there; and of records, each by its number.
 pub fn tests_are_these<X>()
@@ -205,4 +210,14 @@ pub fn numbers_are_put_aside_so<E: Enumeration>()
         × (undeclared_of (numbers E.of_number E.blank_is) n (k ∷ ks)
         ≡ (n, varint k) ∷ undeclared_of (numbers E.of_number E.blank_is) n ks)
         × (undeclared_number (numbers E.of_number E.blank_is) n k ≡ (n, varint k) ∷ []) }
+{}
+
+/// All that is required is there: of a message that may be absent, where it is there; and of a list and of a map, of each message.
+pub fn what_is_required_is_there<K: Hash + Eq + Ord, M: Required>()
+    ensures absent { ⟦<Option<M> as Required>⟧.initialized None ≡ true }
+    ensures there { (m : M) → ⟦<Option<M> as Required>⟧.initialized (Some m) ≡ M.initialized m }
+    ensures list { (v : _) → ⟦<Vec<M> as Required>⟧.initialized v ≡ list_all M.initialized v.items }
+    ensures map { (m : _) → ⟦<Map<K, M> as Required>⟧.initialized m ≡ list_all (λ p. M.initialized p.1) m.entries }
+    ensures ordered_map { (m : _) → ⟦<BTreeMap<K, M> as Required>⟧.initialized m
+        ≡ list_all (λ p. M.initialized p.1) m.entries }
 {}
