@@ -10,7 +10,7 @@ use Rattle.buffa_bytes.proofs.DelimitedLemmas.{delimited_complete, delimited_sou
 use Rattle.buffa_bytes.proofs.FieldLemmas.{same_refl}
 use Rattle.buffa_bytes.proofs.SequenceLemmas.{along_err, along_ok, err_same, ok_same, parse_leads}
 use Rattle.buffa_bytes.proofs.StepLemmas.{agree_ok}
-use Rattle.buffa_bytes.proofs.WireLemmas.{checked_same}
+use Rattle.buffa_bytes.proofs.WireLemmas.{checked_same, same_false}
 use Rattle.buffa_bytes.specs.Content.{Content, HasContent, content_at}
 use Rattle.buffa_bytes.specs.Field.{IsTag, SomeField}
 use Rattle.buffa_bytes.specs.Front.{check_wire, delimited_at}
@@ -22,7 +22,7 @@ use Rattle.buffa_bytes.specs.WireType.{same_wire}
 use Rattle.buffa_bytes.specs.declared.error.DecodeError.{DecodeError}
 use Rattle.buffa_bytes.specs.declared.wire_type.WireType.{WireType}
 use Rattle.buffa_bytes.specs.declared.wire_type.WireType.TheVariants.{EndGroup, LengthDelimited, StartGroup}
-use Rattle.buffa_wire.specs.BudgetLeft.{BudgetLeft, plus, units}
+use Rattle.buffa_wire.specs.BudgetLeft.{BudgetLeft, nothing, plus, units}
 use Rattle.buffa_wire.specs.ByField.{value_of}
 use Rattle.buffa_wire.specs.Encoding.{encodings}
 use Rattle.buffa_wire.specs.Message.{merged_in}
@@ -31,7 +31,7 @@ use Rattle.buffa_map.specs.Codec.{Reading, value_at}
 use Rattle.buffa_map.specs.Entry.{IsEntry, entry_of}
 use Rattle.buffa_map.specs.declared.map_entry.MapEntry.{MapEntry}
 use Rattle.buffa_fields.proofs.InsideLemmas.{wire_taken}
-use Rattle.buffa_fields.specs.Entries.{entry_taken, whole_entry_in}
+use Rattle.buffa_fields.specs.Entries.{entry_cost, entry_taken, whole_entry_in}
 use Rattle.buffa_fields.specs.GroupFacts.{body_is}
 use Rattle.buffa_fields.specs.Groups.{group_body, group_merged}
 use Rattle.buffa_fields.specs.ListFacts.{element_falls, elements_end, elements_next}
@@ -250,6 +250,16 @@ pub elements_cost : (each : ℕ) (cost : ℕ → List ℕ → BudgetLeft) (d n :
     messages_cost each cost (suc d) n LengthDelimited ((t ++ b) ++ more) ≡ plus (units each) (cost d b)
 unfolding messages_cost
 elements_cost each cost d n t b more h = rw (is_there cost d n t b more h) refl
+
+-- so does an entry what its bytes cost; fields of other wire types cost nothing
+module _ (costs : ℕ → List ℕ → BudgetLeft) (d n : ℕ) where
+  pub entry_costs : (t e more : List ℕ) → IsVarint t (length e) → entry_cost costs d n LengthDelimited ((t ++ e) ++ more) ≡ costs d e
+  unfolding entry_cost
+  entry_costs t e more h = rw (is_there costs d n t e more h) refl
+
+  pub others_are_free : (w : WireType) (bs : List ℕ) → w ≢ LengthDelimited → entry_cost costs d n w bs ≡ nothing
+  unfolding entry_cost
+  others_are_free w bs other = rw (same_false LengthDelimited w other) refl
 
 -- which numbers a field may have
 pub numbers_tested : (k : ℕ) → (is_number k ≡ true) ↔ ((0 < k) × (k < 2 ^ 29))

@@ -61,7 +61,7 @@ either_false : (a b : Bool) → (a || b) ≡ false → (a ≡ false) × (b ≡ f
 either_false true b h = cc
 either_false false b h = (refl, h)
 
-seen_this : {A B : Type 0} (x : Option (Or A B)) (a : A) → this_of x ≡ Some a → x ≡ Some (This a)
+pub seen_this : {A B : Type 0} (x : Option (Or A B)) (a : A) → this_of x ≡ Some a → x ≡ Some (This a)
 seen_this None a is = cc
 seen_this (Some (This b)) a is = cc
 seen_this (Some (Other b)) a is = cc

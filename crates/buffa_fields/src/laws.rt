@@ -53,7 +53,7 @@ pub use crate::held_laws::{
 };
 use crate::keeping::Keeping;
 pub use crate::level_laws::{
-    levels_of_fields_are_exact, messages_in_lists_are_these,
+    exact_levels_are_these, levels_of_fields_are_exact, messages_in_lists_are_these,
     messages_in_lists_of_themselves_are_these, messages_in_members_are_these,
     values_have_no_messages,
 };
@@ -79,16 +79,22 @@ pub use crate::record_laws::{
     packed_elements_are_appended, packed_elements_are_read, values_are_read,
 };
 pub use crate::refusal_laws::{
-    refused_elements_are_not_put, refused_entries_are_not_put, refused_groups_stand,
-    refused_messages_stand, refused_values_stay,
+    lists_take_these_wire_types, refused_elements_are_not_put, refused_entries_are_not_put,
+    refused_groups_stand, refused_kept_entries_are_not_put, refused_messages_stand,
+    refused_numbers_are_not_put, refused_values_stay,
 };
 use crate::repeated::Repeated;
 use crate::repeated_group::RepeatedGroup;
 use crate::repeated_nested::RepeatedNested;
+pub use crate::word_laws::{
+    fields_are_taken_by_these, fields_that_are_not_declared_are_taken_so, keeping_members_take_so,
+    maps_and_messages_fit_so, members_put_aside_so, members_take_so, numbers_are_put_aside_so,
+    tests_are_these, what_is_required_is_there,
+};
 pub use crate::written_laws::{
-    fields_cost_what_is_in_them, groups_are_written, messages_are_written,
-    packed_elements_are_written, pairs_are_written, pairs_of_messages_are_written,
-    values_are_written,
+    entries_cost_what_is_in_them, fields_cost_what_is_in_them, groups_are_written,
+    messages_are_written, packed_elements_are_written, pairs_are_written,
+    pairs_of_messages_are_written, values_are_written,
 };
 use buffa_map::map_codec::{ClosedEnum, MapCodec};
 use buffa_wire::{Enumeration, MapKey, Message, MessageForm, MessageMeaning, WireType};

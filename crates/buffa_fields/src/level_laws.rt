@@ -1,7 +1,8 @@
 //! How deep messages from their fields nest: exactly as deep as they say.
 
-ghost use Rattle.std.specs.Prelude.{◌↔◌, ℕ, List};
-ghost use Rattle.buffa_wire.specs.Records.{Datum};
+ghost use Rattle.std.specs.Prelude.{◌≡◌, ◌↔◌, ◌<◌, ℕ, List, None};
+ghost use Rattle.buffa_wire.specs.Parse.{Fits};
+ghost use Rattle.buffa_wire.specs.Records.{Datum, records_of};
 ghost use Rattle.buffa_wire.specs.Encoding.{records_encoding};
 ghost use Rattle.buffa_fields.specs.Levels.{AreExactLevels};
 ghost use Rattle.buffa_fields.specs.Members.{field, field_kept, keep, skip};
@@ -35,6 +36,13 @@ pub fn levels_of_fields_are_exact<M: Listing>()
     ensures { M.layout.Exact → AreExactLevels ⟦<Listed as MessageMeaning<M>>⟧.merged
         (λ v. records_encoding (⟦<Listed as MessageMeaning<M>>⟧.records v)) ⟦<Listed as MessageMeaning<M>>⟧.records
         ⟦<Listed as MessageMeaning<M>>⟧.normal ⟦<Listed as MessageMeaning<M>>⟧.levels }
+{}
+
+/// The levels of a type of messages are exact where at any lesser depth the encoding of a normal value whose records fit is merged into no
+/// value.
+pub fn exact_levels_are_these<N: Message>()
+    ensures { AreExactLevels N.merged N.encoding N.records N.normal N.levels ↔ ((d : ℕ) (old v : N.Meaning) →
+        Fits (records_of (N.records v)) → N.normal v → d < N.levels v → N.merged d old (N.encoding v) ≡ None) }
 {}
 
 /// The levels of a list of members are exact where those of each member are; `keep` and `skip` have no messages.

@@ -56,5 +56,6 @@ pub mod required;
 pub mod sizer;
 pub mod value;
 pub mod visitor;
+pub mod word_laws;
 pub mod writer;
 pub mod written_laws;

@@ -1,25 +1,30 @@
 //! What the cases of a `oneof` are, and a message that has one, in the words of the encoding guide: of the records of its cases
-//! the last one counts, and a message is merged into the one of its own case.
+//! the last one counts, and a message is merged into the one of its own case. What is said of a case under a number and of those
+//! after it holds of any list of cases; what a value of `C` is, its member type says.
 //!
 //! The words of `MapCodec` and `MessageSpec` that these cite are pinned by the laws of the crates below.
 
-ghost use Rattle.std.specs.Prelude.{◌≡◌, ◌≢◌, ◌↔◌, ◌==◌, ◌&&◌, ◌||◌, ◌++◌, ℕ, List, [], None, Ok, Option, Some, max, not, false};
+ghost use Rattle.std.specs.Prelude.{◌≡◌, ◌↔◌, ◌⊎◌, ◌==◌, ◌&&◌, ◌||◌, ◌∷◌, ◌++◌, ◌-◌, ◌^◌, ℕ, List, [], None, Err, Ok, Option, Some, false, if◌then◌else◌, length, max, min, nat_lt, not, suc, true};
 ghost use Rattle.std.specs.Option.{option_map};
 ghost use Rattle.buffa_bytes.specs.Content.{Content, HasContent};
+ghost use Rattle.buffa_wire.specs.Records.{Datum, bytes, group, records_of};
 ghost use Rattle.buffa_fields.specs.Cases.{other_of, this_of};
 ghost use Rattle.buffa_fields.specs.Keep.{AllNumbers};
-ghost use Rattle.buffa_fields.specs.Layout.{Choice, is_number};
+ghost use Rattle.buffa_fields.specs.Layout.{Choice, Took, is_number};
 ghost use Rattle.buffa_fields.specs.Nested.{message_merged};
 ghost use Rattle.buffa_fields.specs.OneOf.{one_of};
 ghost use Rattle.buffa_fields.specs.OneOfParts.{case, no_case};
 ghost use Rattle.buffa_fields.specs.OneOfPinned.{CaseOrOthers, RefusesCase};
 ghost use Rattle.buffa_fields.specs.Pinned.{TakeAlike};
+ghost use Rattle.buffa_fields.specs.Refusals.{RefusesUnder};
 ghost use Rattle.buffa_fields.specs.Values.{IfThere};
 ghost use Rattle.buffa_fields.specs.declared.meaning.Or.{Or};
 ghost use Rattle.buffa_fields.specs.declared.meaning.Or.TheVariants.{Other, This};
 
-use crate::case::Case;
+use crate::case::{Case, Set};
 use crate::fields::Fields;
+use crate::group::Group;
+use crate::member::Member;
 use crate::nested::Nested;
 use crate::one_of::OneOf;
 use crate::optional::Optional;
@@ -29,6 +34,8 @@ use buffa_wire::Message;
 /// A case under a number, and those after it: what a value of each means, which records it is written as, and how deep it nests. A
 /// field of the case's number is taken by its member type, and of the others' numbers by these.
 pub fn cases_are_these<E: OneOf, C: Case>()
+    ensures there { (v : C.Value) → (a : C.Said) × (C.form.meaning (Some v) ≡ Some a) }
+    ensures absent { (k : ℕ) → ((case k C.words E.cases.all).cases.meaning None ≡ None) × (C.form.meaning None ≡ None) }
     ensures this { (k : ℕ) (v : C.Value) (a : C.Said) → C.form.meaning (Some v) ≡ Some a →
         (case k C.words E.cases.all).cases.meaning (Some (This v)) ≡ Some (This a) }
     ensures other { (k : ℕ) (v : E.cases.V) → C.form.meaning None ≡ None →
@@ -53,7 +60,92 @@ pub fn cases_are_these<E: OneOf, C: Case>()
     ensures normal { (k : ℕ) (a : C.Said) → (case k C.words E.cases.all).cases.normal (This a) ↔ C.form.normal (Some a) }
     ensures other_normal { (k : ℕ) (b : E.Meaning) →
         (case k C.words E.cases.all).cases.normal (Other b) ↔ E.cases.all.cases.normal b }
-    ensures none { ((n : ℕ) → no_case.cases.mine n ≡ false) × ((x : _) → no_case.cases.normal x → ⊥) }
+    ensures place { (k : ℕ) → (case k C.words E.cases.all).cases.place ≡ k }
+    ensures need { (k d : ℕ) (w : _) (bs : List ℕ) → (case k C.words E.cases.all).cases.need d k w bs ≡ C.form.need d k w bs }
+    ensures other_need { (k d n : ℕ) (w : _) (bs : List ℕ) → (n == k) ≡ false →
+        (case k C.words E.cases.all).cases.need d n w bs ≡ E.cases.all.cases.need d n w bs }
+    ensures asks { (k d : ℕ) (w : _) (bs : List ℕ) → (case k C.words E.cases.all).cases.asks d k w bs ↔ C.form.asks d k w bs }
+    ensures other_asks { (k d n : ℕ) (w : _) (bs : List ℕ) → (n == k) ≡ false →
+        (case k C.words E.cases.all).cases.asks d n w bs ↔ E.cases.all.cases.asks d n w bs }
+    ensures exact { (k : ℕ) → (case k C.words E.cases.all).cases.Exact ↔ (C.form.Exact × E.cases.all.cases.Exact) }
+    ensures none { ((n : ℕ) → no_case.cases.mine n ≡ false) × ((x : _) → no_case.cases.normal x → ⊥)
+        × ((D : _) (others : _) → no_case.cases.sound D others ≡ others) × no_case.cases.Exact }
+{}
+
+/// Which member types may be a case, and what each is then: what it is as a member that may be absent. The value of a scalar, a
+/// string, bytes or an enum takes the place of what stands. A message is merged into the one that stands.
+pub fn members_that_may_be_cases_are_these<C: ProtoType, N: Message>()
+    ensures value { let a = ⟦<Optional<C> as Case>⟧.form in let b = ⟦<Optional<C> as Member>⟧.shape in
+        (⟦<Optional<C> as Case>⟧.merges ≡ false) × (a.meaning ≡ b.meaning) × (a.blank ≡ b.blank) × (a.whole ≡ b.whole)
+        × (a.takes ≡ b.takes) × (a.checks ≡ b.checks) × (a.need ≡ b.need) × (a.records ≡ b.records) × (a.slots ≡ b.slots)
+        × (a.levels ≡ b.levels) × (a.Exact ↔ b.Exact) × ((v : _) → a.normal v ↔ b.normal v)
+        × ((d n : ℕ) (w : _) (bs : List ℕ) → a.asks d n w bs ↔ b.asks d n w bs) × RefusesUnder a b.refuses }
+    ensures message { let a = ⟦<Nested<N> as Case>⟧.form in let b = ⟦<Nested<N> as Member>⟧.shape in
+        (⟦<Nested<N> as Case>⟧.merges ≡ true) × (a.meaning ≡ b.meaning) × (a.blank ≡ b.blank) × (a.whole ≡ b.whole)
+        × (a.takes ≡ b.takes) × (a.checks ≡ b.checks) × (a.need ≡ b.need) × (a.records ≡ b.records) × (a.slots ≡ b.slots)
+        × (a.levels ≡ b.levels) × (a.Exact ↔ b.Exact) × ((v : _) → a.normal v ↔ b.normal v)
+        × ((d n : ℕ) (w : _) (bs : List ℕ) → a.asks d n w bs ↔ b.asks d n w bs) × RefusesUnder a b.refuses }
+    ensures group { let a = ⟦<Group<N> as Case>⟧.form in let b = ⟦<Group<N> as Member>⟧.shape in
+        (⟦<Group<N> as Case>⟧.merges ≡ true) × (a.meaning ≡ b.meaning) × (a.blank ≡ b.blank) × (a.whole ≡ b.whole)
+        × (a.takes ≡ b.takes) × (a.checks ≡ b.checks) × (a.need ≡ b.need) × (a.records ≡ b.records) × (a.slots ≡ b.slots)
+        × (a.levels ≡ b.levels) × (a.Exact ↔ b.Exact) × ((v : _) → a.normal v ↔ b.normal v)
+        × ((d n : ℕ) (w : _) (bs : List ℕ) → a.asks d n w bs ↔ b.asks d n w bs) × RefusesUnder a b.refuses }
+{}
+
+/// The value of a case, as a member (`Set`), means what the case's member type makes of a value that is there, and else is what that is.
+pub fn values_of_cases_are_these<C: Case>()
+    ensures meaning { (v : C.Value) → ⟦<Set<C> as Member>⟧.shape.meaning v ≡ C.form.meaning (Some v) }
+    ensures alike { let a = ⟦<Set<C> as Member>⟧.shape in let b = C.form in
+        (a.blank ≡ b.blank) × (a.whole ≡ b.whole) × (a.takes ≡ b.takes) × (a.checks ≡ b.checks) × (a.need ≡ b.need)
+        × (a.records ≡ b.records) × (a.slots ≡ b.slots) × (a.levels ≡ b.levels) × (a.Exact ↔ b.Exact)
+        × ((v : _) → a.normal v ↔ b.normal v)
+        × ((d n : ℕ) (w : _) (bs : List ℕ) → a.asks d n w bs ↔ b.asks d n w bs) × RefusesUnder a b.refuses }
+{}
+
+/// What stands when a field of a case's number was taken or refused, and what is said of the field: what the case's member type says of
+/// it, where it starts with the value that stands, if that is of this case and is merged into, and else with none. Fields of
+/// other numbers are for the cases after it.
+pub fn cases_take_their_fields<E: OneOf, C: Case>()
+    ensures merged { (k d : ℕ) (at : Option E → Option (Or C.Value E.cases.V)) (old : Option E) (p : C.Value) (w : _) (bs : List ℕ)
+        (before : _) (r : _) (new : Option E) (after : _) (rest : List ℕ) → C.merges ≡ true → at old ≡ Some (This p) →
+        (case k C.words E.cases.all).cases.Took at d old k w bs before r new after rest →
+        (q : C.Value) × (at new ≡ Some (This q)) × Took C.form d (Some p) k w bs before r (Some q) after rest }
+    ensures put { (k d : ℕ) (at : Option E → Option (Or C.Value E.cases.V)) (old : Option E) (w : _) (bs : List ℕ)
+        (before : _) (x : _) (new : Option E) (after : _) (rest : List ℕ) →
+        (C.merges ≡ false) ⊎ ((p : C.Value) → at old ≡ Some (This p) → ⊥) →
+        (case k C.words E.cases.all).cases.Took at d old k w bs before (Ok x) new after rest →
+        (q : C.Value) × (at new ≡ Some (This q)) × Took C.form d None k w bs before (Ok x) (Some q) after rest }
+    ensures refused { (k d : ℕ) (at : Option E → Option (Or C.Value E.cases.V)) (old : Option E) (w : _) (bs : List ℕ)
+        (before : _) (e : _) (new : Option E) (after : _) (rest : List ℕ) → C.merges ≡ false →
+        (case k C.words E.cases.all).cases.Took at d old k w bs before (Err e) new after rest →
+        (new ≡ old) × Took C.form d None k w bs before (Err e) None after rest }
+    ensures anew_refused { (k d : ℕ) (at : Option E → Option (Or C.Value E.cases.V)) (old : Option E) (w : _) (bs : List ℕ)
+        (before : _) (e : _) (new : Option E) (after : _) (rest : List ℕ) → this_of (at old) ≡ None →
+        (case k C.words E.cases.all).cases.Took at d old k w bs before (Err e) new after rest →
+        (new ≡ old) × Took C.form d None k w bs before (Err e) None after rest }
+    ensures none_of_it { (o : Option (Or C.Value E.cases.V)) →
+        (this_of o ≡ None) ↔ ((p : C.Value) → o ≡ Some (This p) → ⊥) }
+    ensures others { (k d n : ℕ) (at : Option E → Option (Or C.Value E.cases.V)) (old : Option E) (w : _) (bs : List ℕ)
+        (before : _) (r : _) (new : Option E) (after : _) (rest : List ℕ) → (n == k) ≡ false →
+        (case k C.words E.cases.all).cases.Took at d old n w bs before r new after rest ↔
+        E.cases.all.cases.Took (λ o. other_of (at o)) d old n w bs before r new after rest }
+{}
+
+/// A case that is there has one record, under its number, of a default value too: of a scalar, a string, bytes or an enum as its codec
+/// has it, of a message its encoding, of a group its fields. A message has a slot, and is a level deep, and so are those in it.
+#[tactic(auto, unfolding(crate::specs::MemberRecords::optional_records, crate::specs::Nested::message_slots))]
+pub fn cases_are_written<E: OneOf, C: ProtoType, N: Message>()
+    ensures value { (k : ℕ) (v : C.Value.Meaning) →
+        (case k ⟦<Optional<C> as Case>⟧.words E.cases.all).cases.records (This v) ≡ (k, C.datum v) ∷ [] }
+    ensures message { (k : ℕ) (v : N.Meaning) →
+        (case k ⟦<Nested<N> as Case>⟧.words E.cases.all).cases.records (This v) ≡ (k, bytes (N.encoding v)) ∷ [] }
+    ensures group { (k : ℕ) (v : N.Meaning) → (case k ⟦<Group<N> as Case>⟧.words E.cases.all).cases.records (This v)
+        ≡ (k, group (records_of (N.records v))) ∷ [] }
+    ensures slots { (k : ℕ) (v : N.Meaning) → (case k ⟦<Nested<N> as Case>⟧.words E.cases.all).cases.slots (This v)
+        ≡ min (length (N.encoding v)) (2 ^ 32 - 1) ∷ N.slots v }
+    ensures levels { (k : ℕ) (x : C.Value.Meaning) (v : N.Meaning) →
+        ((case k ⟦<Optional<C> as Case>⟧.words E.cases.all).cases.levels (This x) ≡ 0)
+        × ((case k ⟦<Nested<N> as Case>⟧.words E.cases.all).cases.levels (This v) ≡ suc (N.levels v)) }
 {}
 
 /// A record of a case whose value is a scalar, a string, bytes or an enum: its value takes the place of what stands, whichever case
@@ -86,7 +178,20 @@ pub fn oneofs_are_these<M: Fields, E: OneOf>()
     ensures blank { (get : M → Option E) → (one_of get E.cases M.layout).blank ≡ (None, M.layout.blank) }
     ensures takes { (get : M → Option E) (d n : ℕ) (v : _) (w : _) (p : List ℕ) → E.cases.all.cases.mine n ≡ false →
         (one_of get E.cases M.layout).takes d v n w p ≡ option_map (λ y. (v.0, y)) (M.layout.takes d v.1 n w p) }
-    ensures absent { (get : M → Option E) (v : _) → (one_of get E.cases M.layout).records (None, v) ≡ M.layout.records v }
+    ensures own { (get : M → Option E) (d n : ℕ) (v : _) (w : _) (p : List ℕ) → E.cases.all.cases.mine n ≡ true →
+        (one_of get E.cases M.layout).takes d v n w p ≡ option_map (λ x. (x, v.1)) (E.cases.all.cases.takes d v.0 n w p) }
+    ensures need { (get : M → Option E) (d n : ℕ) (w : _) (bs : List ℕ) → E.cases.all.cases.mine n ≡ true →
+        (one_of get E.cases M.layout).need d n w bs ≡ E.cases.all.cases.need d n w bs }
+    ensures other_need { (get : M → Option E) (d n : ℕ) (w : _) (bs : List ℕ) → E.cases.all.cases.mine n ≡ false →
+        (one_of get E.cases M.layout).need d n w bs ≡ M.layout.need d n w bs }
+    ensures asks { (get : M → Option E) (s d n : ℕ) (w : _) (bs : List ℕ) → E.cases.all.cases.mine n ≡ true →
+        (one_of get E.cases M.layout).asks s d n w bs ↔ E.cases.all.cases.asks d n w bs }
+    ensures other_asks { (get : M → Option E) (s d n : ℕ) (w : _) (bs : List ℕ) → E.cases.all.cases.mine n ≡ false →
+        (one_of get E.cases M.layout).asks s d n w bs ↔ M.layout.asks s d n w bs }
+    ensures absent { (get : M → Option E) (v : _) → (E.cases.all.cases.meaning None ≡ None)
+        × ((one_of get E.cases M.layout).records (None, v) ≡ M.layout.records v)
+        × ((one_of get E.cases M.layout).slots (None, v) ≡ M.layout.slots v)
+        × ((one_of get E.cases M.layout).levels (None, v) ≡ M.layout.levels v) }
     ensures records { (get : M → Option E) (x : E.Meaning) (v : _) → (one_of get E.cases M.layout).records (Some x, v)
         ≡ E.cases.all.cases.records x ++ M.layout.records v }
     ensures slots { (get : M → Option E) (x : E.Meaning) (v : _) → (one_of get E.cases M.layout).slots (Some x, v)
@@ -105,6 +210,41 @@ pub fn oneofs_are_these<M: Fields, E: OneOf>()
         ↔ Choice (E.cases.all.cases.mine n) (v.1 ≡ u.1) ((v.0 ≡ u.0) × M.layout.Apart n v.1 u.1) }
     ensures same { (get : M → Option E) (a b : M) →
         (one_of get E.cases M.layout).Same a b ↔ ((get b ≡ get a) × M.layout.Same a b) }
+    ensures same_but { (get : M → Option E) (a b : M) →
+        (one_of get E.cases M.layout).SameBut a b ↔ ((get b ≡ get a) × M.layout.SameBut a b) }
+    ensures exact { (get : M → Option E) →
+        (one_of get E.cases M.layout).Exact ↔ (E.cases.all.cases.Exact × M.layout.Exact) }
+    ensures kept { (get : M → Option E) (v : _) (rs : List (ℕ × Datum)) →
+        ((one_of get E.cases M.layout).keeps ≡ M.layout.keeps)
+        × ((one_of get E.cases M.layout).kept v ≡ M.layout.kept v.1)
+        × ((one_of get E.cases M.layout).adds v rs ≡ (v.0, M.layout.adds v.1 rs)) }
+    ensures own_records { (get : M → Option E) (x : E.Meaning) (v : _) →
+        ((one_of get E.cases M.layout).own (None, v) ≡ M.layout.own v)
+        × ((one_of get E.cases M.layout).own (Some x, v) ≡ E.cases.all.cases.records x ++ M.layout.own v) }
+{}
+
+/// A oneof stands in front of a number, where a message of the message's own type has its place, if the number of its first case does.
+/// So does the case that is there, whatever its own number is.
+pub fn oneofs_in_front_are_these<M: Fields, E: OneOf>()
+    ensures front { (get : M → Option E) (j : ℕ) (x : E.Meaning) (v : _) → (one_of get E.cases M.layout).front j (Some x, v)
+        ≡ (if nat_lt E.cases.all.cases.place j then E.cases.all.cases.records x ++ M.layout.front j v else []) }
+    ensures behind { (get : M → Option E) (j : ℕ) (x : E.Meaning) (v : _) → (one_of get E.cases M.layout).behind j (Some x, v)
+        ≡ (if nat_lt E.cases.all.cases.place j then M.layout.behind j v else E.cases.all.cases.records x ++ M.layout.own v) }
+    ensures front_slots { (get : M → Option E) (j : ℕ) (x : E.Meaning) (v : _) (rest : List ℕ) →
+        (one_of get E.cases M.layout).front_slots j (Some x, v) rest ≡ (if nat_lt E.cases.all.cases.place j
+        then E.cases.all.cases.slots x ++ M.layout.front_slots j v rest else rest) }
+    ensures slots_behind { (get : M → Option E) (j : ℕ) (x : E.Meaning) (v : _) →
+        (one_of get E.cases M.layout).slots_behind j (Some x, v) ≡ (if nat_lt E.cases.all.cases.place j
+        then M.layout.slots_behind j v else E.cases.all.cases.slots x ++ M.layout.slots v) }
+    ensures absent { (get : M → Option E) (j : ℕ) (v : _) (rest : List ℕ) →
+        ((one_of get E.cases M.layout).front j (None, v) ≡ (if nat_lt E.cases.all.cases.place j then M.layout.front j v else []))
+        × ((one_of get E.cases M.layout).behind j (None, v)
+        ≡ (if nat_lt E.cases.all.cases.place j then M.layout.behind j v else M.layout.own v)) }
+    ensures absent_slots { (get : M → Option E) (j : ℕ) (v : _) (rest : List ℕ) →
+        ((one_of get E.cases M.layout).front_slots j (None, v) rest
+        ≡ (if nat_lt E.cases.all.cases.place j then M.layout.front_slots j v rest else rest))
+        × ((one_of get E.cases M.layout).slots_behind j (None, v)
+        ≡ (if nat_lt E.cases.all.cases.place j then M.layout.slots_behind j v else M.layout.slots v)) }
 {}
 
 /// A field of a case that is refused leaves what stands, where its value would take the place of that, and where another case stands,

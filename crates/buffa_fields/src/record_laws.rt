@@ -187,6 +187,12 @@ pub fn fields_go_to_their_members<M: Fields, N: Keeping>()
         (field k get N.shape M.layout).takes d v k w p ≡ option_map (λ u. (u, v.1)) (N.shape.takes d v.0 k w p) }
     ensures others { (d k n : ℕ) (get : M → N.Part) (v : _) (w : _) (p : List ℕ) → n ≢ k →
         (field k get N.shape M.layout).takes d v n w p ≡ option_map (λ u. (v.0, u)) (M.layout.takes d v.1 n w p) }
+    ensures own_need { (d k : ℕ) (get : M → N.Part) (w : _) (bs : List ℕ) →
+        ((field k get N.shape M.layout).need d k w bs ≡ N.shape.need d k w bs)
+        × ((field_kept k get N.shape N.aside M.layout).need d k w bs ≡ N.aside.need d k w bs) }
+    ensures other_needs { (d k n : ℕ) (get : M → N.Part) (w : _) (bs : List ℕ) → n ≢ k →
+        ((field k get N.shape M.layout).need d n w bs ≡ M.layout.need d n w bs)
+        × ((field_kept k get N.shape N.aside M.layout).need d n w bs ≡ M.layout.need d n w bs) }
     ensures own_aside { (d k : ℕ) (get : M → N.Part) (v : _) (w : _) (p : List ℕ) →
         (field_kept k get N.shape N.aside M.layout).takes d v k w p
         ≡ option_map (λ u. (u.0, M.layout.adds v.1 u.1)) (N.aside.takes d (v.0, []) k w p) }

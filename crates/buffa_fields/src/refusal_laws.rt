@@ -2,18 +2,27 @@
 //!
 //! The words of `MapCodec` and `MessageSpec` that these cite are pinned by the laws of the crates below.
 
-ghost use Rattle.std.specs.Prelude.{◌≡◌, ◌≢◌, ◌⊎◌, ◌↔◌, ◌<◌, ◌+◌, ℕ, List, [], ◌++◌, None, Some, Ok, Err, IsOk, suc, true};
+ghost use Rattle.std.specs.Prelude.{◌≡◌, ◌≢◌, ◌⊎◌, ◌↔◌, ◌<◌, ◌≤◌, ◌+◌, ℕ, List, [], ◌++◌, None, Some, Ok, Err, IsOk, false, length, suc, true};
 ghost use Rattle.buffa_bytes.specs.Content.{content_at};
-ghost use Rattle.buffa_bytes.specs.Front.{check_wire, delimited_at, skip_at, tag_at};
-ghost use Rattle.buffa_bytes.specs.declared.error.DecodeError.TheVariants.{InvalidEndGroup, OutOfMemory, RecursionLimitExceeded};
+ghost use Rattle.buffa_bytes.specs.Front.{check_wire, delimited_at, skip_at, tag_at, varint_at};
+ghost use Rattle.buffa_bytes.specs.declared.error.DecodeError.TheVariants.{InvalidEndGroup, OutOfMemory, RecursionLimitExceeded, UnknownFieldLimitExceeded};
+ghost use Rattle.buffa_bytes.specs.Values.{int32_of};
+ghost use Rattle.buffa_bytes.specs.Varint.{IsVarint};
+ghost use Rattle.buffa_wire.specs.Enums.{numbers};
 ghost use Rattle.buffa_wire.specs.Message.{BeginsField, MergeFault};
+ghost use Rattle.buffa_wire.specs.RecordReading.{RecordTakesMemory, field_at};
+ghost use Rattle.buffa_wire.specs.Records.{Datum, bytes};
 ghost use Rattle.buffa_map.specs.Codec.{HoldsNothing, ReadingTakesMemory, value_at};
-ghost use Rattle.buffa_map.specs.Entry.{EntryFault, IsEntry};
+ghost use Rattle.buffa_map.specs.Entry.{EntryFault, IsEntry, entry_of, need_of};
 ghost use Rattle.buffa_map.specs.Fields.{EntryFieldsTakeMemory};
 ghost use Rattle.buffa_map.specs.declared.map_entry.MapEntry.{MapEntry};
+ghost use Rattle.buffa_fields.specs.KeptLists.{varints};
+ghost use Rattle.buffa_fields.specs.KeptMaps.{IsUndeclaredAt};
 ghost use Rattle.buffa_fields.specs.Lists.{element_at, elements_in};
+ghost use Rattle.buffa_fields.specs.Refusals.{RefusesElements};
 
 use crate::group::Group;
+use crate::keeping::Keeping;
 use crate::map_member::MapOf;
 use crate::member::Member;
 use crate::nested::Nested;
@@ -23,8 +32,8 @@ use crate::proto_type::ProtoType;
 use crate::repeated::Repeated;
 use crate::repeated_group::RepeatedGroup;
 use crate::repeated_nested::RepeatedNested;
-use buffa_map::map_codec::MapCodec;
-use buffa_wire::{MapKey, Message, WireType};
+use buffa_map::map_codec::{ClosedEnum, MapCodec};
+use buffa_wire::{Enumeration, MapKey, Message, WireType};
 use std::hash::Hash;
 
 /// A refused value is as it was; unless memory ran out, the error is that of the wire type, or of the payload. Memory is asked for
@@ -69,6 +78,13 @@ pub fn refused_elements_are_not_put<C: ProtoType>()
         ↔ (((w ≡ C.reading.wire) × IsOk (content_at C.reading.wire bs))
         ⊎ ((w ≡ WireType.LengthDelimited) × (b : List ℕ) × (rest : List ℕ) × (delimited_at bs ≡ Ok (b, rest))
         × IsOk (content_at C.reading.wire b))) }
+{}
+
+/// What a list says of wire types: length-delimited ones are packed elements, and else it takes that of its codec.
+pub fn lists_take_these_wire_types<C: ProtoType>()
+    ensures packed { (n : ℕ) → ⟦<Repeated<C> as Member>⟧.shape.checks n WireType.LengthDelimited ≡ Ok tt }
+    ensures one { (n : ℕ) (w : _) → w ≢ WireType.LengthDelimited →
+        ⟦<Repeated<C> as Member>⟧.shape.checks n w ≡ check_wire n C.WIRE_TYPE w }
 {}
 
 /// A refused field neither puts a message there nor takes one away. One that stood is as it was where the wire type is another
@@ -133,4 +149,55 @@ where
         × (b : List ℕ) × (rest : List ℕ) × (delimited_at bs ≡ Ok (b, rest))
         × (EntryFieldsTakeMemory KC.reading VC.reading d b OutOfMemory
         ⊎ ((s : MapEntry KC.Value.Meaning VC.Value.Meaning) × IsEntry KC.reading VC.reading d b s × (s.known ≡ true)))) }
+{}
+
+/// A refused entry of a map that puts undeclared ones aside isn't put, and none is put aside. Unless memory ran out, the error is that
+/// of the wire type, or one of the entry's, which costs an unknown field more where it is undeclared. Memory is asked for where the
+/// bytes of an entry may be kept, where a field of it takes some, and where it is put or kept.
+pub fn refused_kept_entries_are_not_put<KC: MapCodec, VC: MapCodec>()
+where
+    KC::Value: MapKey + Hash,
+    ensures refuses { (d : ℕ) (v : _) (n : ℕ) (w : _) (bs : List ℕ) (left : _) (e : _) (u : _) →
+        ⟦<MapOf<KC, VC> as Keeping>⟧.aside.refuses d v n w bs left e u ↔ ((v ≡ u)
+        × (e ≢ OutOfMemory → (check_wire n WireType.LengthDelimited w ≡ Err e) ⊎ ((w ≡ WireType.LengthDelimited)
+        × EntryFault KC.reading VC.reading d (KC.COST + VC.COST) 1 left bs e))) }
+    ensures asks { (left d n : ℕ) (w : _) (bs : List ℕ) → ⟦<MapOf<KC, VC> as Keeping>⟧.aside.asks left d n w bs
+        ↔ ((w ≡ WireType.LengthDelimited)
+        × (b : List ℕ) × (rest : List ℕ) × (delimited_at bs ≡ Ok (b, rest))
+        × (((VC.reading.undeclared ≡ true) × (b ≢ []))
+        ⊎ (EntryFieldsTakeMemory KC.reading VC.reading d b OutOfMemory
+        ⊎ ((s : MapEntry KC.Value.Meaning VC.Value.Meaning) × IsEntry KC.reading VC.reading d b s × ((s.known ≡ true)
+        ⊎ ((need_of KC.reading VC.reading d (KC.COST + VC.COST) b).unknown + 1 ≤ left)))))) }
+    ensures fault { (d n : ℕ) (t e more : List ℕ) (f : _) → IsVarint t (length e) → entry_of KC.reading VC.reading d e ≡ Err f →
+        ⟦<MapOf<KC, VC> as Keeping>⟧.aside.need d n WireType.LengthDelimited ((t ++ e) ++ more)
+        ≡ need_of KC.reading VC.reading d (KC.COST + VC.COST) e }
+    ensures undeclared { (d : ℕ) (e : List ℕ) → IsUndeclaredAt KC.reading VC.reading d e
+        ↔ ((s : MapEntry KC.Value.Meaning VC.Value.Meaning) × IsEntry KC.reading VC.reading d e s × (s.known ≡ false)) }
+    ensures aside { (x : Datum) → ⟦<MapOf<KC, VC> as Keeping>⟧.aside.IsAside x → (e : List ℕ) × (x ≡ bytes e)
+        × ((d : ℕ) → ⟦<MapOf<KC, VC> as Keeping>⟧.aside.levels x ≤ d →
+        (s : MapEntry KC.Value.Meaning VC.Value.Meaning) × IsEntry KC.reading VC.reading d e s × (s.known ≡ false)) }
+{}
+
+/// A refused number of a closed enum leaves the value. Unless memory ran out, the error is that of the wire type, of the varint, or
+/// of a record that is kept, where the number is undeclared. Memory is asked for where such a record is kept. A refused field
+/// of a list leaves the list: the error is that of the same field of varints, or it has more undeclared ones than unknown fields
+/// are left.
+pub fn refused_numbers_are_not_put<E: Enumeration>()
+    ensures refuses { (d : ℕ) (v : _) (n : ℕ) (w : _) (bs : List ℕ) (left : _) (e : _) (u : _) →
+        ⟦<Optional<ClosedEnum<E>> as Keeping>⟧.aside.refuses d v n w bs left e u ↔ ((v ≡ u)
+        × (e ≢ OutOfMemory → (check_wire n WireType.Varint w ≡ Err e) ⊎ ((varint_at bs ≡ Err e)
+        ⊎ ((k : ℕ) × (rest : List ℕ) × (varint_at bs ≡ Ok (k, rest))
+        × ((numbers E.of_number E.blank_is).declares (int32_of k) ≡ false) × (field_at d left.unknown n w bs ≡ Err e))))) }
+    ensures asks { (left d n : ℕ) (w : _) (bs : List ℕ) → ⟦<Optional<ClosedEnum<E>> as Keeping>⟧.aside.asks left d n w bs
+        ↔ ((w ≡ WireType.Varint) × (k : ℕ) × (rest : List ℕ) × (varint_at bs ≡ Ok (k, rest))
+        × ((numbers E.of_number E.blank_is).declares (int32_of k) ≡ false)
+        × (RecordTakesMemory d left w bs ⊎ IsOk (field_at d left n w bs))) }
+    ensures list { (d : ℕ) (v : _) (n : ℕ) (w : _) (bs : List ℕ) (left : _) (e : _) (u : _) →
+        ⟦<Repeated<ClosedEnum<E>> as Keeping>⟧.aside.refuses d v n w bs left e u ↔ ((v ≡ u)
+        × (e ≢ OutOfMemory → ((ks : List ℕ) × RefusesElements varints d [] n w bs e ks) ⊎ ((e ≡ UnknownFieldLimitExceeded)
+        × (left.unknown < (⟦<Repeated<ClosedEnum<E>> as Keeping>⟧.aside.need d n w bs).unknown)))) }
+    ensures list_asks { (left d n : ℕ) (w : _) (bs : List ℕ) → ⟦<Repeated<ClosedEnum<E>> as Keeping>⟧.aside.asks left d n w bs
+        ↔ (((w ≡ WireType.Varint) × IsOk (content_at WireType.Varint bs))
+        ⊎ ((w ≡ WireType.LengthDelimited) × (b : List ℕ) × (rest : List ℕ) × (delimited_at bs ≡ Ok (b, rest))
+        × IsOk (content_at WireType.Varint b))) }
 {}

@@ -3,11 +3,16 @@
 //!
 //! The words of `MapCodec` and `MessageSpec` that these cite are pinned by the laws of the crates below.
 
-ghost use Rattle.std.specs.Prelude.{◌≡◌, ◌↔◌, ◌+◌, ◌<◌, ◌^◌, ℕ, List, [], ◌∷◌, ◌++◌, None, Some, false, length, map, max, min, ◌-◌, suc, true};
+ghost use Rattle.std.specs.Prelude.{◌≡◌, ◌≢◌, ◌↔◌, ◌+◌, ◌<◌, ◌^◌, ℕ, List, [], ◌∷◌, ◌++◌, None, Some, false, length, map, max, min, ◌-◌, suc, true};
 ghost use Rattle.std.specs.List.{concat};
+ghost use Rattle.buffa_bytes.specs.Front.{delimited_at};
 ghost use Rattle.buffa_bytes.specs.Varint.{IsVarint};
+ghost use Rattle.buffa_wire.specs.BudgetLeft.{need_by, nothing};
+ghost use Rattle.buffa_wire.specs.Parse.{Fits};
 ghost use Rattle.buffa_wire.specs.Records.{bytes, group, records_of};
 ghost use Rattle.buffa_map.specs.Encoding.{entry_encoding};
+ghost use Rattle.buffa_map.specs.Entry.{need_of};
+ghost use Rattle.buffa_map.specs.Message.{message_reading};
 ghost use Rattle.buffa_map.specs.Scalars.{delimited_writing};
 ghost use Rattle.buffa_fields.specs.Layout.{is_number};
 
@@ -62,6 +67,8 @@ pub fn messages_are_written<N: Message>()
     ensures slots { (v : _) → ⟦<Nested<N> as Member>⟧.shape.slots (Some v)
         ≡ min (length (N.encoding v)) (2 ^ 32 - 1) ∷ N.slots v }
     ensures levels { (v : _) → ⟦<Nested<N> as Member>⟧.shape.levels (Some v) ≡ suc (N.levels v) }
+    ensures normal { (v : _) → ⟦<Nested<N> as Member>⟧.shape.normal (Some v)
+        ↔ (N.normal v × Fits (records_of (N.records v))) }
     ensures none { (⟦<RepeatedNested<N> as Member>⟧.shape.slots [] ≡ [])
         × (⟦<RepeatedNested<N> as Member>⟧.shape.levels [] ≡ 0) }
     ensures list_records { (n : ℕ) (vs : _) →
@@ -126,6 +133,24 @@ where
         (⟦<OrderedMapOfNested<KC, N> as Member>⟧.shape.records n v ≡ ⟦<MapOfNested<KC, N> as Member>⟧.shape.records n v)
         × (⟦<OrderedMapOfNested<KC, N> as Member>⟧.shape.slots v ≡ ⟦<MapOfNested<KC, N> as Member>⟧.shape.slots v)
         × (⟦<OrderedMapOfNested<KC, N> as Member>⟧.shape.levels v ≡ ⟦<MapOfNested<KC, N> as Member>⟧.shape.levels v) }
+{}
+
+/// A field of a map, where a length and so many bytes are there, costs the units of a pair, and what the messages in its entry cost, also
+/// where the entry is refused. One of another wire type costs nothing.
+#[tactic(auto, unfolding(crate::specs::Entries::entry_cost))]
+pub fn entries_cost_what_is_in_them<KC: MapCodec, VC: MapCodec, N: Message>()
+where
+    KC::Value: MapKey + Hash + OrderedKey,
+    ensures map { (d n : ℕ) (bs : List ℕ) → ⟦<MapOf<KC, VC> as Member>⟧.shape.need d n WireType.LengthDelimited bs
+        ≡ need_by (delimited_at bs) (λ e. need_of KC.reading VC.reading d (KC.COST + VC.COST) e.0) }
+    ensures messages { (d n : ℕ) (bs : List ℕ) → ⟦<MapOfNested<KC, N> as Member>⟧.shape.need d n WireType.LengthDelimited bs
+        ≡ need_by (delimited_at bs)
+        (λ e. need_of KC.reading (message_reading N.blank_is N.merged N.cost) d (KC.COST + N.COST) e.0) }
+    ensures wire { (d n : ℕ) (w : _) (bs : List ℕ) → w ≢ WireType.LengthDelimited →
+        (⟦<MapOf<KC, VC> as Member>⟧.shape.need d n w bs ≡ nothing)
+        × (⟦<MapOfNested<KC, N> as Member>⟧.shape.need d n w bs ≡ nothing) }
+    ensures alike { (⟦<OrderedMapOf<KC, VC> as Member>⟧.shape.need ≡ ⟦<MapOf<KC, VC> as Member>⟧.shape.need)
+        × (⟦<OrderedMapOfNested<KC, N> as Member>⟧.shape.need ≡ ⟦<MapOfNested<KC, N> as Member>⟧.shape.need) }
 {}
 
 /// Fields of values and of lists of values cost nothing. A field of a message costs what its bytes cost one level down, and in
