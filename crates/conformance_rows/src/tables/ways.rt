@@ -554,13 +554,20 @@ impl Run<'_> {
         }
     }
 
-    /// The first fifty requests for memory refused in turn, and the last ten, of a row that is run once.
+    // Whether the call makes no more requests than the row says, where it says how many.
+    fn is_within(&self, all: u64) -> Result<bool, Fault> {
+        Ok(all <= self.case.number_or("requests", all)?)
+    }
+
+    /// The first fifty requests for memory refused in turn, and the last ten, of a row that is run once, and whether there are
+    /// no more than it says.
     pub fn refused_at_ends<C: CallsOnBytes>(&self, alloc: Global, bytes: &[u8], tally: &mut Tally) {
         let Ok(step) = self.case.number_or("step", 0) else {
             return tally.add(false);
         };
         let may = self.may_stand_at_ends::<C>(alloc, bytes, step as usize, tally);
         let all = self.count::<C>(alloc, bytes, tally);
+        tally.add_told(self.is_within(all));
         self.some_refused::<C>(alloc, bytes, (1, all.min(50)), may.as_str(), tally);
         let last = all.saturating_sub(9).max(51);
         self.some_refused::<C>(alloc, bytes, (last, all), may.as_str(), tally);
