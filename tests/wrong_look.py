@@ -60,7 +60,7 @@ class Look(Edit):
         found = set()
         for file, _, new in self.pairs:
             ghost = " ".join(GHOST.findall(new)) if file.endswith(".rt") else new
-            bound = {it for names in re.findall(r"[λ∀]([^.]*)\.", ghost) for it in names.split()} | {*re.findall(r"(?:struct|enum|fn) (\w+)", new)}
+            bound = {it for names in re.findall(r"[λ∀]([^.]*)\.", ghost) for it in names.split()} | {*re.findall(r"(?:struct|enum|fn|pub) (\w+)", new)}
             found |= {it for it in words(ghost) if it not in known and it not in bound}
         return sorted(found)
 
