@@ -57,11 +57,11 @@ class Look(Edit):
 
     def strange_words(self, known):
         """The words of its clauses that stand nowhere else."""
-        found = set()
+        found, own = set(), {it for _, _, new in self.pairs for it in re.findall(r"\b(?:struct|enum|fn|pub) (?!struct\b|enum\b|fn\b)(\w+)", new)}
         for file, _, new in self.pairs:
             ghost = " ".join(GHOST.findall(new)) if file.endswith(".rt") else new
-            bound = {it for names in re.findall(r"[λ∀]([^.]*)\.", ghost) for it in names.split()} | {*re.findall(r"(?:struct|enum|fn|pub) (\w+)", new)}
-            found |= {it for it in words(ghost) if it not in known and it not in bound}
+            bound = {it for names in re.findall(r"[λ∀]([^.]*)\.", ghost) for it in names.split()}
+            found |= {it for it in words(ghost) if it not in known and it not in bound | own}
         return sorted(found)
 
 
