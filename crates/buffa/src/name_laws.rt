@@ -36,12 +36,13 @@ use crate::fields::{
 };
 use crate::map_codec::{MapCodec, MapStorage, MapValueDecode};
 use crate::{
-    Blank, Buf, DEFAULT_ELEMENT_MEMORY_LIMIT, DEFAULT_UNKNOWN_FIELD_LIMIT, Enumeration, Limited,
-    MAX_FIELD_NUMBER, MAX_MESSAGE_BYTES, Map, MapKey, Message, MessageSpec, Pieces,
-    RECURSION_LIMIT, fields, laws, map_codec, samples,
+    Blank, Buf, DEFAULT_ELEMENT_MEMORY_LIMIT, DEFAULT_UNKNOWN_FIELD_LIMIT, DoubleBits, Enumeration,
+    FloatBits, Limited, MAX_FIELD_NUMBER, MAX_MESSAGE_BYTES, Map, MapKey, Message, MessageSpec,
+    Pieces, RECURSION_LIMIT, fields, laws, map_codec, samples,
 };
 use buffa_codec::laws::{numbers_are_read, the_last_record_is_read};
 use buffa_wire::MessageMeaning;
+use bytes::Bytes;
 use std::hash::Hash;
 
 /// The limits: how deep and with which budget is read where nothing else is said, and what is too large.
@@ -127,6 +128,26 @@ pub fn extension_codecs_are_these<E: Enumeration, M: Message, P: PackableCodec>(
     numbers_are_read::<codecs::EnumCodec<E>>();
     the_last_record_is_read::<codecs::StringCodec>();
     the_last_record_is_read::<codecs::BytesCodec>();
+}
+
+// A codec of extensions has values of this type.
+fn has_values<C: SingularCodec<Value = V>, V>() {}
+
+// A codec of map fields has values of this type.
+fn maps_values<C: MapValueDecode<Value = V>, V>() {}
+
+/// Which values the codecs have that are read alike: reals have the bits of numbers, and bytes are shared or not.
+pub fn values_of_codecs_are_these() {
+    has_values::<codecs::Fixed32, u32>();
+    has_values::<codecs::Fixed64, u64>();
+    has_values::<codecs::Float, FloatBits>();
+    has_values::<codecs::Double, DoubleBits>();
+    maps_values::<map_codec::Fixed32, u32>();
+    maps_values::<map_codec::Fixed64, u64>();
+    maps_values::<map_codec::Float, FloatBits>();
+    maps_values::<map_codec::Double, DoubleBits>();
+    maps_values::<map_codec::BytesVec, Vec<u8>>();
+    maps_values::<map_codec::BytesBuf, Bytes>();
 }
 
 /// How each codec of map fields reads a payload, and how the usual map, [`Map`](crate::Map), is walked.
