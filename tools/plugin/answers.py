@@ -55,15 +55,16 @@ def answers(world, message):
 
 
 def answers_of_oneof(world, one):
-    """The file of the answers of `take`, by its name beside `src`: of each number behind the first case, that it is no case before it."""
-    if not any(k.is_number for k in one.cases[1:]):
+    """The file of the answers of `take`, by its name beside `src`: of each case that is a number, that it is no case before it."""
+    if len(one.cases) < 2 or not any(k.is_number for k in one.cases):
         return None
     head = ".".join(it for it in ("Rattle", world.crate, "proofs", world.module, snake(one.enum)) if it)
     facts = "buffa.specs.Members" if world.over == "buffa" else "buffa_fields.specs.LayoutFacts"
-    made = ["use Rattle.std.proofs.Common.{rules, sym, ◌∙◌}", f"use Rattle.{facts}.{{chosen, not_chosen}}"]
+    words = "chosen, not_chosen" if any(k.is_number for k in one.cases[1:]) else "chosen"
+    made = ["use Rattle.std.proofs.Common.{rules, sym, ◌∙◌}", f"use Rattle.{facts}.{{{words}}}"]
     made += [f"use {head}.{one.enum}OneOf.take.Goals as goal"]
     for at, case in enumerate(one.cases):
-        if not at or not case.is_number:
+        if not case.is_number:
             continue
         name, read = f"returns-in_ok-it-in-{case.number}", f"c.in_ok-it-in-{case.number}.ensures.ok"
         term = f"chosen _ n {case.number} is (let read = {read} in search (rules, read))"

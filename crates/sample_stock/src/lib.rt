@@ -2,6 +2,7 @@
 //! `messages/` are what `tools/protoc-gen-buffa` made of `stock.proto`. No crate depends on this one.
 #![tactic(auto)]
 
+pub mod again;
 pub mod counts;
 pub mod laws;
 pub mod limits;
