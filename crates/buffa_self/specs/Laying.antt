@@ -1,0 +1,66 @@
+-- How a message that holds itself is laid out: its members, one after the other, by what is told of the messages inside.
+-- Source: the protobuf encoding guide, "Message Structure" and "Submessages".
+use Rattle.std.specs.Prelude.{◌≡◌, ◌≤◌, ◌<◌, ℕ, suc, true, List, Option, Some, length}
+use Rattle.std.proofs.Common.{get_or}
+use Rattle.buffa_wire.specs.BudgetLeft.{BudgetLeft}
+use Rattle.buffa_wire.specs.Takes.{Taker}
+use Rattle.buffa_fields.specs.Layout.{Layout, Shape}
+use Rattle.buffa_self.specs.Apart.{taken_apart}
+use Rattle.buffa_self.specs.Words.{AreExactBy, Words}
+
+-- ---- words that are alike
+module _ {X : Type 0} (v w : Words X) where
+  -- in what is merged a level below
+  abbrev pub MergeAlike : ℕ → Type 0
+  MergeAlike d = (v.blank ≡ w.blank) × ((e : ℕ) → suc e ≡ d → v.merged e ≡ w.merged e)
+
+  abbrev pub CostAlike : ℕ → Type 0
+  CostAlike d = (v.each ≡ w.each) × ((e : ℕ) → suc e ≡ d → v.cost e ≡ w.cost e)
+
+  -- in what is told of a message
+  abbrev pub SayAlike : X → Type 0
+  SayAlike x = (v.records x ≡ w.records x) × (v.slots x ≡ w.slots x) × (v.levels x ≡ w.levels x) × (v.normal x → w.normal x)
+
+-- lists of members that are, of a value
+abbrev pub LaidAlike : {M Y : Type 0} → Layout M Y → Layout M Y → Y → Type 0
+LaidAlike l m y = (l.records y ≡ m.records y) × (l.slots y ≡ m.slots y) × (l.levels y ≡ m.levels y) × (l.normal y → m.normal y)
+
+-- What a type of messages is that hold themselves; its values are knots, of which a member may hold some.
+pub record Laying (X : Type 0) : Type 1 where
+  -- how high a value is, and those in a member: more than those in it
+  pub height : X → ℕ
+  -- those in a member that is a list, or that may hold one
+  pub Kids : Type 0
+  pub of_list : List X → Kids
+  pub list_of : Kids → List X
+  pub list_again : (xs : List X) → list_of (of_list xs) ≡ xs
+  pub kids_height : Kids → ℕ
+  pub kid_low : (xs : List X) (i : ℕ) (x : X) → i < length xs → height (get_or xs i x) ≤ kids_height (of_list xs)
+  pub Maybe : Type 0
+  pub of_option : Option X → Maybe
+  pub option_of : Maybe → Option X
+  pub option_again : (o : Option X) → option_of (of_option o) ≡ o
+  pub maybe_height : Maybe → ℕ
+  pub one_low : (x : X) → height x ≤ maybe_height (of_option (Some x))
+  -- a value as what its members mean, one after the other, and back; and the default
+  pub Y : Type 0
+  pub out : X → Y
+  pub into : Y → X
+  pub again : (y : Y) → out (into y) ≡ y
+  pub blank : Y
+  -- what the members owe that hold other messages, for reading back and for exact levels
+  pub Owes : Type 0
+  pub Exact : Type 0
+  pub layout : Words X → Layout X Y
+  pub meaning_is : (w : Words X) (x : X) → (layout w).meaning x ≡ out x
+  pub blank_is : (w : Words X) → (layout w).blank ≡ blank
+  -- by words that are alike members are
+  pub takes_alike : (v w : Words X) (d : ℕ) → MergeAlike v w d → (layout v).takes d ≡ (layout w).takes d
+  pub need_alike : (v w : Words X) (d : ℕ) → CostAlike v w d → (layout v).need d ≡ (layout w).need d
+  pub say_alike : (v w : Words X) (x : X) → ((k : X) → height k < height x → SayAlike v w k) → LaidAlike (layout v) (layout w) (out x)
+  pub owes : (w : Words X) → Owes → (layout w).Owes
+  pub exact : (w : Words X) → Exact → AreExactBy w → (layout w).Exact
+
+-- what a field makes of a value, by the members
+abbrev pub whole_takes : {X : Type 0} (o : Laying X) → Words X → Taker X
+whole_takes o w = taken_apart o.into o.out (o.layout w).takes

@@ -1,0 +1,8 @@
+-- The words that this crate hands out.
+pub mod Apart
+pub mod ApartFacts
+pub mod Knots
+pub mod Words
+pub mod Laying
+pub mod Tied
+pub mod TiedFacts

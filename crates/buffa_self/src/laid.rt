@@ -1,0 +1,10 @@
+//! What a type of messages that hold themselves is.
+
+ghost use Rattle.std.specs.Prelude.{◌≡◌};
+
+/// One.
+pub fn one() -> u8
+    ensures { result ≡ 1 }
+{
+    1
+}

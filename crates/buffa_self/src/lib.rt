@@ -1,0 +1,4 @@
+//! Messages that hold themselves, anywhere among their members.
+#![tactic(auto)]
+
+pub mod laid;
