@@ -6,3 +6,5 @@ pub mod Words
 pub mod Laying
 pub mod Tied
 pub mod TiedFacts
+pub mod Told
+pub mod ToldFacts

@@ -14,11 +14,11 @@ use Rattle.buffa_self.specs.Tied.{IsNormalLaid, IsSound, layer, layers}
 use Rattle.buffa_self.specs.Words.{Words}
 
 -- takers that are the same at a depth make the same of bytes there, and so do costs
-merged_alike : {X : Type 0} (f g : Taker X) (d : ℕ) → f d ≡ g d → merged_of f d ≡ merged_of g d
+pub merged_alike : {X : Type 0} (f g : Taker X) (d : ℕ) → f d ≡ g d → merged_of f d ≡ merged_of g d
 unfolding merged_of
 merged_alike f g d same = λ i v b. merged_by (λ v n w bs. skip_at d n w bs >>= (λ rest. answer rest (same i v n w (front_of bs rest)))) v b
 
-costs_alike : (f g : Need) (d : ℕ) → f d ≡ g d → cost_of f d ≡ cost_of g d
+pub costs_alike : (f g : Need) (d : ℕ) → f d ≡ g d → cost_of f d ≡ cost_of g d
 unfolding cost_of
 costs_alike f g d same = λ i b. cost_by (same i) d b
 

@@ -1,0 +1,58 @@
+-- What is proved of the words of a type of messages that hold themselves: they are what its members say, by these words.
+use Rattle.std.proofs.Common.{◌≡◌, ℕ, zero, suc, ◌+◌, ◌<◌, ◌≤◌, List, [], ◌∷◌, ◌++◌, Option, Some, None, Result, Ok, Err, OnOk, IfErr, refl, sym, ap, subst, ◌∙◌, arith}
+use Rattle.std.specs.Option.{option_map}
+use Rattle.buffa_wire.specs.Encoding.{records_encoding}
+use Rattle.buffa_wire.specs.Takes.{cost_of, merged_of}
+use Rattle.buffa_self.specs.Laying.{LaidAlike, Laying, SayAlike, whole_takes}
+use Rattle.buffa_self.specs.Tied.{IsNormalLaid, IsSound, layers}
+use Rattle.buffa_self.specs.TiedFacts.{cost_more, costs_alike, merged_alike, merged_more, say_more}
+use Rattle.buffa_self.specs.Told.{told, told_layout}
+use Rattle.buffa_self.specs.Words.{Words}
+
+module _ {X : Type 0} (each : ℕ) (o : Laying X) (sound : IsSound o) where
+  abbrev words : Words X
+  words = told each o sound
+
+  abbrev at : ℕ → Words X
+  at = layers each o sound
+
+  -- so many layers say of a level below what all do
+  pub merged_is : (d : ℕ) → words.merged d ≡ merged_of (whole_takes o words) d
+  merged_is d =
+      let alike = o.takes_alike (at d) words d (blanks d, λ e is. merged_more each o sound d (suc e) e (omega (arith, is)) (omega arith)) in
+      merged_alike (whole_takes o (at d)) (whole_takes o words) d (λ i y k w p. option_map o.into (alike i (o.out y) k w p))
+    where
+      blanks : (n : ℕ) → (at n).blank ≡ o.into o.blank
+      blanks zero = refl
+      blanks (suc n) = refl
+
+  pub cost_is : (d : ℕ) → words.cost d ≡ cost_of (told_layout each o sound).need d
+  cost_is d =
+      let alike = o.need_alike (at d) words d (eachs d, λ e is. cost_more each o sound d (suc e) e (omega (arith, is)) (omega arith)) in
+      costs_alike (o.layout (at d)).need (o.layout words).need d alike
+    where
+      eachs : (n : ℕ) → (at n).each ≡ each
+      eachs zero = refl
+      eachs (suc n) = refl
+
+  -- and of the values inside one what all do
+  pub says : (x : X) → LaidAlike (o.layout (at (o.height x))) (o.layout words) (o.out x)
+  says x = o.say_alike (at (o.height x)) words x (λ k low. say_more each o sound (o.height x) (suc (o.height k)) k low (omega arith))
+
+  pub says_back : (x : X) → LaidAlike (o.layout words) (o.layout (at (o.height x))) (o.out x)
+  says_back x = o.say_alike words (at (o.height x)) x (λ k low. say_more each o sound (suc (o.height k)) (o.height x) k (omega arith) low)
+
+  pub records_are : (x : X) → words.records x ≡ (o.layout words).records (o.out x)
+  records_are x = (says x).0
+
+  pub slots_are : (x : X) → words.slots x ≡ (o.layout words).slots (o.out x)
+  slots_are x = (says x).1
+
+  pub levels_are : (x : X) → words.levels x ≡ (o.layout words).levels (o.out x)
+  levels_are x = (says x).2
+
+  pub normal_is : (x : X) → words.normal x → IsNormalLaid each o words x
+  normal_is x h = (h.0, h.1, (says x).3 h.2)
+
+  pub is_normal : (x : X) → IsNormalLaid each o words x → words.normal x
+  is_normal x h = (h.0, h.1, (says_back x).3 h.2)
