@@ -24,6 +24,16 @@ mutual
     nobody : Maybe W
     somebody : Knot W → Maybe W
 
+-- what a message has of its own, all or for some members, and its slots
+abbrev pub Rest : Type 0 → Type 0 → Type 0
+Rest W A = A × Slots W
+
+abbrev pub rest_of : {W : Type 0} → Knot W → Rest W W
+rest_of (knot o ss) = (o, ss)
+
+abbrev pub knot_of : {W : Type 0} → Rest W W → Knot W
+knot_of r = knot r.0 r.1
+
 -- the messages of a slot as a list, or as one that may be there, and back
 abbrev pub of_list : {W : Type 0} → List (Knot W) → Kids W
 of_list [] = no_kid

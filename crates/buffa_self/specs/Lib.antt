@@ -8,3 +8,7 @@ pub mod Tied
 pub mod TiedFacts
 pub mod Told
 pub mod ToldFacts
+pub mod KindFacts
+pub mod Kinds
+pub mod OpenFacts
+pub mod Open
