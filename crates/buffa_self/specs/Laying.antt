@@ -6,7 +6,7 @@ use Rattle.buffa_wire.specs.BudgetLeft.{BudgetLeft}
 use Rattle.buffa_wire.specs.Takes.{Taker}
 use Rattle.buffa_fields.specs.Layout.{Layout, Shape}
 use Rattle.buffa_self.specs.Apart.{taken_apart}
-use Rattle.buffa_self.specs.Words.{AreExactBy, Words}
+use Rattle.buffa_self.specs.Words.{AreExactBy, Words, as_other, list_shape, one_shape}
 
 -- ---- words that are alike
 module _ {X : Type 0} (v w : Words X) where
@@ -64,3 +64,10 @@ pub record Laying (X : Type 0) : Type 1 where
 -- what a field makes of a value, by the members
 abbrev pub whole_takes : {X : Type 0} (o : Laying X) → Words X → Taker X
 whole_takes o w = taken_apart o.into o.out (o.layout w).takes
+
+-- the members that hold messages of the type itself, by what is told of these
+abbrev pub kids_shape : {X : Type 0} (o : Laying X) → Words X → Shape o.Kids o.Kids
+kids_shape o w = as_other o.of_list o.list_of (list_shape w)
+
+abbrev pub maybe_shape : {X : Type 0} (o : Laying X) → Words X → Shape o.Maybe o.Maybe
+maybe_shape o w = as_other o.of_option o.option_of (one_shape w)

@@ -30,7 +30,7 @@ module _ {X : Type 0} (each : ℕ) (o : Laying X) (sound : IsSound o) where
       ∙ (λ i. merged_more each o sound (suc d) n d (omega arith) (omega arith) i (o.into o.blank) (records_encoding (all.records x))) ∙ back
 
   -- the words of the type
-  abbrev pub told : Words X
+  unfoldable pub told : Words X
   told = record {
     each = each;
     blank = o.into o.blank;

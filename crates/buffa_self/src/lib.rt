@@ -2,3 +2,5 @@
 #![tactic(auto)]
 
 pub mod laid;
+pub mod sizes;
+pub mod visits;

@@ -1,0 +1,86 @@
+//! What is done with each member of a message that holds itself, one after the other.
+
+ghost use Rattle.std.specs.Prelude.{◌≡◌, ◌++◌, ◌<◌, [], ℕ, List};
+ghost use Rattle.std.specs.Option.{option_map};
+ghost use Rattle.buffa_bytes.specs.Number.{IsNumber};
+ghost use Rattle.buffa_fields.specs.Layout.{Comes, ReadsBackTo, Seen, more, visited};
+ghost use Rattle.buffa_self.specs.Laying.{kids_shape, maybe_shape};
+ghost use Rattle.buffa_self.specs.Told.{told};
+
+use crate::laid::Laid;
+use buffa_fields::member::Member;
+use buffa_wire::UnknownFields;
+
+/// What is done with each member: its length is added, or its encoding is written. M is the message's type.
+pub trait Visits<M: Laid> {
+    /// It has seen these records, and these sizes.
+    ghost IsAt: { Seen → Self → Type 0 };
+
+    /// The sizes of the messages in the members that it goes on to: these come next, in this order.
+    ghost Waits: { List ℕ → Self → Type 0 };
+
+    /// So do those of the first of these members.
+    ghost begins: { (ss rest : List ℕ) (v : Self) → Waits (ss ++ rest) v → Comes Waits ss v };
+
+    /// It may go into messages that are lower than this.
+    ghost Reaches: { ℕ → Self → Type 0 };
+
+    /// The next member, which is of another type.
+    ///
+    /// ```ignore
+    /// visitor.visit::<Plain<Str>>(1, &self.title);
+    /// ```
+    fn visit<N: Member>(&mut self, number: u32, part: &N::Part)
+        requires number { IsNumber number }
+        requires comes { Comes Waits (N.shape.slots (N.shape.meaning part.now)) self.old }
+        ensures seen { (z : Seen) → IsAt z self.old → IsAt (visited N.shape number part.now z) self.new }
+        ensures waits { (rest : List ℕ) → Waits (N.shape.slots (N.shape.meaning part.now) ++ rest) self.old →
+            Waits rest self.new }
+        ensures reaches { (h : ℕ) → Reaches h self.old → Reaches h self.new }
+        ensures back { ReadsBackTo N.shape };
+
+    /// The next member, which is a list of the message's own type.
+    ///
+    /// ```ignore
+    /// visitor.visit_list(2, &self.parts);
+    /// ```
+    fn visit_list(&mut self, number: u32, part: &Vec<M>)
+        requires number { IsNumber number }
+        requires comes { let s = kids_shape M.laying (told M.COST M.laying M.sound) in
+            Comes Waits (s.slots (M.laying.of_list part.now.items)) self.old }
+        requires low { (h : ℕ) × (M.laying.kids_height (M.laying.of_list part.now.items) < h) × Reaches h self.old }
+        ensures seen { let s = kids_shape M.laying (told M.COST M.laying M.sound) in
+            (z : Seen) → IsAt z self.old → IsAt (visited s number (M.laying.of_list part.now.items) z) self.new }
+        ensures waits { let s = kids_shape M.laying (told M.COST M.laying M.sound) in
+            (rest : List ℕ) → Waits (s.slots (M.laying.of_list part.now.items) ++ rest) self.old → Waits rest self.new }
+        ensures reaches { (h : ℕ) → Reaches h self.old → Reaches h self.new };
+
+    /// The next member, which may hold one message of the message's own type.
+    ///
+    /// ```ignore
+    /// visitor.visit_one(4, &self.beside);
+    /// ```
+    fn visit_one(&mut self, number: u32, part: &Option<Box<M>>)
+        requires number { IsNumber number }
+        requires comes { let s = maybe_shape M.laying (told M.COST M.laying M.sound) in
+            Comes Waits (s.slots (M.laying.of_option (option_map (λ b. b.value) part.now))) self.old }
+        requires low { (h : ℕ) × (M.laying.maybe_height (M.laying.of_option (option_map (λ b. b.value) part.now)) < h)
+            × Reaches h self.old }
+        ensures seen { let s = maybe_shape M.laying (told M.COST M.laying M.sound) in
+            (z : Seen) → IsAt z self.old →
+            IsAt (visited s number (M.laying.of_option (option_map (λ b. b.value) part.now)) z) self.new }
+        ensures waits { let s = maybe_shape M.laying (told M.COST M.laying M.sound) in
+            (rest : List ℕ) → Waits (s.slots (M.laying.of_option (option_map (λ b. b.value) part.now)) ++ rest) self.old →
+            Waits rest self.new }
+        ensures reaches { (h : ℕ) → Reaches h self.old → Reaches h self.new };
+
+    /// The fields that were kept.
+    ///
+    /// ```ignore
+    /// visitor.visit_kept(&self.rest);
+    /// ```
+    fn visit_kept(&mut self, fields: &UnknownFields)
+        ensures seen { (z : Seen) → IsAt z self.old → IsAt (more fields.now.records [] z) self.new }
+        ensures waits { (rest : List ℕ) → Waits rest self.old → Waits rest self.new }
+        ensures reaches { (h : ℕ) → Reaches h self.old → Reaches h self.new };
+}
