@@ -1,6 +1,9 @@
 //! Messages that hold themselves, anywhere among their members.
 #![tactic(auto)]
 
+pub mod inner;
 pub mod laid;
-pub mod sizes;
+mod sizes;
+pub mod takes;
 pub mod visits;
+mod writes;
