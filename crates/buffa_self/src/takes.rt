@@ -127,7 +127,7 @@ pub fn take_list<M: Laid + Drop, I: Inner<M>>(
     ctx: DecodeContext<'_>,
     inner: &I,
 ) -> Result<(), DecodeError>
-    requires { (d : ℕ) → d + 1 ≡ ctx.entry.depth → I.may inner.now d }
+    requires { (d : ℕ) → d + 1 ≡ ctx.depth → I.may inner.now d }
     ensures { Took (kids_shape M.laying (told M.COST M.laying M.sound)) ctx.entry.depth (M.laying.of_list list.old.items)
         tag.number tag.wire_type buf.old.now ctx.entry.budget.now result (M.laying.of_list list.new.items)
         (budget_left ctx.exit) buf.new.now }
@@ -213,7 +213,7 @@ pub fn take_one<M: Laid + Drop, I: Inner<M>>(
     ctx: DecodeContext<'_>,
     inner: &I,
 ) -> Result<(), DecodeError>
-    requires { (d : ℕ) → d + 1 ≡ ctx.entry.depth → I.may inner.now d }
+    requires { (d : ℕ) → d + 1 ≡ ctx.depth → I.may inner.now d }
     ensures { Took (maybe_shape M.laying (told M.COST M.laying M.sound)) ctx.entry.depth
         (M.laying.of_option (option_map (λ b. b.value) one.old)) tag.number tag.wire_type buf.old.now
         ctx.entry.budget.now result (M.laying.of_option (option_map (λ b. b.value) one.new)) (budget_left ctx.exit)
