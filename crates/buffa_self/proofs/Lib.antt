@@ -1,3 +1,4 @@
 -- The lemmas of this crate.
 pub mod ListLemmas
 pub mod TookLemmas
+pub mod PassLemmas

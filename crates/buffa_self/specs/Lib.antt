@@ -12,3 +12,4 @@ pub mod KindFacts
 pub mod Kinds
 pub mod OpenFacts
 pub mod Open
+pub mod VisitFacts

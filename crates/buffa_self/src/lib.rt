@@ -3,7 +3,10 @@
 
 pub mod inner;
 pub mod laid;
+pub mod selves;
+mod size_self;
 mod sizes;
 pub mod takes;
 pub mod visits;
+mod write_self;
 mod writes;
