@@ -2,3 +2,4 @@
 pub mod ListLemmas
 pub mod TookLemmas
 pub mod PassLemmas
+pub mod MergeLemmas

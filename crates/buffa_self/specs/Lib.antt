@@ -13,3 +13,4 @@ pub mod Kinds
 pub mod OpenFacts
 pub mod Open
 pub mod VisitFacts
+pub mod Refused

@@ -3,6 +3,7 @@
 
 pub mod inner;
 pub mod laid;
+mod merge_self;
 pub mod selves;
 mod size_self;
 mod sizes;
