@@ -37,6 +37,12 @@ module _ {X : Type 0} (each : ℕ) (o : Laying X) (sound : IsSound o) where
       eachs zero = refl
       eachs (suc n) = refl
 
+  pub merged_by_is : (d : ℕ) (v : X) (b : List ℕ) → words.merged d v b ≡ merged_of (whole_takes o words) d v b
+  merged_by_is d v b = λ i. merged_is d i v b
+
+  pub cost_by_is : (d : ℕ) (b : List ℕ) → words.cost d b ≡ cost_of (told_layout each o sound).need d b
+  cost_by_is d b = λ i. cost_is d i b
+
   -- and of the values inside one what all do
   pub says : (x : X) → LaidAlike (o.layout (at (o.height x))) (o.layout words) (o.out x)
   unfolding told

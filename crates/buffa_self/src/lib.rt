@@ -1,6 +1,7 @@
 //! Messages that hold themselves, anywhere among their members.
 #![tactic(auto)]
 
+pub mod form;
 pub mod inner;
 pub mod laid;
 mod merge_self;
