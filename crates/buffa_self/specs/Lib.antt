@@ -14,3 +14,4 @@ pub mod OpenFacts
 pub mod Open
 pub mod VisitFacts
 pub mod Refused
+pub mod ExactFacts

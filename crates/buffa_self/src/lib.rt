@@ -4,6 +4,7 @@
 pub mod form;
 pub mod inner;
 pub mod laid;
+pub mod laws;
 mod merge_self;
 pub mod selves;
 mod size_self;

@@ -1,7 +1,7 @@
 //! A part of a text, with the parts in it.
 
 ghost use Rattle.std.proofs.Common.{lit<, refl};
-ghost use Rattle.buffa_self.specs.Knots.{knot, many, no_slot, of_list, of_option, one};
+
 ghost use Rattle.buffa_self.specs.Open.{keeps, knotted, list_inside, member, one_inside};
 
 use buffa_fields::kept;
@@ -44,13 +44,13 @@ impl Model for Outline {
     ghost use Rattle.std.proofs.Common.{arith};
     ghost use Rattle.buffa_wire.specs.Code.{coded_datum};
     ghost use Rattle.buffa_wire.specs.Records.{Datum};
-    ghost use Rattle.buffa_self.specs.Knots.{Knot, coded_knot, knot_height, most-of_list};
+    ghost use Rattle.buffa_self.specs.Knots.{Knot, coded_knot, knot, knot_height, many, most-of_list, no_slot, of_list, of_option, one};
 
-    ghost Value = { Knot (List ℕ × ℤ × List (ℕ × Datum)) };
+    ghost Value = { Knot (List ℕ × (ℤ × List (ℕ × Datum))) };
 
     ghost coded = { coded_knot (coded× (coded_list coded_ℕ) (coded× coded_ℤ (coded_list (coded× coded_ℕ coded_datum)))) };
 
-    ghost view = { λ t. knot (⟦<Plain<Str> as Member>⟧.shape.meaning t.title, t.width, t.rest.records) (many (of_list t.parts.items) (one (of_option (option_map (λ b. b.value) t.beside)) no_slot)) };
+    ghost view = { λ t. knot (⟦<Plain<Str> as Member>⟧.shape.meaning t.title, (t.width, t.rest.records)) (many (of_list t.parts.items) (one (of_option (option_map (λ b. b.value) t.beside)) no_slot)) };
 
     ghost size = { knot_height };
 
