@@ -1,4 +1,12 @@
 //! Messages that hold themselves, anywhere among their members.
+//!
+//! The author writes a plain struct, and what he writes of any message; beside it a `Model`, by which contracts see the struct
+//! as what its members mean, with the messages inside. [`Laid`](laid::Laid) says what its members are,
+//! [`Selves`](selves::Selves) visits them and takes fields into them. The passes come to themselves again through a function
+//! that they hand on.
+//!
+//! `cut` of `takes.rt`, `kept_len` of `size_self.rt`, the two visitors of `size_self.rt` and `write_self.rt`, and
+//! `specs/Apart.antt` with its proofs are copies of what `buffa_fields` has and can't be named from here.
 #![tactic(auto)]
 
 pub mod form;
