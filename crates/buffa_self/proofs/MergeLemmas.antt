@@ -1,6 +1,5 @@
 -- What is proved of merging fields into messages that hold themselves.
-use Rattle.std.proofs.Common.{◌≡◌, ◌≢◌, ℕ, List, Result, Ok, Err, OnOk, IfErr, refl, sym, ap, subst, ◌∙◌}
-use Rattle.std.specs.Option.{option_map}
+use Rattle.std.proofs.Common.{◌≡◌, ◌≢◌, ℕ, List, Result, Ok, Err, OnOk, IfErr, refl, sym, subst}
 use Rattle.buffa_bytes.specs.Gives.{FullOnlyIf}
 use Rattle.buffa_bytes.specs.declared.error.DecodeError.{DecodeError}
 use Rattle.buffa_bytes.specs.declared.wire_type.WireType.{WireType}
@@ -9,7 +8,7 @@ use Rattle.buffa_wire.proofs.ByPayloadLemmas.{ByPayload, by_payload}
 use Rattle.buffa_wire.proofs.TakesLemmas.{taken_merges}
 use Rattle.buffa_wire.specs.BudgetLeft.{BudgetLeft}
 use Rattle.buffa_wire.specs.Message.{IsFieldMerged}
-use Rattle.buffa_wire.specs.Takes.{IsTaken, cost_of, merged_of}
+use Rattle.buffa_wire.specs.Takes.{IsTaken, merged_of}
 use Rattle.buffa_fields.specs.Layout.{Layout}
 use Rattle.buffa_fields.specs.LayoutFacts.{full_of, refused_of}
 use Rattle.buffa_fields.specs.PairFacts.{part_taken}

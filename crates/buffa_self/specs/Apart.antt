@@ -1,5 +1,4 @@
 -- A value that is told by another: what a field makes of the one, by what it makes of the other.
-use Rattle.std.specs.Prelude.{ℕ}
 use Rattle.std.specs.Option.{option_map}
 use Rattle.buffa_wire.specs.Takes.{Taker}
 

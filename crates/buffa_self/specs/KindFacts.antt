@@ -1,18 +1,16 @@
 -- What is proved of the kinds of members of a message that holds itself.
-use Rattle.std.proofs.Common.{◌≡◌, ℕ, zero, suc, ◌≤◌, ◌==◌, max, List, [], ◌∷◌, ◌++◌, length, Option, Some, None, Result, Ok, Err, refl, sym, ap, subst, ◌∙◌, arith, if◌then◌else◌}
+use Rattle.std.proofs.Common.{◌≡◌, ℕ, zero, suc, ◌≤◌, ◌==◌, max, List, [], ◌∷◌, ◌++◌, length, Option, None, Result, Ok, Err, refl, subst, arith, if◌then◌else◌}
 use Rattle.std.specs.List.{AllByRecursion}
 use Rattle.std.specs.Option.{option_map}
 use Rattle.buffa_bytes.specs.Front.{delimited_at}
-use Rattle.buffa_bytes.specs.Number.{IsNumber}
 use Rattle.buffa_bytes.specs.WireType.{same_wire}
 use Rattle.buffa_bytes.specs.declared.error.DecodeError.{DecodeError}
-use Rattle.buffa_bytes.specs.declared.wire_type.WireType.{WireType}
 use Rattle.buffa_bytes.specs.declared.wire_type.WireType.TheVariants.{LengthDelimited}
 use Rattle.buffa_wire.specs.BudgetLeft.{BudgetLeft, nothing, plus, units}
 use Rattle.buffa_wire.specs.Encoding.{records_encoding}
 use Rattle.buffa_wire.specs.Message.{cost_of_payload}
 use Rattle.buffa_wire.specs.Passes.{cap}
-use Rattle.buffa_wire.specs.Records.{Datum, bytes, records_of}
+use Rattle.buffa_wire.specs.Records.{bytes, records_of}
 use Rattle.buffa_wire.specs.Parse.{Fits}
 use Rattle.buffa_wire.specs.Takes.{ReadsBack}
 use Rattle.buffa_fields.specs.Framing.{cost_as, each_cost_as, taken_as}
@@ -22,7 +20,7 @@ use Rattle.buffa_fields.specs.Layout.{IsExactMember, ReadsBackTo, Shape}
 use Rattle.buffa_fields.specs.LevelKindFacts.{element_numbers, optional_numbers}
 use Rattle.buffa_fields.specs.Lists.{element_records}
 use Rattle.buffa_fields.specs.MemberRecords.{optional_records}
-use Rattle.buffa_fields.specs.Nested.{FitsInside, inside, message_levels, message_slots, taken_behind, taken_there}
+use Rattle.buffa_fields.specs.Nested.{FitsInside, inside, message_levels, message_slots, taken_there}
 use Rattle.buffa_fields.specs.RepeatedNested.{messages_levels, messages_slots}
 use Rattle.buffa_fields.specs.Values.{IfThere}
 use Rattle.buffa_self.specs.ApartFacts.{apart_back, apart_written}

@@ -1,6 +1,5 @@
 -- Kinds of members of a message that holds itself: each by what is told of the messages inside.
-use Rattle.std.specs.Prelude.{◌≡◌, ◌≤◌, ℕ, List, refl}
-use Rattle.buffa_wire.specs.Takes.{Taker}
+use Rattle.std.specs.Prelude.{◌≡◌, ◌≤◌, ℕ, refl}
 use Rattle.buffa_fields.specs.Layout.{ReadsBackTo, Shape}
 use Rattle.buffa_self.specs.KindFacts.{list_back, list_cost_alike, list_say_alike, list_takes_alike, meant_back, one_back, one_cost_alike, one_say_alike, one_takes_alike}
 use Rattle.buffa_self.specs.Knots.{Kids, Knot, Maybe, kids_height, knot_height, list_of, maybe_height, no_kid, nobody, of_list, of_option, option_of}

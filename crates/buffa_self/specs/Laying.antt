@@ -1,8 +1,7 @@
 -- How a message that holds itself is laid out: its members, one after the other, by what is told of the messages inside.
 -- Source: the protobuf encoding guide, "Message Structure" and "Submessages".
-use Rattle.std.specs.Prelude.{◌≡◌, ◌≤◌, ◌<◌, ℕ, suc, true, List, Option, Some, length}
+use Rattle.std.specs.Prelude.{◌≡◌, ◌≤◌, ◌<◌, ℕ, suc, List, Option, Some, length}
 use Rattle.std.proofs.Common.{get_or}
-use Rattle.buffa_wire.specs.BudgetLeft.{BudgetLeft}
 use Rattle.buffa_wire.specs.Takes.{Taker}
 use Rattle.buffa_fields.specs.Layout.{Layout, Shape}
 use Rattle.buffa_self.specs.Apart.{taken_apart}

@@ -1,13 +1,12 @@
 -- The members of a message that holds itself, one after the other. A message names them by these, and `knotted` is the message.
-use Rattle.std.specs.Prelude.{◌≡◌, ◌≤◌, ◌<◌, ◌==◌, not, ℕ, suc, List, [], ◌++◌, refl}
-use Rattle.std.proofs.Common.{◌∙◌, ap, sym, arith, max}
+use Rattle.std.specs.Prelude.{◌≡◌, ◌≤◌, ℕ, List, [], refl}
+use Rattle.std.proofs.Common.{◌∙◌, sym}
 use Rattle.buffa_wire.specs.Records.{Datum}
-use Rattle.buffa_fields.specs.Keep.{AllNumbers}
 use Rattle.buffa_fields.specs.Layout.{Layout, Shape}
 use Rattle.buffa_fields.specs.Members.{field, keep, skip}
 use Rattle.buffa_self.specs.Kinds.{AlikeTo, Kind, kids_kind, one_kind, other}
-use Rattle.buffa_self.specs.Knots.{Knot, Rest, Slots, knot_of, rest_of, head_many, head_many_low, head_one, head_one_low, kid_low, kids_height, knot, knot_height, list_of, list_of-of_list, many, maybe_height, Kids, Maybe, no_slot, of_list, of_option, one, option_of, option_of-of_option, slots_height, tail_low, tail_slots}
-use Rattle.buffa_self.specs.Laying.{CostAlike, LaidAlike, Laying, MergeAlike, SayAlike}
+use Rattle.buffa_self.specs.Knots.{Knot, Rest, knot_of, rest_of, head_many, head_many_low, head_one, head_one_low, kid_low, kids_height, knot_height, list_of, list_of-of_list, many, maybe_height, Kids, Maybe, no_slot, of_list, of_option, one, option_of, option_of-of_option, slots_height, tail_low, tail_slots}
+use Rattle.buffa_self.specs.Laying.{CostAlike, LaidAlike, Laying, MergeAlike}
 use Rattle.buffa_self.specs.OpenFacts.{added_say_alike, lower, needed_alike, out_again, rest_low, same_low, taken_alike}
 use Rattle.buffa_self.specs.Words.{AreExactBy, Words}
 

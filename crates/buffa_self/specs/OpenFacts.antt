@@ -1,7 +1,6 @@
 -- What is proved of the members of a message that holds itself.
-use Rattle.std.proofs.Common.{suc, ◌+◌, ◌<◌, arith, ◌≡◌, ℕ, ◌≤◌, ◌==◌, not, max, List, ◌++◌, Option, refl, sym, ap, subst, ◌∙◌, if◌then◌else◌}
+use Rattle.std.proofs.Common.{◌<◌, arith, ◌≡◌, ℕ, ◌≤◌, ◌==◌, not, max, ◌++◌, ap, subst, ◌∙◌, if◌then◌else◌}
 use Rattle.std.specs.Option.{option_map}
-use Rattle.buffa_wire.specs.Records.{Datum}
 use Rattle.buffa_fields.specs.Keep.{AllNumbers}
 use Rattle.buffa_fields.specs.Layout.{Layout, Shape}
 use Rattle.buffa_fields.specs.Members.{field}

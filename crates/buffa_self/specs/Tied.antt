@@ -1,10 +1,8 @@
 -- The knot: what is told of messages that hold themselves, by their layout, which says it by what is told of the messages inside.
 -- It is tied by layers: a value is written by as many as it is high, and bytes are read by as many as levels may still open.
-use Rattle.std.specs.Prelude.{◌≡◌, ◌≤◌, ◌+◌, ℕ, zero, suc, true, List, [], Option, None, Some, refl}
+use Rattle.std.specs.Prelude.{◌≡◌, ◌≤◌, ℕ, zero, suc, true, [], Option, None, Some}
 use Rattle.std.proofs.Common.{◌∙◌, ap, sym}
 use Rattle.std.specs.Option.{option_map}
-use Rattle.buffa_bytes.specs.Field.{SomeField}
-use Rattle.buffa_bytes.specs.Join.{Join}
 use Rattle.buffa_wire.specs.BudgetLeft.{nothing}
 use Rattle.buffa_wire.specs.Encoding.{records_encoding}
 use Rattle.buffa_wire.specs.Parse.{Fits}

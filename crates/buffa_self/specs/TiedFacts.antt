@@ -1,16 +1,12 @@
 -- What is proved of the knot: more layers change nothing, so what is told of messages is what their layout says, by itself.
-use Rattle.std.proofs.Common.{◌≡◌, ℕ, zero, suc, ◌+◌, ◌<◌, ◌≤◌, List, [], Option, Some, None, Result, Ok, Err, refl, sym, ap, subst, ◌∙◌, arith}
+use Rattle.std.proofs.Common.{◌≡◌, ℕ, zero, suc, ◌<◌, refl, sym, ◌∙◌, arith}
 use Rattle.buffa_bytes.specs.Front.{skip_at}
 use Rattle.buffa_bytes.specs.Gives.{◌>>=◌}
-use Rattle.buffa_wire.specs.BudgetLeft.{BudgetLeft}
 use Rattle.buffa_wire.specs.ByField.{cost_by, merged_by}
-use Rattle.buffa_wire.specs.Encoding.{records_encoding}
-use Rattle.buffa_wire.specs.Parse.{AreValid, Fits}
-use Rattle.buffa_wire.specs.Records.{Datum, records_of}
 use Rattle.buffa_wire.specs.Takes.{Need, Taker, answer, cost_of, front_of, merged_of}
 use Rattle.std.specs.Option.{option_map}
-use Rattle.buffa_self.specs.Laying.{CostAlike, LaidAlike, Laying, MergeAlike, SayAlike, whole_takes}
-use Rattle.buffa_self.specs.Tied.{IsNormalLaid, IsSound, layer, layers}
+use Rattle.buffa_self.specs.Laying.{Laying, SayAlike, whole_takes}
+use Rattle.buffa_self.specs.Tied.{IsSound, layers}
 use Rattle.buffa_self.specs.Words.{Words}
 
 -- takers that are the same at a depth make the same of bytes there, and so do costs

@@ -1,10 +1,9 @@
 -- What is told of messages that hold themselves, at every depth and height.
-use Rattle.std.specs.Prelude.{◌≡◌, ◌≤◌, ◌+◌, ℕ, suc, List, Option, Some}
-use Rattle.std.proofs.Common.{◌∙◌, ap, sym, subst, arith}
-use Rattle.buffa_bytes.specs.Field.{SomeField}
+use Rattle.std.specs.Prelude.{◌≡◌, ◌≤◌, ◌+◌, ℕ, suc, Some}
+use Rattle.std.proofs.Common.{◌∙◌, ap, subst, arith}
 use Rattle.buffa_wire.specs.Encoding.{records_encoding}
 use Rattle.buffa_wire.specs.Parse.{Fits}
-use Rattle.buffa_wire.specs.Records.{Datum, records_of}
+use Rattle.buffa_wire.specs.Records.{records_of}
 use Rattle.buffa_fields.specs.Layout.{Layout}
 use Rattle.buffa_self.specs.Laying.{Laying}
 use Rattle.buffa_self.specs.Tied.{IsSound, layers}

@@ -1,9 +1,8 @@
 -- What is proved of the words of a type of messages that hold themselves: they are what its members say, by these words.
-use Rattle.std.proofs.Common.{◌≡◌, ℕ, zero, suc, ◌+◌, ◌<◌, ◌≤◌, List, [], ◌∷◌, ◌++◌, Option, Some, None, Result, Ok, Err, OnOk, IfErr, refl, sym, ap, subst, ◌∙◌, arith}
+use Rattle.std.proofs.Common.{◌≡◌, ℕ, zero, suc, List, refl, arith}
 use Rattle.std.specs.Option.{option_map}
-use Rattle.buffa_wire.specs.Encoding.{records_encoding}
 use Rattle.buffa_wire.specs.Takes.{cost_of, merged_of}
-use Rattle.buffa_self.specs.Laying.{LaidAlike, Laying, SayAlike, whole_takes}
+use Rattle.buffa_self.specs.Laying.{LaidAlike, Laying, whole_takes}
 use Rattle.buffa_self.specs.Tied.{IsNormalLaid, IsSound, layers}
 use Rattle.buffa_self.specs.TiedFacts.{cost_more, costs_alike, merged_alike, merged_more, say_more}
 use Rattle.buffa_self.specs.Told.{told, told_layout}

@@ -1,12 +1,12 @@
 -- What is proved of visiting members that hold messages of the message's own type: they are told as lists, and seen as slots.
-use Rattle.std.proofs.Common.{◌≡◌, ℕ, ◌+◌, min, List, [], ◌++◌, Option, Result, IsOk, refl, sym, ap, subst, ◌∙◌}
+use Rattle.std.proofs.Common.{◌≡◌, ℕ, ◌+◌, min, List, [], ◌++◌, Result, IsOk, sym, ap, subst, ◌∙◌}
 use Rattle.buffa_bytes.specs.declared.error.EncodeError.{EncodeError}
 use Rattle.buffa_wire.specs.Cache.{Cache}
 use Rattle.buffa_wire.specs.Encoding.{records_encoding}
 use Rattle.buffa_wire.specs.Passes.{IsNext, IsSized, IsWritten}
 use Rattle.buffa_wire.specs.Pinned.{done, refusal}
 use Rattle.buffa_fields.specs.Layout.{Follow, IsCounted, IsPut, Seen, Shape, visited}
-use Rattle.buffa_fields.specs.LayoutFacts.{counted_err, counted_none, failed, follow_first, follow_rest, is_counted, is_put, put_none, sum}
+use Rattle.buffa_fields.specs.LayoutFacts.{counted_err, counted_none, failed, follow_rest, is_counted, is_put, put_none, sum}
 use Rattle.buffa_self.specs.Words.{as_other}
 
 -- a member that is told as a value of A, and seen as one of B

@@ -1,8 +1,7 @@
 -- What is told of the messages inside a message of their own type, for its layout to be said by it.
 -- Source: the protobuf encoding guide, "Submessages".
-use Rattle.std.specs.Prelude.{◌≡◌, ◌≤◌, ◌<◌, ℕ, suc, true, List, [], ◌∷◌, Option, Some, None, refl}
+use Rattle.std.specs.Prelude.{◌≡◌, ◌≤◌, ℕ, true, List, [], Option, Some, None, refl}
 use Rattle.std.specs.List.{AllByRecursion}
-use Rattle.std.specs.Option.{option_map}
 use Rattle.buffa_bytes.specs.Field.{SomeField}
 use Rattle.buffa_bytes.specs.Front.{check_wire}
 use Rattle.buffa_bytes.specs.Join.{Join}
@@ -11,7 +10,6 @@ use Rattle.buffa_wire.specs.BudgetLeft.{BudgetLeft}
 use Rattle.buffa_wire.specs.Encoding.{records_encoding}
 use Rattle.buffa_wire.specs.Parse.{AreValid, Fits}
 use Rattle.buffa_wire.specs.Records.{Datum, bytes, records_of}
-use Rattle.buffa_wire.specs.Takes.{Taker}
 use Rattle.buffa_fields.specs.Framing.{Messages, cost_as, each_cost_as, taken_as}
 use Rattle.buffa_fields.specs.FramingFacts.{delimited_holds, each_stays, one_stays}
 use Rattle.buffa_fields.specs.Framings.{delimited}

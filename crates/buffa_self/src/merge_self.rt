@@ -18,11 +18,12 @@ struct MergerBy<F> {
     merge: F,
 }
 
-impl<M: Begins, F: Fn(&mut M, &[u8], u32, &mut Budget) -> Result<(), DecodeError>> Inner<M> for MergerBy<F> {
+impl<M: Begins, F: Fn(&mut M, &[u8], u32, &mut Budget) -> Result<(), DecodeError>> Inner<M>
+    for MergerBy<F> {
     ghost may = { λ s d. let t = told M.COST M.laying M.sound in
         ((x : _) (b : _) (w : _) → F.pre s.merge x b d w)
         × ((x : _) (b : _) (w : _) (r : _) (y : _) (v : _) → F.post s.merge x b d w r y v →
-            MergesBytes t.merged t.cost d x.now b.now w.now r y.now v.now × (b.now ≡ [] → IsOk r)) };
+        MergesBytes t.merged t.cost d x.now b.now w.now r y.now v.now × (b.now ≡ [] → IsOk r)) };
 
     fn blank(&self, alloc: Global) -> M {
         M::blank(alloc)

@@ -204,8 +204,12 @@ pub(crate) fn size_self<M: Selves>(message: &M, cache: &mut SizeCache) -> Result
         IsSized (encoding_by w message.now) (w.slots message.now) cache.old result cache.new }
     ensures always { (told M.COST M.laying M.sound).slots message.now ≡ [] → IsOk result }
 {
-    size_by(message, cache, |kid: &M, cache: &mut SizeCache| -> Result<u32, EncodeError>
-        ensures { let w = told M.COST M.laying M.sound in
-            IsSized (encoding_by w kid.now) (w.slots kid.now) cache.old result cache.new }
-    { size_self(kid, cache) })
+    size_by(
+        message,
+        cache,
+        |kid: &M, cache: &mut SizeCache| -> Result<u32, EncodeError>
+            ensures { let w = told M.COST M.laying M.sound in
+                IsSized (encoding_by w kid.now) (w.slots kid.now) cache.old result cache.new }
+        { size_self(kid, cache) },
+    )
 }

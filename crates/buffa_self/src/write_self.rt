@@ -173,10 +173,7 @@ fn write_members<
     M: Selves,
     S: EncodeSink,
     F: Fn(&M, &mut SizeCache, &mut S) -> Result<(), EncodeError>,
->(
-    message: &M,
-    writer: &mut WriterBy<'_, S, F>,
-)
+>(message: &M, writer: &mut WriterBy<'_, S, F>)
     requires fresh { writer.old.result ≡ Ok tt }
     requires next { IsNext ((told M.COST M.laying M.sound).slots message.now) writer.old.cache.now }
     requires may { let w = told M.COST M.laying M.sound in

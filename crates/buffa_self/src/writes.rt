@@ -44,13 +44,7 @@ pub(crate) fn write_list<
     M: Laid,
     S: EncodeSink,
     F: Fn(&M, &mut SizeCache, &mut S) -> Result<(), EncodeError>,
->(
-    number: u32,
-    kids: &[M],
-    cache: &mut SizeCache,
-    sink: &mut S,
-    write: F,
-) -> Result<(), EncodeError>
+>(number: u32, kids: &[M], cache: &mut SizeCache, sink: &mut S, write: F) -> Result<(), EncodeError>
     requires number { IsNumber number }
     requires next { IsNext ((list_shape (told M.COST M.laying M.sound)).slots kids.now) cache.old }
     requires may { let w = told M.COST M.laying M.sound in

@@ -1,6 +1,4 @@
 use Rattle.std.proofs.Common.{[], subst, sym}
-use Rattle.buffa_wire.specs.Encoding.{records_encoding}
-use Rattle.buffa_wire.specs.Passes.{IsSized}
 use Rattle.buffa_fields.specs.Layout.{IsCounted}
 use Rattle.buffa_fields.specs.LayoutFacts.{counts_none, start}
 use Rattle.buffa_self.proofs.PassLemmas.{self_sized}

@@ -1,4 +1,4 @@
-use Rattle.std.proofs.Common.{subst, sym, ap, ◌∙◌}
+use Rattle.std.proofs.Common.{subst, sym}
 use Rattle.buffa_wire.specs.Passes.{IsNext}
 use Rattle.buffa_fields.specs.Layout.{Follow, IsPut}
 use Rattle.buffa_fields.specs.LayoutFacts.{follows, puts_none, start}
