@@ -14,9 +14,10 @@ ghost use Rattle.buffa_self.specs.Told.{told, told_layout};
 ghost use Rattle.buffa_self.specs.ToldFacts.{blank_is, cost_by_is, merged_by_is};
 ghost use Rattle.buffa_self.specs.Words.{encoding_by};
 
+use crate::begins::{Begins, Knotted};
 use crate::laid::Laid;
 use crate::merge_self::{merge_self, take_by};
-use crate::selves::{Begins, Selves};
+use crate::selves::Selves;
 use crate::size_self::size_self;
 use crate::write_self::write_self;
 use buffa_wire::{
@@ -24,15 +25,6 @@ use buffa_wire::{
     SizeCache, Tag, WireType,
 };
 use std::alloc::Global;
-
-/// The form of messages that hold themselves. With it a struct of one's own is a message:
-///
-/// ```ignore
-/// impl Formed for Outline {
-///     type Form = Knotted;
-/// }
-/// ```
-pub struct Knotted;
 
 impl<M: Begins> MessageMeaning<M> for Knotted {
     const COST: usize = <M as Laid>::COST;
@@ -72,7 +64,7 @@ impl<M: Begins> MessageMeaning<M> for Knotted {
         ∙ t.back d v fits normal low };
 }
 
-impl<M: Begins> MessageForm<M> for Knotted {
+impl<M: Selves> MessageForm<M> for Knotted {
     ghost sure = { λ v. (told M.Laid.COST M.laying M.sound).slots v ≡ [] };
 
     ghost Taken = { (told_layout M.Laid.COST M.laying M.sound).Taken };

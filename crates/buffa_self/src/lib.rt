@@ -9,6 +9,7 @@
 //! `specs/Apart.antt` with its proofs are copies of what `buffa_fields` has and can't be named from here.
 #![tactic(auto)]
 
+pub mod begins;
 pub mod form;
 pub mod inner;
 pub mod laid;

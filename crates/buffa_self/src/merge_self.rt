@@ -7,8 +7,9 @@ ghost use Rattle.buffa_map.specs.Calls.{MergesMessages};
 ghost use Rattle.buffa_self.specs.Refused.{IsSelfRefused};
 ghost use Rattle.buffa_self.specs.Told.{told, told_layout};
 
+use crate::begins::Begins;
 use crate::inner::Inner;
-use crate::selves::{Begins, Selves};
+use crate::selves::Selves;
 use buffa_wire::{Blank, Budget, Buf, DecodeContext, DecodeError, Tag};
 use std::alloc::Global;
 
@@ -42,7 +43,7 @@ impl<M: Begins, F: Fn(&mut M, &[u8], u32, &mut Budget) -> Result<(), DecodeError
 }
 
 // Merges the field whose tag was read, by a function that merges the bytes of a message inside.
-pub(crate) fn take_by<M: Begins, F: Fn(&mut M, &[u8], u32, &mut Budget) -> Result<(), DecodeError>>(
+pub(crate) fn take_by<M: Selves, F: Fn(&mut M, &[u8], u32, &mut Budget) -> Result<(), DecodeError>>(
     message: &mut M,
     alloc: Global,
     tag: Tag,
@@ -67,7 +68,7 @@ pub(crate) fn take_by<M: Begins, F: Fn(&mut M, &[u8], u32, &mut Budget) -> Resul
 }
 
 // Merges all the fields that the bytes are into a message: one that is inside another, or the outermost one.
-pub(crate) fn merge_self<M: Begins>(
+pub(crate) fn merge_self<M: Selves>(
     alloc: Global,
     message: &mut M,
     bytes: &[u8],

@@ -5,10 +5,10 @@ ghost use Rattle.buffa_fields.specs.Calls.{MemberTakes};
 ghost use Rattle.buffa_fields.specs.Layout.{Seen};
 ghost use Rattle.buffa_self.specs.Told.{told, told_layout};
 
+use crate::begins::Begins;
 use crate::inner::Inner;
-use crate::laid::Laid;
 use crate::visits::Visits;
-use buffa_wire::{Blank, DecodeContext, DecodeError, Tag};
+use buffa_wire::{DecodeContext, DecodeError, Tag};
 use std::alloc::Global;
 
 /// The calls of a type of messages that hold themselves, by which its passes go over its members.
@@ -16,7 +16,7 @@ use std::alloc::Global;
 /// ```ignore
 /// impl Selves for Outline { .. }
 /// ```
-pub trait Selves: Laid {
+pub trait Selves: Begins {
     /// Visits each member.
     ///
     /// ```ignore
@@ -52,17 +52,4 @@ pub trait Selves: Laid {
         ensures taken { MemberTakes tag ctx.entry ctx.exit self.old self.new buf.old buf.new result
             (told_layout Self.COST Self.laying Self.sound) }
         ensures whole { OnOk result (Self.laying.into (Self.laying.out self.new) ≡ self.new) };
-}
-
-/// A struct that holds its own type, as a message: what it means, and its default.
-///
-/// ```ignore
-/// impl Begins for Outline { .. }
-/// ```
-pub trait Begins: Selves + Blank<Meaning = Self> {
-    /// A message means itself: what contracts see of it is what its members mean.
-    ghost means: { (m : Self) → Self.meaning m ≡ m };
-
-    /// The default has the defaults of its members.
-    ghost starts: { Self.blank_is ≡ Self.laying.into Self.laying.blank };
 }
