@@ -1,8 +1,11 @@
 -- Kinds of members of a message that holds itself: each by what is told of the messages inside.
-use Rattle.std.specs.Prelude.{◌≡◌, ◌≤◌, ℕ, refl}
+use Rattle.std.specs.Prelude.{List, ◌≡◌, ◌≤◌, ℕ, refl, []}
 use Rattle.buffa_fields.specs.Layout.{ReadsBackTo, Shape}
 use Rattle.buffa_self.specs.KindFacts.{list_back, list_cost_alike, list_say_alike, list_takes_alike, meant_back, one_back, one_cost_alike, one_say_alike, one_takes_alike}
 use Rattle.buffa_self.specs.Knots.{Kids, Knot, Maybe, kids_height, knot_height, list_of, maybe_height, no_kid, nobody, of_list, of_option, option_of}
+use Rattle.buffa_fields.specs.HeldMap.{Keys, KeysReadBack}
+use Rattle.buffa_self.specs.MapKindFacts.{pairs_back_told, pairs_need_alike, pairs_say_alike, pairs_takes_alike}
+use Rattle.buffa_self.specs.Pairs.{told_pairs}
 use Rattle.buffa_self.specs.Laying.{CostAlike, MergeAlike, SayAlike}
 use Rattle.buffa_self.specs.Words.{AreExactBy, Words, as_meant, as_other, list_shape, one_shape}
 
@@ -78,5 +81,22 @@ one_kind = record {
   need_alike = one_cost_alike;
   say_alike = one_say_alike;
   owes = λ w _. one_back w;
+  exact = λ w _ inside. inside;
+}
+
+-- a map of the message's own type, whose keys are these and read back
+abbrev pub map_kind : {W K : Type 0} (keys : Keys K) → KeysReadBack keys → Kind (Knot W) knot_height (List K × Kids W)
+map_kind keys good = record {
+  shape = λ w. told_pairs keys w;
+  blank = ([], no_kid);
+  Low = λ h a. kids_height a.1 ≤ h;
+  Owes = Unit {0};
+  Exact = Unit {0};
+  meaning_is = λ w a. refl;
+  blank_is = λ w. refl;
+  takes_alike = pairs_takes_alike keys;
+  need_alike = λ v w d h. pairs_need_alike keys v w d h.2 h;
+  say_alike = pairs_say_alike keys;
+  owes = λ w _. pairs_back_told keys good w;
   exact = λ w _ inside. inside;
 }

@@ -2,10 +2,14 @@
 -- Source: the protobuf encoding guide, "Message Structure" and "Submessages".
 use Rattle.std.specs.Prelude.{◌≡◌, ◌≤◌, ◌<◌, ℕ, suc, List, Option, Some, length}
 use Rattle.std.proofs.Common.{get_or}
+use Rattle.std.specs.List.{Contains}
+use Rattle.std.specs.Map.{values_of}
 use Rattle.buffa_wire.specs.Takes.{Taker}
 use Rattle.buffa_fields.specs.Layout.{Layout, Shape}
 use Rattle.buffa_self.specs.Apart.{taken_apart}
-use Rattle.buffa_self.specs.Words.{AreExactBy, Words, as_other, list_shape, one_shape}
+use Rattle.buffa_self.specs.Words.{AreExactBy, Words, as_other, list_shape, lossless, one_shape}
+use Rattle.buffa_self.specs.PairShapes.{pairs_shape}
+use Rattle.buffa_fields.specs.HeldMap.{Keys}
 
 -- ---- words that are alike
 module _ {X : Type 0} (v w : Words X) where
@@ -14,7 +18,7 @@ module _ {X : Type 0} (v w : Words X) where
   MergeAlike d = (v.blank ≡ w.blank) × ((e : ℕ) → suc e ≡ d → v.merged e ≡ w.merged e)
 
   abbrev pub CostAlike : ℕ → Type 0
-  CostAlike d = (v.each ≡ w.each) × ((e : ℕ) → suc e ≡ d → v.cost e ≡ w.cost e)
+  CostAlike d = (v.each ≡ w.each) × ((e : ℕ) → suc e ≡ d → v.cost e ≡ w.cost e) × MergeAlike d
 
   -- in what is told of a message
   abbrev pub SayAlike : X → Type 0
@@ -41,6 +45,13 @@ pub record Laying (X : Type 0) : Type 1 where
   pub option_again : (o : Option X) → option_of (of_option o) ≡ o
   pub maybe_height : Maybe → ℕ
   pub one_low : (x : X) → height x ≤ maybe_height (of_option (Some x))
+  -- those in a member that is a map, by their keys
+  pub Pairs : Type 0 → Type 0
+  pub of_pairs : {K : Type 0} → List (K × X) → Pairs K
+  pub pairs_from : {K : Type 0} → Pairs K → List (K × X)
+  pub pairs_again : {K : Type 0} (ps : List (K × X)) → pairs_from (of_pairs ps) ≡ ps
+  pub pairs_height : {K : Type 0} → Pairs K → ℕ
+  pub pair_low : {K : Type 0} (ps : List (K × X)) (x : X) → Contains (values_of ps) x → height x ≤ pairs_height (of_pairs ps)
   -- a value as what its members mean, one after the other, and back; and the default
   pub Y : Type 0
   pub out : X → Y
@@ -70,3 +81,6 @@ kids_shape o w = as_other o.of_list o.list_of (list_shape w)
 
 abbrev pub maybe_shape : {X : Type 0} (o : Laying X) → Words X → Shape o.Maybe o.Maybe
 maybe_shape o w = as_other o.of_option o.option_of (one_shape w)
+
+abbrev pub map_shape : {X K : Type 0} (o : Laying X) → Keys K → Words X → Shape (o.Pairs K) (o.Pairs K)
+map_shape o keys w = lossless o.of_pairs o.pairs_from (pairs_shape keys w)

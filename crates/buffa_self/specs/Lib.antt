@@ -15,3 +15,6 @@ pub mod Open
 pub mod VisitFacts
 pub mod Refused
 pub mod ExactFacts
+pub mod PairShapes
+pub mod Pairs
+pub mod MapKindFacts

@@ -4,11 +4,13 @@ use Rattle.std.proofs.Common.{◌∙◌, sym}
 use Rattle.buffa_wire.specs.Records.{Datum}
 use Rattle.buffa_fields.specs.Layout.{Layout, Shape}
 use Rattle.buffa_fields.specs.Members.{field, keep, skip}
-use Rattle.buffa_self.specs.Kinds.{AlikeTo, Kind, kids_kind, one_kind, other}
+use Rattle.buffa_self.specs.Kinds.{AlikeTo, Kind, kids_kind, one_kind, other, map_kind}
 use Rattle.buffa_self.specs.Knots.{Knot, Rest, knot_of, rest_of, head_many, head_many_low, head_one, head_one_low, kid_low, kids_height, knot_height, list_of, list_of-of_list, many, maybe_height, Kids, Maybe, no_slot, of_list, of_option, one, option_of, option_of-of_option, slots_height, tail_low, tail_slots}
 use Rattle.buffa_self.specs.Laying.{CostAlike, LaidAlike, Laying, MergeAlike}
 use Rattle.buffa_self.specs.OpenFacts.{added_say_alike, lower, needed_alike, out_again, rest_low, same_low, taken_alike}
+use Rattle.buffa_self.specs.Pairs.{pair_low, pairs_again, pairs_in, pairs_of}
 use Rattle.buffa_self.specs.Words.{AreExactBy, Words}
+use Rattle.buffa_fields.specs.HeldMap.{Keys, KeysReadBack}
 
 -- Some members, by what is told of the messages inside: W is what a message has of its own, and A what it has of that for these.
 pub record Open (W A : Type 0) : Type 1 where
@@ -68,6 +70,11 @@ list_inside k o = added k kids_kind (λ r. (head_many r.1, (r.0, tail_slots r.1)
 -- one message of the message's own type, that may be there
 abbrev pub one_inside : {W B : Type 0} → ℕ → Open W B → Open W B
 one_inside k o = added k one_kind (λ r. (head_one r.1, (r.0, tail_slots r.1))) (λ p. (p.1.0, one p.0 p.1.1)) (λ p. refl) (λ h r low. lower (head_one_low r.1) low) (λ r. tail_low r.1) o
+
+-- a map of the message's own type, by keys that read back
+abbrev pub map_inside : {W K B : Type 0} → ℕ → (keys : Keys K) → KeysReadBack keys → Open W B → Open W (List K × B)
+map_inside k keys good o =
+    added k (map_kind keys good) (λ r. ((r.0.0, head_many r.1), (r.0.1, tail_slots r.1))) (λ p. ((p.0.0, p.1.0), many p.0.1 p.1.1)) (λ p. refl) (λ h r low. lower (head_many_low r.1) low) (λ r. tail_low r.1) o
 
 -- fields that aren't declared are kept
 abbrev pub keeps : {W : Type 0} → Open W (List (ℕ × Datum))
@@ -129,6 +136,12 @@ knotted {W} o = record {
   option_again = option_of-of_option;
   maybe_height = maybe_height;
   one_low = λ x. same_low (knot_height x);
+  Pairs = λ K. List K × Kids W;
+  of_pairs = λ ps. pairs_in ps;
+  pairs_from = λ a. pairs_of a.0 a.1;
+  pairs_again = λ ps. pairs_again ps;
+  pairs_height = λ a. kids_height a.1;
+  pair_low = λ ps x is. pair_low ps x is;
   Y = o.Y;
   out = λ x. o.out (rest_of x);
   into = λ y. knot_of (o.into y);

@@ -42,7 +42,7 @@ module _ {X : Type 0} (each : ℕ) (o : Laying X) (sound : IsSound o) where
   cost_more zero m d a b = absurd (omega (arith, a))
   cost_more (suc n) zero d a b = absurd (omega (arith, b))
   cost_more (suc n) (suc m) d a b =
-      let alike = o.need_alike (at n) (at m) d (eachs n ∙ sym (eachs m), λ e is. cost_more n m e (omega (arith, a, is)) (omega (arith, b, is))) in
+      let alike = o.need_alike (at n) (at m) d (eachs n ∙ sym (eachs m), λ e is. cost_more n m e (omega (arith, a, is)) (omega (arith, b, is)), (blanks n ∙ sym (blanks m), λ e is. merged_more n m e (omega (arith, a, is)) (omega (arith, b, is)))) in
       costs_alike (o.layout (at n)).need (o.layout (at m)).need d alike
 
   -- ---- a value is written by so many layers as it is high, and more

@@ -29,12 +29,16 @@ module _ {X : Type 0} (each : ℕ) (o : Laying X) (sound : IsSound o) where
   pub cost_is : (d : ℕ) → words.cost d ≡ cost_of (told_layout each o sound).need d
   unfolding told
   cost_is d =
-      let alike = o.need_alike (at d) words d (eachs d, λ e is. cost_more each o sound d (suc e) e (omega (arith, is)) (omega arith)) in
+      let alike = o.need_alike (at d) words d (eachs d, λ e is. cost_more each o sound d (suc e) e (omega (arith, is)) (omega arith), (blanks d, λ e is. merged_more each o sound d (suc e) e (omega (arith, is)) (omega arith))) in
       costs_alike (o.layout (at d)).need (o.layout words).need d alike
     where
       eachs : (n : ℕ) → (at n).each ≡ each
       eachs zero = refl
       eachs (suc n) = refl
+
+      blanks : (n : ℕ) → (at n).blank ≡ o.into o.blank
+      blanks zero = refl
+      blanks (suc n) = refl
 
   pub merged_by_is : (d : ℕ) (v : X) (b : List ℕ) → words.merged d v b ≡ merged_of (whole_takes o words) d v b
   merged_by_is d v b = λ i. merged_is d i v b

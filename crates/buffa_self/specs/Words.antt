@@ -137,3 +137,22 @@ as_other to from s = record {
   normal = λ b. s.normal (from b);
   stays = s.stays;
 }
+
+-- by another value, from which it is had again, where that has no more than it
+abbrev pub lossless : {A B : Type 0} (to : A → B) (from : B → A) → Shape A A → Shape B B
+lossless to from s = record {
+  whole = s.whole;
+  meaning = λ b. b;
+  blank = to s.blank;
+  takes = taken_apart to from s.takes;
+  checks = s.checks;
+  refuses = λ d old n wire bs left e new. s.refuses d (from old) n wire bs left e (from new);
+  asks = s.asks;
+  need = s.need;
+  records = λ k b. s.records k (from b);
+  slots = λ b. s.slots (from b);
+  levels = λ b. s.levels (from b);
+  Exact = s.Exact;
+  normal = λ b. (to (from b) ≡ b) × s.normal (from b);
+  stays = s.stays;
+}
