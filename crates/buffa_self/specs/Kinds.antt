@@ -84,19 +84,19 @@ one_kind = record {
   exact = λ w _ inside. inside;
 }
 
--- a map of the message's own type, whose keys are these and read back
-abbrev pub map_kind : {W K : Type 0} (keys : Keys K) → KeysReadBack keys → Kind (Knot W) knot_height (List K × Kids W)
-map_kind keys good = record {
+-- a map of the message's own type, whose keys are these
+abbrev pub map_kind : {W K : Type 0} → Keys K → Kind (Knot W) knot_height (List K × Kids W)
+map_kind keys = record {
   shape = λ w. told_pairs keys w;
   blank = ([], no_kid);
   Low = λ h a. kids_height a.1 ≤ h;
-  Owes = Unit {0};
+  Owes = KeysReadBack keys;
   Exact = Unit {0};
   meaning_is = λ w a. refl;
   blank_is = λ w. refl;
   takes_alike = pairs_takes_alike keys;
   need_alike = λ v w d h. pairs_need_alike keys v w d h.2 h;
   say_alike = pairs_say_alike keys;
-  owes = λ w _. pairs_back_told keys good w;
+  owes = λ w good. pairs_back_told keys good w;
   exact = λ w _ inside. inside;
 }

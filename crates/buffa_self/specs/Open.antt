@@ -10,7 +10,7 @@ use Rattle.buffa_self.specs.Laying.{CostAlike, LaidAlike, Laying, MergeAlike}
 use Rattle.buffa_self.specs.OpenFacts.{added_say_alike, lower, needed_alike, out_again, rest_low, same_low, taken_alike}
 use Rattle.buffa_self.specs.Pairs.{pair_low, pairs_again, pairs_in, pairs_of}
 use Rattle.buffa_self.specs.Words.{AreExactBy, Words}
-use Rattle.buffa_fields.specs.HeldMap.{Keys, KeysReadBack}
+use Rattle.buffa_fields.specs.HeldMap.{Keys}
 
 -- Some members, by what is told of the messages inside: W is what a message has of its own, and A what it has of that for these.
 pub record Open (W A : Type 0) : Type 1 where
@@ -71,10 +71,10 @@ list_inside k o = added k kids_kind (λ r. (head_many r.1, (r.0, tail_slots r.1)
 abbrev pub one_inside : {W B : Type 0} → ℕ → Open W B → Open W B
 one_inside k o = added k one_kind (λ r. (head_one r.1, (r.0, tail_slots r.1))) (λ p. (p.1.0, one p.0 p.1.1)) (λ p. refl) (λ h r low. lower (head_one_low r.1) low) (λ r. tail_low r.1) o
 
--- a map of the message's own type, by keys that read back
-abbrev pub map_inside : {W K B : Type 0} → ℕ → (keys : Keys K) → KeysReadBack keys → Open W B → Open W (List K × B)
-map_inside k keys good o =
-    added k (map_kind keys good) (λ r. ((r.0.0, head_many r.1), (r.0.1, tail_slots r.1))) (λ p. ((p.0.0, p.1.0), many p.0.1 p.1.1)) (λ p. refl) (λ h r low. lower (head_many_low r.1) low) (λ r. tail_low r.1) o
+-- a map of the message's own type, by its keys
+abbrev pub map_inside : {W K B : Type 0} → ℕ → Keys K → Open W B → Open W (List K × B)
+map_inside k keys o =
+    added k (map_kind keys) (λ r. ((r.0.0, head_many r.1), (r.0.1, tail_slots r.1))) (λ p. ((p.0.0, p.1.0), many p.0.1 p.1.1)) (λ p. refl) (λ h r low. lower (head_many_low r.1) low) (λ r. tail_low r.1) o
 
 -- fields that aren't declared are kept
 abbrev pub keeps : {W : Type 0} → Open W (List (ℕ × Datum))

@@ -8,17 +8,21 @@ ghost use Rattle.buffa_self.specs.Tied.{IsNormalLaid};
 ghost use Rattle.buffa_self.specs.Told.{told, told_layout};
 ghost use Rattle.buffa_self.specs.Words.{AreExactBy, encoding_by};
 
+use crate::begins::Begins;
 use crate::laid::Laid;
 use crate::selves::Selves;
 use crate::visits::Visits;
 use buffa_fields::member::Member;
+use buffa_fields::ordered_key::OrderedKey;
+use buffa_map::map_codec::MapCodec;
 use buffa_wire::UnknownFields;
+use std::collections::BTreeMap;
 
 // Visits members, and does nothing.
 #[derive(Drop)]
 struct Nothing;
 
-impl<M: Laid> Visits<M> for Nothing {
+impl<M: Begins> Visits<M> for Nothing {
     ghost IsAt = { λ z v. Unit {0} };
 
     ghost Waits = { λ ss v. Unit {0} };
@@ -32,6 +36,11 @@ impl<M: Laid> Visits<M> for Nothing {
     fn visit_list(&mut self, _number: u32, _part: &Vec<M>) {}
 
     fn visit_one(&mut self, _number: u32, _part: &Option<Box<M>>) {}
+
+    fn visit_map<KC: MapCodec>(&mut self, _number: u32, _part: &BTreeMap<KC::Value, M>)
+    where
+        KC::Value: OrderedKey,
+    {}
 
     fn visit_kept(&mut self, _fields: &UnknownFields) {}
 }

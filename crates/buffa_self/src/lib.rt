@@ -12,9 +12,12 @@
 pub mod begins;
 pub mod form;
 pub mod inner;
+pub mod keyed;
 pub mod laid;
 pub mod laws;
+pub mod maps;
 mod merge_self;
+mod pairs_by;
 pub mod selves;
 mod size_self;
 mod sizes;

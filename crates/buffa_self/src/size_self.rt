@@ -12,12 +12,17 @@ ghost use Rattle.buffa_self.specs.Laying.{kids_shape, maybe_shape};
 ghost use Rattle.buffa_self.specs.Told.{told};
 ghost use Rattle.buffa_self.specs.Words.{encoding_by};
 
+use crate::begins::Begins;
 use crate::laid::Laid;
+use crate::maps::{map_counted};
 use crate::selves::Selves;
 use crate::sizes::{list_len, one_len};
 use crate::visits::Visits;
 use buffa_fields::member::Member;
+use buffa_fields::ordered_key::OrderedKey;
+use buffa_map::map_codec::MapCodec;
 use buffa_wire::{EncodeError, SizeCache, UnknownFields, capped};
+use std::collections::BTreeMap;
 
 // The length of the encoding of kept fields, or 2^32 - 1 where it is more.
 fn kept_len(fields: &UnknownFields) -> u32
@@ -115,14 +120,14 @@ impl<F: Drop> SizerBy<'_, F> {
     }
 }
 
-impl<M: Laid, F: Fn(&M, &mut SizeCache) -> Result<u32, EncodeError>> Visits<M> for SizerBy<'_, F> {
+impl<M: Begins, F: Fn(&M, &mut SizeCache) -> Result<u32, EncodeError>> Visits<M> for SizerBy<'_, F> {
     ghost IsAt = { λ z s. IsCounted s.cache.ghost_name s.total s.cache.now z };
 
     ghost Waits = { λ ss s. Unit {0} };
 
     ghost begins = { λ ss rest s h. comes_free ss s };
 
-    ghost Reaches = { λ h s. let w = told M.COST M.laying M.sound in
+    ghost Reaches = { λ h s. let w = told M.Laid.COST M.laying M.sound in
         ((x : _) (c : _) → M.laying.height x.now < h → F.pre s.size x c)
         × SizesMessages (F.post s.size) (λ v. M.laying.height v < h) (λ m. m) (encoding_by w) w.slots };
 
@@ -149,6 +154,16 @@ impl<M: Laid, F: Fn(&M, &mut SizeCache) -> Result<u32, EncodeError>> Visits<M> f
     fn visit_one(&mut self, number: u32, part: &Option<Box<M>>) {
         if let Ok(total) = self.total {
             self.total = one_counted(total, number, part, self.cache, &self.size);
+        }
+    }
+
+    #[inline(always)]
+    fn visit_map<KC: MapCodec>(&mut self, number: u32, part: &BTreeMap<KC::Value, M>)
+    where
+        KC::Value: OrderedKey,
+    {
+        if let Ok(total) = self.total {
+            self.total = map_counted::<KC, M, &F>(total, number, part, self.cache, &self.size);
         }
     }
 

@@ -4,15 +4,20 @@ ghost use Rattle.std.specs.Prelude.{◌≡◌, ◌++◌, ◌<◌, [], ℕ, List}
 ghost use Rattle.std.specs.Option.{option_map};
 ghost use Rattle.buffa_bytes.specs.Number.{IsNumber};
 ghost use Rattle.buffa_fields.specs.Layout.{Comes, ReadsBackTo, Seen, more, visited};
-ghost use Rattle.buffa_self.specs.Laying.{kids_shape, maybe_shape};
+ghost use Rattle.buffa_map.specs.Pairs.{means};
+ghost use Rattle.buffa_fields.specs.HeldMap.{KeysReadBack, keys_by};
+ghost use Rattle.buffa_self.specs.Laying.{kids_shape, map_shape, maybe_shape};
 ghost use Rattle.buffa_self.specs.Told.{told};
 
-use crate::laid::Laid;
+use crate::begins::Begins;
 use buffa_fields::member::Member;
+use buffa_fields::ordered_key::OrderedKey;
+use buffa_map::map_codec::MapCodec;
 use buffa_wire::UnknownFields;
+use std::collections::BTreeMap;
 
 /// What is done with each member: its length is added, or its encoding is written. M is the message's type.
-pub trait Visits<M: Laid> {
+pub trait Visits<M: Begins> {
     /// It has seen these records, and these sizes.
     ghost IsAt: { Seen → Self → Type 0 };
 
@@ -46,12 +51,12 @@ pub trait Visits<M: Laid> {
     /// ```
     fn visit_list(&mut self, number: u32, part: &Vec<M>)
         requires number { IsNumber number }
-        requires comes { let s = kids_shape M.laying (told M.COST M.laying M.sound) in
+        requires comes { let s = kids_shape M.laying (told M.Laid.COST M.laying M.sound) in
             Comes Waits (s.slots (M.laying.of_list part.now.items)) self.old }
         requires low { (h : ℕ) × (M.laying.kids_height (M.laying.of_list part.now.items) < h) × Reaches h self.old }
-        ensures seen { let s = kids_shape M.laying (told M.COST M.laying M.sound) in
+        ensures seen { let s = kids_shape M.laying (told M.Laid.COST M.laying M.sound) in
             (z : Seen) → IsAt z self.old → IsAt (visited s number (M.laying.of_list part.now.items) z) self.new }
-        ensures waits { let s = kids_shape M.laying (told M.COST M.laying M.sound) in
+        ensures waits { let s = kids_shape M.laying (told M.Laid.COST M.laying M.sound) in
             (rest : List ℕ) → Waits (s.slots (M.laying.of_list part.now.items) ++ rest) self.old → Waits rest self.new }
         ensures reaches { (h : ℕ) → Reaches h self.old → Reaches h self.new };
 
@@ -62,17 +67,41 @@ pub trait Visits<M: Laid> {
     /// ```
     fn visit_one(&mut self, number: u32, part: &Option<Box<M>>)
         requires number { IsNumber number }
-        requires comes { let s = maybe_shape M.laying (told M.COST M.laying M.sound) in
+        requires comes { let s = maybe_shape M.laying (told M.Laid.COST M.laying M.sound) in
             Comes Waits (s.slots (M.laying.of_option (option_map (λ b. b.value) part.now))) self.old }
         requires low { (h : ℕ) × (M.laying.maybe_height (M.laying.of_option (option_map (λ b. b.value) part.now)) < h)
             × Reaches h self.old }
-        ensures seen { let s = maybe_shape M.laying (told M.COST M.laying M.sound) in
+        ensures seen { let s = maybe_shape M.laying (told M.Laid.COST M.laying M.sound) in
             (z : Seen) → IsAt z self.old →
             IsAt (visited s number (M.laying.of_option (option_map (λ b. b.value) part.now)) z) self.new }
-        ensures waits { let s = maybe_shape M.laying (told M.COST M.laying M.sound) in
+        ensures waits { let s = maybe_shape M.laying (told M.Laid.COST M.laying M.sound) in
             (rest : List ℕ) → Waits (s.slots (M.laying.of_option (option_map (λ b. b.value) part.now)) ++ rest) self.old →
             Waits rest self.new }
         ensures reaches { (h : ℕ) → Reaches h self.old → Reaches h self.new };
+
+    /// The next member, which is a map of the message's own type.
+    ///
+    /// ```ignore
+    /// visitor.visit_map::<Int32>(5, &self.by_number);
+    /// ```
+    fn visit_map<KC: MapCodec>(&mut self, number: u32, part: &BTreeMap<KC::Value, M>)
+    where
+        KC::Value: OrderedKey,
+        requires number { IsNumber number }
+        requires comes { let s = map_shape M.laying (keys_by KC.reading KC.writing KC.COST KC.Value.order KC.fits KC.normal) (told M.Laid.COST M.laying M.sound) in
+            Comes Waits (s.slots (M.laying.of_pairs (means KC.Value.meaning M.meaning part.now.entries))) self.old }
+        requires low { (h : ℕ)
+            × (M.laying.pairs_height (M.laying.of_pairs (means KC.Value.meaning M.meaning part.now.entries)) < h)
+            × Reaches h self.old }
+        ensures seen { let s = map_shape M.laying (keys_by KC.reading KC.writing KC.COST KC.Value.order KC.fits KC.normal) (told M.Laid.COST M.laying M.sound) in
+            (z : Seen) → IsAt z self.old →
+            IsAt (visited s number (M.laying.of_pairs (means KC.Value.meaning M.meaning part.now.entries)) z) self.new }
+        ensures waits { let s = map_shape M.laying (keys_by KC.reading KC.writing KC.COST KC.Value.order KC.fits KC.normal) (told M.Laid.COST M.laying M.sound) in
+            (rest : List ℕ) →
+            Waits (s.slots (M.laying.of_pairs (means KC.Value.meaning M.meaning part.now.entries)) ++ rest) self.old →
+            Waits rest self.new }
+        ensures reaches { (h : ℕ) → Reaches h self.old → Reaches h self.new }
+        ensures back { KeysReadBack (keys_by KC.reading KC.writing KC.COST KC.Value.order KC.fits KC.normal) };
 
     /// The fields that were kept.
     ///

@@ -11,12 +11,17 @@ ghost use Rattle.buffa_self.specs.Laying.{kids_shape, maybe_shape};
 ghost use Rattle.buffa_self.specs.Told.{told};
 ghost use Rattle.buffa_self.specs.Words.{encoding_by};
 
+use crate::begins::Begins;
 use crate::laid::Laid;
+use crate::maps::{map_put};
 use crate::selves::Selves;
 use crate::visits::Visits;
 use crate::writes::{write_list, write_one};
 use buffa_fields::member::Member;
+use buffa_fields::ordered_key::OrderedKey;
+use buffa_map::map_codec::MapCodec;
 use buffa_wire::{EncodeError, EncodeSink, SizeCache, UnknownFields};
+use std::collections::BTreeMap;
 
 // Writes into a sink that is lent, by the sizes in a cache that is lent, until memory runs out. A message inside is written by
 // a function.
@@ -124,7 +129,7 @@ fn one_put<M: Laid, S: EncodeSink, F: Fn(&M, &mut SizeCache, &mut S) -> Result<(
     write_one(number, one, cache, sink, write)
 }
 
-impl<M: Laid, S: EncodeSink, F: Fn(&M, &mut SizeCache, &mut S) -> Result<(), EncodeError>> Visits<M>
+impl<M: Begins, S: EncodeSink, F: Fn(&M, &mut SizeCache, &mut S) -> Result<(), EncodeError>> Visits<M>
     for WriterBy<'_, S, F> {
     ghost IsAt = { λ z w. IsPut w.sink.ghost_name w.cache.ghost_name (S.written w.sink.now) w.cache.now w.result z };
 
@@ -132,7 +137,7 @@ impl<M: Laid, S: EncodeSink, F: Fn(&M, &mut SizeCache, &mut S) -> Result<(), Enc
 
     ghost begins = { comes_front (λ w. w.result) (λ w. w.cache.now) };
 
-    ghost Reaches = { λ h w. let t = told M.COST M.laying M.sound in
+    ghost Reaches = { λ h w. let t = told M.Laid.COST M.laying M.sound in
         ((x : _) (c : _) (s : _) → M.laying.height x.now < h → IsNext (t.slots x.now) c.now → F.pre w.write x c s)
         × WritesMessages (F.post w.write) (λ v. M.laying.height v < h) (λ m. m) (encoding_by t) t.slots S.written };
 
@@ -155,6 +160,16 @@ impl<M: Laid, S: EncodeSink, F: Fn(&M, &mut SizeCache, &mut S) -> Result<(), Enc
     fn visit_one(&mut self, number: u32, part: &Option<Box<M>>) {
         if let Ok(()) = self.result {
             self.result = one_put(number, part, self.cache, self.sink, &self.write);
+        }
+    }
+
+    #[inline(always)]
+    fn visit_map<KC: MapCodec>(&mut self, number: u32, part: &BTreeMap<KC::Value, M>)
+    where
+        KC::Value: OrderedKey,
+    {
+        if let Ok(()) = self.result {
+            self.result = map_put::<KC, M, S, &F>(number, part, self.cache, self.sink, &self.write);
         }
     }
 
