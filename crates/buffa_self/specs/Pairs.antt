@@ -1,10 +1,12 @@
 -- A map of the message's own type: its keys are what the message has of its own, its values the messages inside.
 -- Source: the protobuf encoding guide, "Maps" and "Submessages".
-use Rattle.std.specs.Prelude.{◌≡◌, ◌≤◌, List, [], ◌∷◌, refl}
+use Rattle.std.specs.Prelude.{◌+◌, ◌≡◌, ◌≤◌, List, [], ◌∷◌, refl}
 use Rattle.std.specs.List.{Contains}
 use Rattle.std.specs.Map.{values_of}
 use Rattle.std.proofs.Common.{ap, arith, zero, suc}
+use Rattle.buffa_map.specs.Pairs.{means}
 use Rattle.buffa_fields.specs.HeldMap.{Keys}
+use denote.Param.Weighed.{most}
 use Rattle.buffa_fields.specs.Layout.{Shape}
 use Rattle.buffa_self.specs.Knots.{Kids, Knot, kid, kids_height, knot_height, no_kid}
 use Rattle.buffa_self.specs.PairShapes.{pairs_shape}
@@ -39,3 +41,8 @@ pair_low (p ∷ ps) x (suc i, l, e) = let k = pair_low ps x (i, omega (arith, l)
 -- by its keys and values, of which there are as many
 abbrev pub told_pairs : {K W : Type 0} → Keys K → Words (Knot W) → Shape (List K × Kids W) (List K × Kids W)
 told_pairs keys w = lossless pairs_in (λ a. pairs_of a.0 a.1) (pairs_shape keys w)
+
+-- those of a map are no higher than what holds them
+pub most-of_map : {A K W : Type 0} (f : A → K) (ps : List (A × Knot W)) → most (λ t. knot_height t + 1) (values_of ps) ≤ kids_height (values_in (means f (λ m. m) ps)) + 1
+most-of_map f [] = omega arith
+most-of_map f (p ∷ ps) = omega (arith, most-of_map f ps)

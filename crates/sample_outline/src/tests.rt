@@ -29,13 +29,14 @@ impl From<AllocError> for Fault {
     }
 }
 
-// A title "a"; two parts, one titled "b", and one with a part that is 5 wide; 7 wide; one titled "c" beside it; and then a
-// field that isn't declared, of number 9.
+// A title "a"; two parts, one titled "b", and one with a part that is 5 wide; 7 wide; one titled "c" beside it; one that is
+// 2 wide, by the number 3; and then a field that isn't declared, of number 9.
 #[test]
 fn outlines_come_back(rt: HostRuntime) -> Result<(), Fault> {
     let alloc = rt.alloc();
     let bytes = [
-        10, 1, 97, 18, 3, 10, 1, 98, 18, 4, 18, 2, 24, 5, 24, 7, 34, 3, 10, 1, 99, 72, 1,
+        10, 1, 97, 18, 3, 10, 1, 98, 18, 4, 18, 2, 24, 5, 24, 7, 34, 3, 10, 1, 99, 42, 6, 8, 3, 18, 2,
+        24, 2, 72, 1,
     ];
     let mut outline = Outline::blank(alloc);
     outline.merge_from_slice(alloc, &bytes)?;
@@ -46,6 +47,10 @@ fn outlines_come_back(rt: HostRuntime) -> Result<(), Fault> {
     assert!(rt; outline.width == 7);
     match &outline.beside {
         Some(beside) => assert!(rt; beside.title.as_str() == "c"),
+        None => assert!(rt; false),
+    }
+    match outline.by_number.get(&3) {
+        Some(third) => assert!(rt; third.width == 2),
         None => assert!(rt; false),
     }
     let written = outline.try_encode_to_vec(alloc)?;
