@@ -5,7 +5,7 @@
 //! [`Selves`](selves::Selves) visits them and takes fields into them. The passes come to themselves again through a function
 //! that they hand on.
 //!
-//! `cut` of `takes.rt`, `kept_len` of `size_self.rt`, the two visitors of `size_self.rt` and `write_self.rt`, and
+//! `pairs_by.rt`, `cut` of `takes.rt`, `kept_len` of `size_self.rt`, the two visitors of `size_self.rt` and `write_self.rt`, and
 //! `specs/Apart.antt` with its proofs are copies of what `buffa_fields` has and can't be named from here.
 #![tactic(auto)]
 

@@ -18,9 +18,7 @@ use crate::inner::Inner;
 use crate::pairs_by::{pairs_len_by, take_pair_by, write_pairs_by};
 use buffa_fields::ordered_key::OrderedKey;
 use buffa_map::map_codec::MapCodec;
-use buffa_wire::{
-    Budget, DecodeContext, DecodeError, EncodeError, EncodeSink, SizeCache, Tag,
-};
+use buffa_wire::{Budget, DecodeContext, DecodeError, EncodeError, EncodeSink, SizeCache, Tag};
 use std::alloc::Global;
 use std::collections::BTreeMap;
 

@@ -14,7 +14,7 @@ ghost use Rattle.buffa_self.specs.Words.{encoding_by};
 
 use crate::begins::Begins;
 use crate::laid::Laid;
-use crate::maps::{map_counted};
+use crate::maps::map_counted;
 use crate::selves::Selves;
 use crate::sizes::{list_len, one_len};
 use crate::visits::Visits;
@@ -120,7 +120,8 @@ impl<F: Drop> SizerBy<'_, F> {
     }
 }
 
-impl<M: Begins, F: Fn(&M, &mut SizeCache) -> Result<u32, EncodeError>> Visits<M> for SizerBy<'_, F> {
+impl<M: Begins, F: Fn(&M, &mut SizeCache) -> Result<u32, EncodeError>> Visits<M>
+    for SizerBy<'_, F> {
     ghost IsAt = { λ z s. IsCounted s.cache.ghost_name s.total s.cache.now z };
 
     ghost Waits = { λ ss s. Unit {0} };

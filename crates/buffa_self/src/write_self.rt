@@ -13,7 +13,7 @@ ghost use Rattle.buffa_self.specs.Words.{encoding_by};
 
 use crate::begins::Begins;
 use crate::laid::Laid;
-use crate::maps::{map_put};
+use crate::maps::map_put;
 use crate::selves::Selves;
 use crate::visits::Visits;
 use crate::writes::{write_list, write_one};
@@ -129,8 +129,9 @@ fn one_put<M: Laid, S: EncodeSink, F: Fn(&M, &mut SizeCache, &mut S) -> Result<(
     write_one(number, one, cache, sink, write)
 }
 
-impl<M: Begins, S: EncodeSink, F: Fn(&M, &mut SizeCache, &mut S) -> Result<(), EncodeError>> Visits<M>
-    for WriterBy<'_, S, F> {
+impl<M: Begins, S: EncodeSink, F: Fn(&M, &mut SizeCache, &mut S) -> Result<(), EncodeError>> Visits<
+    M,
+> for WriterBy<'_, S, F> {
     ghost IsAt = { λ z w. IsPut w.sink.ghost_name w.cache.ghost_name (S.written w.sink.now) w.cache.now w.result z };
 
     ghost Waits = { λ ss w. Follow ss w.result w.cache.now };

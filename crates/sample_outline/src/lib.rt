@@ -2,6 +2,5 @@
 #![tactic(auto)]
 
 pub mod outline;
-
 #[cfg(test)]
 mod tests;

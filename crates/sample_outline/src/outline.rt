@@ -1,7 +1,6 @@
 //! A part of a text, with the parts in it.
 
 ghost use Rattle.std.proofs.Common.{lit<, refl};
-
 ghost use Rattle.buffa_self.specs.Open.{keeps, knotted, list_inside, map_inside, member, one_inside};
 
 use buffa_fields::kept;

@@ -35,8 +35,8 @@ impl From<AllocError> for Fault {
 fn outlines_come_back(rt: HostRuntime) -> Result<(), Fault> {
     let alloc = rt.alloc();
     let bytes = [
-        10, 1, 97, 18, 3, 10, 1, 98, 18, 4, 18, 2, 24, 5, 24, 7, 34, 3, 10, 1, 99, 42, 6, 8, 3, 18, 2,
-        24, 2, 72, 1,
+        10, 1, 97, 18, 3, 10, 1, 98, 18, 4, 18, 2, 24, 5, 24, 7, 34, 3, 10, 1, 99, 42, 6, 8, 3, 18,
+        2, 24, 2, 72, 1,
     ];
     let mut outline = Outline::blank(alloc);
     outline.merge_from_slice(alloc, &bytes)?;
@@ -63,7 +63,10 @@ fn outlines_come_back(rt: HostRuntime) -> Result<(), Fault> {
 fn fields_come_in_any_order(rt: HostRuntime) -> Result<(), Fault> {
     let alloc = rt.alloc();
     let mut outline = Outline::blank(alloc);
-    outline.merge_from_slice(alloc, &[34, 2, 24, 5, 18, 0, 34, 3, 10, 1, 99, 24, 7, 18, 2, 24, 1])?;
+    outline.merge_from_slice(
+        alloc,
+        &[34, 2, 24, 5, 18, 0, 34, 3, 10, 1, 99, 24, 7, 18, 2, 24, 1],
+    )?;
     let written = outline.try_encode_to_vec(alloc)?;
     assert!(rt; written.as_slice() == &[18, 0, 18, 2, 24, 1, 24, 7, 34, 5, 10, 1, 99, 24, 5][..]);
     Ok(())

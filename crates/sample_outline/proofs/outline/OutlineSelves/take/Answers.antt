@@ -33,5 +33,11 @@ pub returns-in-5-clause-taken : goal.returns-in-5-clause-taken
 returns-in-5-clause-taken g c =
     let n = c.args.tag.number in
     let is = sym c.field_number.ensures ∙ c.in-5.is in
-    rw (sym c.self.view_is) (not_chosen _ n 1 (λ e. let no = sym is ∙ e in cc) (refl, not_chosen _ n 2 (λ e. let no = sym is ∙ e in cc) (refl, not_chosen _ n 3 (λ e. let no = sym is ∙ e in cc)
-    (refl, not_chosen _ n 4 (λ e. let no = sym is ∙ e in cc) (refl, chosen _ n 5 is (c.take_map.ensures, refl))))))
+    rw (sym c.self.view_is) (not_chosen _ n 1 (λ e. let no = sym is ∙ e in cc) (
+      refl,
+      not_chosen _ n 2 (λ e. let no = sym is ∙ e in cc) (
+        refl,
+        not_chosen _ n 3 (λ e. let no = sym is ∙ e in cc)
+            (refl, not_chosen _ n 4 (λ e. let no = sym is ∙ e in cc) (refl, chosen _ n 5 is (c.take_map.ensures, refl))),
+      ),
+    ))
