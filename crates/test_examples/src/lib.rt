@@ -16,6 +16,8 @@ mod held;
 #[cfg(test)]
 mod node;
 #[cfg(test)]
+mod outline;
+#[cfg(test)]
 mod palette;
 #[cfg(test)]
 mod payment;
