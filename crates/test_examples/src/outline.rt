@@ -4,6 +4,11 @@ use buffa::{Blank, Message};
 use sample_outline::outline::Outline;
 use std::test::Fail;
 
+// How wide the first part of a part is.
+fn width_inside(outline: &Outline, at: usize) -> Option<i32> {
+    Some(outline.parts.get(at)?.parts.first()?.width)
+}
+
 // A title "a"; two parts, one titled "b", and one with a part that is 5 wide; 7 wide; one titled "c" beside it; one that is
 // 2 wide, by the number 3; and then a field that isn't declared, of number 9.
 #[test]
@@ -18,7 +23,7 @@ fn outlines_come_back(rt: HostRuntime) -> Result<(), Fail> {
     assert!(rt; outline.title.as_str() == "a");
     assert!(rt; outline.parts.len() == 2);
     assert!(rt; outline.parts[0].title.as_str() == "b");
-    assert!(rt; outline.parts[1].parts[0].width == 5);
+    assert!(rt; width_inside(&outline, 1) == Some(5));
     assert!(rt; outline.width == 7);
     match &outline.beside {
         Some(beside) => assert!(rt; beside.title.as_str() == "c"),
