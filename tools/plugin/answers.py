@@ -17,7 +17,7 @@ def to_answer(message):
         seen[kind] = seen.get(kind, 0) + 1
         if max(seen.values()) > ALIKE or sum(seen.values()) > IN_ALL:
             found.append(at)
-    return found if not message.held else []
+    return found
 
 
 def calls(message):

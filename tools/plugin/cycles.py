@@ -22,17 +22,15 @@ class Edge:
 def hold_as_encodings(world):
     """Finds the fields that messages can't have as messages, since they would hold themselves: these are held as encodings, and told.
 
-    A message that holds itself in one list, one map or one message alone has a form of its own. Where it does in several, or in a
-    oneof, all of these are held as encodings. Of messages that hold one another, the field that comes last on the way around is,
-    and one in no oneof before one that is in one.
+    A message may hold itself in lists, in maps and in single messages; in a oneof it is held as encodings. Of messages that hold one
+    another, the field that comes last on the way around is, and one in no oneof before one that is in one.
     """
     messages = [it for it in world.order if not hasattr(it.it, "value")]
     edges = {it.full: [Edge(world, it, at) for at in range(len(it.it.field))] for it in messages}
     for full, out in edges.items():
         own = [e for e in out if e.to == full]
         edges[full] = [e for e in out if e.to and e.to != full]
-        if len(own) > 1 or own and own[0].is_case:
-            encode(world, [e for e in own if not e.is_group])
+        encode(world, [e for e in own if e.is_case and not e.is_group])
     done = set()
 
     def walk(full, way):
@@ -71,8 +69,8 @@ def see_no_cycle(world, messages):
     def walk(full, above):
         if full in above:
             path = " in ".join(reversed(above[above.index(full) :] + [full]))
-            why = f"it holds itself ({path}), other than as one list, one map or one message, and is written by hand, as Tree is"
-            messages[full].name.refuse(f"{why}, or a group in between is left out", "leave=NAME leaves out the field NAME")
+            why = f"it holds itself ({path}) in a group, which isn't written"
+            messages[full].name.refuse(why, "leave=NAME leaves out the field NAME")
         for member in messages[full].members:
             for inner in member.inside:
                 if inner in messages and inner not in done:

@@ -21,7 +21,7 @@ def depth(message, depths):
 
 
 def name_meanings(messages):
-    """Gives those a meaning with a name that are too deep, from the innermost outwards."""
+    """Gives those a meaning with a name that are too deep, from the innermost outwards. A message that holds itself means itself."""
     depths, types = {}, {}
 
     def see(message):
@@ -34,8 +34,9 @@ def name_meanings(messages):
             see(inner)
         below = set().union({full}, *(types[it.name.full] for it in inside))
         deep = depth(message, depths)
-        message.is_opaque |= deep > DEEPEST or len(below) > MOST_TYPES
-        depths[full], types[full] = (1, {full}) if message.is_opaque else (deep, below)
+        message.is_opaque = not message.holds_itself and (deep > DEEPEST or len(below) > MOST_TYPES)
+        has_name = message.holds_itself or message.is_opaque
+        depths[full], types[full] = (1, {full}) if has_name else (deep, below)
 
     for message in messages.values():
         see(message)

@@ -1,6 +1,7 @@
 """A getter for each member with a declared default: what the member holds, or the default where nothing is there."""
 from google.protobuf.descriptor_pb2 import FieldDescriptorProto as Field
 
+import knots
 from files import clean
 
 ESCAPES = {"n": 10, "r": 13, "t": 9, '"': 34, "'": 39, "\\": 92}
@@ -65,6 +66,11 @@ def variant(member, enums):
     return member.world.types[full], enums[full].by_name[member.it.default_value][1]
 
 
+def number_of(member, enums):
+    """The number of the default of an enum."""
+    return enums[member.it.type_name.lstrip(".")].by_name[member.it.default_value][0].it.number
+
+
 def with_getter(message):
     return [k for k in message.members if k.has_getter]
 
@@ -73,7 +79,7 @@ def variants_used(message, enums):
     """By their enums, the values that are defaults."""
     found = {}
     for member in with_getter(message):
-        if member.it.type == Field.TYPE_ENUM:
+        if member.it.type == Field.TYPE_ENUM and not message.holds_itself:
             found.setdefault(member.it.type_name.lstrip("."), set()).add(variant(member, enums)[1])
     return found
 
@@ -90,7 +96,10 @@ def words(message, enums):
     found = {"◌≡◌", "unwrap_or"} if with_getter(message) else set()
     for member in with_getter(message):
         if member.it.type in TEXTS:
-            found |= {"option_map"} | in_contract(codes_of(member))[1] | ({"string_bytes"} if is_text(member) else set())
+            found |= in_contract(codes_of(member))[1] | (set() if message.holds_itself else {"option_map"})
+            found |= {"string_bytes"} if is_text(member) and not message.holds_itself else set()
+        elif member.it.type == Field.TYPE_ENUM and message.holds_itself:
+            found |= {"pos" if number_of(member, enums) >= 0 else "negsuc"}
         elif member.it.type != Field.TYPE_ENUM:
             found |= scalar(member)[2]
     return found
@@ -109,16 +118,24 @@ def codes_of(member):
 def text_getter(member, held):
     """A getter of text or bytes: its type, its clause, and the lines of its body."""
     name, codes, is_string = member.name, codes_of(member), is_text(member)
-    part = "string_bytes" if is_string else "(λ it. it.items)"
-    clause = f"result.now ≡ unwrap_or (option_map {part} {held}) {in_contract(codes)[0]}"
+    clause = f"result.now ≡ unwrap_or {held} {in_contract(codes)[0]}"
     call = "as_str" if is_string else "as_slice"
     body = [f"match &self.{name} {{", f"    Some(it) => it.{call}(),", f"    None => {literal(codes, is_string)},", "}"]
     return "&str" if is_string else "&[u8]", clause, body
 
 
-def getter(member, at, enums):
-    """The getter of one member, of what contracts call `at`."""
-    name, held = member.name, f"{at}.{member.in_contract}"
+def held_by(message, member, at):
+    """What a message, which contracts call `at`, has for a member."""
+    if message.holds_itself:
+        return f"(rest_of {at}){knots.at(message, member)}"
+    held = f"{at}.{member.in_contract}"
+    part = "string_bytes" if is_text(member) else "(λ it. it.items)"
+    return f"(option_map {part} {held})" if member.it.type in TEXTS else held
+
+
+def getter(message, member, at, enums):
+    """The getter of one member of a message, which contracts call `at`."""
+    name, held = member.name, held_by(message, member, at)
     if member.it.type in TEXTS:
         rust, clause, body = text_getter(member, held)
     else:
@@ -127,7 +144,12 @@ def getter(member, at, enums):
             value, means = f"{rust}::{variant(member, enums)[1]}", variant(member, enums)[1]
         else:
             value, means, _ = scalar(member)
-        clause, body = f"result ≡ unwrap_or {held} {means}", [f"self.{name}.unwrap_or({value})"]
+        result = "result"
+        if member.it.type == Field.TYPE_ENUM and message.holds_itself:
+            number = number_of(member, enums)
+            result = f"⟦<{rust} as Blank>⟧.meaning result"
+            means = f"(pos {number})" if number >= 0 else f"(negsuc {-number - 1})"
+        clause, body = f"{result} ≡ unwrap_or {held} {means}", [f"self.{name}.unwrap_or({value})"]
     made = [f"    /// `{name}`, or its default where it isn't there: {clean(member.default())}.", f"    pub fn {member.getter}(&self) -> {rust}"]
     return made + [f"        ensures is {{ {clause} }}", "    {"] + [f"        {it}" for it in body] + ["    }"]
 
@@ -137,10 +159,10 @@ def getters(message, enums):
     members = with_getter(message)
     if not members:
         return []
-    made = ["", f"impl {message.own} {{"]
+    made = ["", f"impl {message.rust} {{"]
     uses = sorted(f"    ghost use {declared(message.world, full)}.{{{', '.join(sorted(of))}}};" for full, of in variants_used(message, enums).items())
     made += uses + [""] * bool(uses)
     at = "self.entry.now" if any(k.name == "now" for k in message.members) else "self.now"
     for member in members:
-        made += getter(member, at, enums) + [""] * (member is not members[-1])
+        made += getter(message, member, at, enums) + [""] * (member is not members[-1])
     return made + ["}"]

@@ -25,7 +25,9 @@ FACADE = {
     **{it: "buffa::fields" for it in ["And"] + [f"And{n}" for n in range(3, 17)]},
     **{it: "buffa::fields" for it in "Fields Formed Group Keeping KeptFields Listed Listing MapOf MapOfNested Member Nested".split()},
     **{it: "buffa::fields" for it in "Optional OrderedMapOf OrderedMapOfNested Packed Plain Repeated RepeatedGroup".split()},
-    **{it: "buffa::fields" for it in "RepeatedNested Required Visitor Holds Nest MapNest Chain kept".split()},
+    **{it: "buffa::fields" for it in "RepeatedNested Required Visitor kept".split()},
+    **{it: "buffa::fields" for it in "ByKey Keyed Laid SelfFields SelfListed SelfListing SelfMerger SelfVisitor".split()},
+    **{it: "buffa::fields" for it in "take_list take_map take_one take_one_of".split()},
     **{it: "buffa::fields" for it in "Case OneOf Or Set case_reads_back visit_one_of".split()},
     **{it: "buffa" for it in "Blank DoubleBits FloatBits DecodeContext DecodeError EnumValue Enumeration ExtensionSet Tag UnknownFields".split()},
     "Bytes": "bytes",
@@ -57,16 +59,21 @@ BELOW = {
     "Bytes": "bytes",
     "Global": "std::alloc",
     "BTreeMap": "std::collections",
-    "Chain": "buffa_fields::held_one",
-    "Holds": "buffa_fields::held",
-    "MapNest": "buffa_fields::held_map",
-    "Nest": "buffa_fields::held",
+    **{it: "buffa_fields::keyed" for it in ("ByKey", "Keyed")},
+    **{it: "buffa_fields::self_listing" for it in ("SelfListed", "SelfListing")},
+    **{it: "buffa_fields::inside_takes" for it in ("take_list", "take_one")},
+    "Laid": "buffa_fields::laid",
+    "SelfFields": "buffa_fields::self_fields",
+    "SelfMerger": "buffa_fields::self_merger",
+    "SelfVisitor": "buffa_fields::self_visitor",
+    "take_map": "buffa_fields::inside_maps",
+    "take_one_of": "buffa_fields::self_one_of",
     "Model": "std::marker",
     "String": "std::string",
     "kept": "buffa_fields::kept",
 }
 # Names that a type of one's own can't have beside those.
-TAKEN = set(FACADE) | set("Option Result Vec Some None Ok Err Box Self TheLinks V".split())
+TAKEN = set(FACADE) | set("Option Result Vec Some None Ok Err Box Self TheLinks I V".split())
 
 
 def snake(name):

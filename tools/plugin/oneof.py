@@ -10,7 +10,7 @@ class OneOf:
     """How a oneof stands in its message: as one member, which is an enum of its cases in an Option."""
 
     is_required = is_list = is_encoded = is_bytes = keeps = has_getter = False
-    key = key_type = None
+    itself = None
 
     def __init__(self, world, field, name, cases):
         self.world, self.field, self.it, self.name = world, field, field.it, name

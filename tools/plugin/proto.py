@@ -27,8 +27,6 @@ SCALARS = {
     Field.TYPE_STRING: ("Str", "String", "[u8; 0]", 24, "String::new(alloc)"),
     Field.TYPE_BYTES: ("BytesVec", "Vec<u8>", "[u8; 0]", 24, "Vec::new(alloc)"),
 }
-# What a message that holds itself is, by the member type of the field in which it does.
-HOLDERS = {"RepeatedNested": "Nest", "MapOfNested": "MapNest", "OrderedMapOfNested": "MapNest", "Nested": "Chain"}
 REALS = (Field.TYPE_FLOAT, Field.TYPE_DOUBLE)
 # Calls of a message, which a getter would hide.
 CALLS = set(
@@ -49,18 +47,22 @@ class Member:
         if member(self.name) != self.name:
             field.refuse(f"no member can be called {self.name}", "write another name behind its rename=")
         self.in_contract = f"«{self.name}»" if self.name in ESCAPED else self.name
-        self.keeps, self.needs, self.inside, self.key, self.key_type = False, set(), [], None, None
-        self.world = world
+        self.keeps, self.needs, self.inside, self.world = False, set(), [], world
+        # Of a member that holds the message's own type: its kind, and the codec and the type of the keys of a map.
+        self.itself, self.key, self.key_type = None, None, None
         self.told = {key for key in FIELD_KEYS if field.full in world.fields[key]}
         entry = world.entries.get(self.it.type_name)
+        self.is_own = world.target(self.it) == message.full
         self.is_list = self.it.label == Field.LABEL_REPEATED
         self.is_case = is_case(self.it)
         self.see_told(entry)
         self.is_required = self.it.label == Field.LABEL_REQUIRED and "optional" not in self.told
         self.is_encoded = "encoded" in self.told or field.full in world.encoded
-        self.is_bytes = self.see_bytes(entry, message)
+        self.is_bytes = self.see_bytes(entry)
         if self.is_encoded:
             self.as_encodings(entry)
+        elif self.is_own and not self.is_case and not self.is_group():
+            self.as_itself(entry)
         elif entry:
             self.as_map(entry)
         elif self.it.type in MESSAGES:
@@ -71,11 +73,10 @@ class Member:
         self.has_getter = self.see_default()
         self.getter = self.name + "_" if self.name in CALLS else self.name
 
-    def see_bytes(self, entry, message):
+    def see_bytes(self, entry):
         """Whether its texts are held as bytes, and whether a map's keys stay texts: those of an ordered map do, as no bytes are ordered."""
         kinds = [it.type for it in (entry.field if entry else [self.it])]
-        is_its_own = not self.is_encoded and self.world.target(self.it) == message.full
-        is_ordered = entry and (self.world.maps or "ordered" in self.told or is_its_own)
+        is_ordered = entry and (self.world.maps or "ordered" in self.told or self.is_own and not self.is_encoded)
         self.has_text_keys = bool(is_ordered) and kinds[0] == Field.TYPE_STRING
         is_asked = "bytes" in self.told or self.world.strings and self.field.file.is_closed
         if not is_asked or Field.TYPE_STRING not in kinds:
@@ -119,13 +120,12 @@ class Member:
         """Refuses a parameter where it is for other fields."""
         value = entry.field[1] if entry else self.it
         is_message = self.it.type in MESSAGES and not entry
-        is_group = self.it.type == Field.TYPE_GROUP or "delimited" in self.told
         is_single = not self.is_list and not self.is_case and self.it.type not in MESSAGES and "optional" not in self.told
         texts = [it for it in (entry.field if entry else [self.it]) if it.type == Field.TYPE_STRING]
         others = {
             "bytes": None if texts else "no text, and no map with texts",
             "delimited": None if is_message else "no message and no list of messages",
-            "encoded": None if value.type in MESSAGES and not is_group else "no message, and no list or map of messages",
+            "encoded": None if value.type in MESSAGES and not self.is_group() else "no message, and no list or map of messages",
             "implicit": None if is_single and self.field.file.is_closed else "no optional number, text or enum of proto2",
             "ordered": None if entry else "no map",
             "shared": None if value.type == Field.TYPE_BYTES else "of no bytes",
@@ -187,10 +187,31 @@ class Member:
         else:
             self.be("Plain", codec, rust, means, cost, blank)
 
+    def is_group(self):
+        return self.it.type == Field.TYPE_GROUP or "delimited" in self.told
+
+    def as_itself(self, entry):
+        """A list, a map or one of the message's own type."""
+        name = self.world.type_of(self.field, (entry.field[1] if entry else self.it).type_name)
+        self.member_type, self.means = "", ""
+        if entry:
+            self.itself = "map"
+            self.key, self.key_type = self.codec(entry.field[0], self.has_text_keys)[:2]
+            self.needs |= {"BTreeMap", "ByKey", "Keyed", "take_map"}
+            self.rust, self.cost, self.blank = f"BTreeMap<{self.key_type}, {name}>", 24, "BTreeMap::new(alloc)"
+        elif self.is_list:
+            self.itself = "list"
+            self.needs |= {"take_list"}
+            self.rust, self.cost, self.blank = f"Vec<{name}>", 24, "Vec::new(alloc)"
+        else:
+            self.itself = "one"
+            self.needs |= {"take_one"}
+            self.rust, self.cost, self.blank = f"Option<Box<{name}>>", 8, "None"
+
     def as_message(self):
         name = self.world.type_of(self.field, self.it.type_name)
         self.inside.append(self.it.type_name.lstrip("."))
-        member_type = "Group" if self.it.type == Field.TYPE_GROUP or "delimited" in self.told else "Nested"
+        member_type = "Group" if self.is_group() else "Nested"
         means = f"<{name} as Blank>::Meaning"
         if self.is_case:
             self.be_case(member_type, name, name, means, None)
@@ -212,7 +233,6 @@ class Member:
     def as_map(self, entry):
         key, value = entry.field
         codec, rust, means = self.codec(key, self.has_text_keys)[:3]
-        self.key, self.key_type = codec, rust
         is_ordered = self.world.maps or "ordered" in self.told
         into, cost = ("BTreeMap", 24) if is_ordered else ("Map", 112)
         member_type = "OrderedMapOf" if is_ordered else "MapOf"
@@ -267,7 +287,7 @@ def is_case(field):
 
 
 class Message:
-    """A message: its members in the order of their numbers, and apart from them the one in which it may hold itself."""
+    """A message: its members in the order of their numbers."""
 
     def __init__(self, world, name):
         self.world, self.name, self.rust, self.it = world, name, world.types[name.full], name.it
@@ -277,14 +297,12 @@ class Message:
         self.left = sorted((f for f in fields if f.full in world.left), key=lambda f: f.it.number)
         self.listed = [world.tries(Member, world, f, name) for f in fields if f.full not in world.left]
         self.listed = sorted(filter(None, self.listed), key=lambda k: k.number)
-        self.held, self.holder = self.member_of_itself()
-        self.fields = [k for k in self.listed if k is not self.held]
+        self.fields = self.listed
         self.oneofs = list(filter(None, (world.tries(self.one_of, it) for it in world.oneofs.get(name.full, []))))
         self.members = sorted([k for k in self.fields if not k.is_case] + self.oneofs, key=lambda k: k.number)
-        self.own = self.rust + "Own" if self.held else self.rust
-        self.is_keeping = name.full not in world.dropping
-        self.is_opaque = name.full in world.opaque
-        for see in (self.see_names, self.see_own, self.see_count, self.see_kept):
+        self.holds_itself = any(k.itself for k in self.members)
+        self.is_keeping, self.is_opaque = name.full not in world.dropping, False
+        for see in (self.see_names, self.see_rest, self.see_count, self.see_kept):
             world.tries(see)
 
     def one_of(self, field):
@@ -330,18 +348,12 @@ class Message:
             way = f"leave out those behind the {MOST}th, by --buffa_opt=" + ",".join(f"leave={name}" for name in over)
             raise Refused(f"{self.name.at()}: it has {len(self.members)} members, of which {MOST} are proved in one message: {way}", over)
 
-    def member_of_itself(self):
-        """The member in which the message holds itself, if it is one list, one map or one message, and what it makes of the message."""
-        found = [k for k in self.listed if self.name.full in k.inside]
-        holder = HOLDERS.get(found[0].member_type.split("<")[0]) if len(found) == 1 else None
-        return (found[0], holder) if holder else (None, None)
-
-    def see_own(self):
-        """Refuses a name that another type has."""
+    def see_rest(self):
+        """Names what its fields that aren't declared are in, where it holds itself and has extensions; another type may have the name."""
         way = f"give it another name by --buffa_opt=rename={self.name.full}:NAME"
-        taken = set(self.world.types.values()) | TAKEN
-        if self.held and self.own in taken:
-            self.name.refuse(f"what it has beside {self.held.it.name} is to be called {self.own}, as another type is", way)
+        self.rest = f"{self.rust}Rest" if self.holds_itself and self.it.extension_range else ""
+        if self.rest and self.rest in set(self.world.types.values()) | TAKEN:
+            self.name.refuse(f"what it keeps its extensions in is to be called {self.rest}, as another type is", way)
 
     def see_meaning(self):
         """Refuses a name of a meaning that another type has."""
@@ -362,9 +374,7 @@ class Message:
         """What is told, or the bytes of the struct, by the rule at the head of the plugin."""
         if self.name.full in self.world.costs:
             return self.world.costs[self.name.full]
-        parts = [k.cost_of(messages) for k in self.members]
-        inside = 8 if self.holder == "Chain" else 24 * bool(self.held)
-        return sum(parts) + 24 * self.is_keeping + inside or 8
+        return sum(k.cost_of(messages) for k in self.members) + 24 * self.is_keeping or 8
 
 
 class Variants:

@@ -1,4 +1,5 @@
 """What a message requires: the call that says whether it is there, in the messages inside too."""
+import knots
 from oneof import OneOf
 
 WIDTH = 100
@@ -11,22 +12,23 @@ class Asked:
     def __init__(self, message, messages, needing):
         for one in message.oneofs:
             one.asked = [k for k in one.cases if needing & set(k.inside) and "optional" not in k.told and not is_held(k, messages)]
-        inner = [k for k in message.members if "optional" not in k.told and needing & set(k.inside)]
+        inner = [k for k in message.members if "optional" not in k.told and needing & set(k.inside) and not message.holds_itself]
         self.there = [k for k in message.members if k.is_required and k.rust.startswith("Option<")]
         self.looked = [k for k in inner if (k.asked if isinstance(k, OneOf) else not is_held(k, messages))]
         self.passed = [k for k in message.fields if k.is_encoded or needing & set(k.inside) and is_held(k, messages)]
-        self.passed += [message.held] * (message.held is not None)
+        self.passed += [k for k in message.members if k.itself or message.holds_itself and needing & set(k.inside)]
+        self.of = {k: f"(rest_of m){knots.at(message, k)}" if message.holds_itself else f"m.{k.in_contract}" for k in self.there}
 
     def parts(self):
         """What is asked, one after the other: of each part its term in contracts, and its call."""
-        there = [(f"is_some m.{k.in_contract}", f"self.{k.name}.is_some()") for k in self.there]
+        there = [(f"is_some {self.of[k]}", f"self.{k.name}.is_some()") for k in self.there]
         looked = [(f"⟦<{k.rust} as Required>⟧.initialized m.{k.in_contract}", f"self.{k.name}.is_initialized()") for k in self.looked]
         return there + looked
 
 
 def is_held(member, messages):
-    """Whether a member has messages that hold themselves, which are in no form that has the call."""
-    return any(messages[it].held for it in member.inside if it in messages)
+    """Whether a member has messages that hold themselves, of which the call asks for their own members alone."""
+    return any(messages[it].holds_itself for it in member.inside if it in messages)
 
 
 def find_required(messages):
@@ -54,7 +56,7 @@ def initialized(message):
     if not message.asked:
         return []
     terms, calls = zip(*message.asked.parts())
-    made = ["", f"impl Required for {message.own} {{"] + rows("    ghost initialized = { λ m. ", terms, " };", " &&", LONGEST) + [""]
+    made = ["", f"impl Required for {message.rust} {{"] + rows("    ghost initialized = { λ m. ", terms, " };", " &&", LONGEST) + [""]
     return made + ["    fn is_initialized(&self) -> bool {"] + sum_of(calls) + ["    }", "}"]
 
 

@@ -1,6 +1,7 @@
 """The text of a file: a message from its fields, or an enum, laid out as rt fmt has it."""
 import re
 
+import knots
 import oneof
 import required
 from getters import declared, getters, variants_used, words
@@ -81,12 +82,12 @@ def docs(lines, indent=""):
 
 def message_docs(message):
     made = list(message.name.said) + ([""] if message.name.said else [])
-    parts = sorted(message.members + [message.held] * bool(message.held), key=lambda k: k.number)
-    made += [f"message {message.it.name} {{"] + [f"    {line}" for k in parts for line in lines_of(k.declared())]
+    made += [f"message {message.it.name} {{"] + [f"    {line}" for k in message.members for line in lines_of(k.declared())]
     made += [f"    {r};" for r in ranges(message)] + ["}"]
     for said, fields in remarks(message):
         if fields:
             made += ["", f"{said}: " + ", ".join(f"{f.name} = {f.number}" for f in fields) + "."]
+    made += ["", "Its extensions are those of its `rest`."] * bool(message.rest)
     return docs(made + [] if message.is_keeping else made + ["", "The fields that aren't declared are passed over."])
 
 
@@ -116,17 +117,8 @@ def remarks(message):
     yield "Held as the encoding of its last record, which merge_from_slice reads", cases
     yield "Held as bytes, which needn't be UTF-8", [k.it for k in message.fields if k.is_bytes]
     yield "Written as groups", told("delimited")
-    yield "Written in the order of their keys", [k.it for k in message.fields if k.member_type.startswith("Ordered")]
+    yield "Written in the order of their keys", [k.it for k in message.fields if k.member_type.startswith("Ordered") or k.itself == "map"]
     yield "Not written where it is the default", told("implicit")
-
-
-def held_docs(message):
-    """What is said of a message that holds itself, beside what is said of each message."""
-    name = message.held.it.name
-    what = "is `inside`" if message.holder == "Chain" else "are `inside`, by their keys" if message.held.key else "are `inside`"
-    made = ["", f"Its `{name}` {what}. Its other members are in `own`."]
-    made += ["Its extensions are those of `own`."] * bool(message.it.extension_range)
-    return docs(made + ([""] + message.held.field.said if message.held.field.said else []))
 
 
 def ranges(message):
@@ -150,8 +142,8 @@ def layout(members, is_keeping):
     return ["    ghost layout = { " + made[0]] + ["        " + it for it in made[1:]]
 
 
-def visits(name, members, is_keeping):
-    """The function that visits some members, one after the other, and then the fields that are kept."""
+def visits(members, is_keeping):
+    """The function that visits the members, one after the other, and then the fields that are kept."""
     made = []
     for member in members:
         if isinstance(member, oneof.OneOf):
@@ -161,18 +153,8 @@ def visits(name, members, is_keeping):
         made += called("        ", f"visitor.{word}::<{member.member_type}>", [str(member.number), f"&self.{member.name}"], ";")
     made += ["        visitor.visit_kept(&self.rest);"] * is_keeping
     if not made:
-        return [f"    fn {name}<V: Visitor>(&self, _visitor: &mut V) {{}}"]
-    return [f"    fn {name}<V: Visitor>(&self, visitor: &mut V) {{"] + made + ["    }"]
-
-
-def visits_of(message):
-    """Of a message that holds itself, the members in front of the one in which it does, and those behind it."""
-    if not message.held:
-        return visits("visit", message.members, message.is_keeping)
-    number = message.held.number
-    front = [k for k in message.members if k.number < number]
-    behind = [k for k in message.members if k.number > number]
-    return visits("front", front, False) + [""] + visits("behind", behind, message.is_keeping)
+        return ["    fn visit<V: Visitor>(&self, _visitor: &mut V) {}"]
+    return ["    fn visit<V: Visitor>(&self, visitor: &mut V) {"] + made + ["    }"]
 
 
 def take(message):
@@ -198,29 +180,29 @@ def take(message):
 
 
 def extension_set(message):
-    full = message.name.full
+    full, member = message.name.full, "fields" if message.rest else "rest"
     line = "    const PROTO_FQN: &'static str ="
     line += f' "{full}";' if len(line) + len(full) + 4 <= WIDTH else f'\n        "{full}";'
     return f"""
-impl ExtensionSet for {message.own} {{
+impl ExtensionSet for {message.rest or message.rust} {{
 {line}
 
     ghost fqn = {{ codes "{full}" }};
 
-    ghost fields_of = {{ λ m. m.rest }};
+    ghost fields_of = {{ λ m. m.{member} }};
 
-    ghost with_fields = {{ λ m w. record m {{ rest = w }} }};
+    ghost with_fields = {{ λ m w. record m {{ {member} = w }} }};
 
     fn extendee_name() -> &'static str {{
         Self::PROTO_FQN
     }}
 
     fn unknown_fields(&self) -> &UnknownFields {{
-        &self.rest
+        &self.{member}
     }}
 
     fn unknown_fields_mut(&mut self) -> &mut UnknownFields {{
-        &mut self.rest
+        &mut self.{member}
     }}
 
     ghost fields_of_with = {{ λ m w. refl }};
@@ -231,21 +213,19 @@ impl ExtensionSet for {message.own} {{
 }}""".split("\n")
 
 
-def outer(message):
-    """What the type of a message that holds itself is made of."""
-    key = message.held.key
-    return {"Holds", message.holder} | ({key} if key else set()) | ({"String"} if key == "Str" else set())
-
-
 def names_of(message, fields):
     """The names that the file of a message imports, but for types of the .proto's."""
     members = message.members
-    names = set("Visitor kept DecodeContext DecodeError Tag Global".split())
+    names = set("kept DecodeContext DecodeError Tag Global".split())
     names = names.union(*[k.needs for k in members])
-    names |= {"KeptFields", "UnknownFields"} if message.is_keeping else set()
-    names |= outer(message) if message.held else {"Blank", "Fields", "Formed", "Listed", "Listing"}
-    names |= {"Blank"} if any(" as Blank>" in k.means for k in members) else set()
+    names |= {"UnknownFields"} if message.is_keeping else set()
+    names |= {"ExtensionSet"} if message.it.extension_range else set()
+    names |= {"Required"} if message.asked else set()
     names |= {"Member"} if fields else set()
+    if message.holds_itself:
+        names |= {"take_one_of"} if message.oneofs else set()
+        return (names - {"And", "visit_one_of"}) | knots.names_of(message)
+    names |= {"Blank", "Fields", "Formed", "Listed", "Listing", "Visitor"} | ({"KeptFields"} if message.is_keeping else set())
     if members:
         names.add("And" if len(members) == 1 else f"And{min(len(members) + 1, 16)}")
         over = len(members) + 1 - 15
@@ -254,52 +234,60 @@ def names_of(message, fields):
             over -= 15
     if message.is_opaque:
         names = {it for it in names if it != "KeptFields" and not re.fullmatch(r"And\d*", it)} | {"Model"}
-        names -= {"Blank"} if message.held else set()
-    names |= {"ExtensionSet"} if message.it.extension_range else set()
-    return names | ({"Required"} if message.asked else set())
+    return names
 
 
 def head_of_message(world, message, enums):
-    fields = [k for k in message.members if not isinstance(k, oneof.OneOf)]
-    has_one, has_set = len(fields) < len(message.members), bool(message.it.extension_range)
-    layers = ["field"] * any(not k.keeps for k in fields) + ["field_kept"] * any(k.keeps for k in fields)
-    layers += ["keep"] if message.is_keeping else ["skip"]
-    layers += ["one_of"] * (has_one and world.over == "buffa")
+    """What the file of a message begins with: what it cites and imports."""
+    fields = [k for k in message.members if not isinstance(k, oneof.OneOf) and not k.itself]
     made = [f"//! {message.name.full}, made of {message.name.file.shown} by protoc-gen-buffa.", ""]
     made += ["ghost use Rattle.std.proofs.Common.{lit<, refl};"]
-    prelude = words(message, enums) | required.words(message) | ({"codes"} if has_set else set())
+    prelude = words(message, enums) | required.words(message) | ({"codes"} if message.it.extension_range else set())
     made += [f"ghost use Rattle.std.specs.Prelude.{{{', '.join(sorted(prelude))}}};"] * bool(prelude)
-    made += [f"ghost use Rattle.{world.over}.specs.Members.{{{', '.join(layers)}}};"]
-    made += ["ghost use Rattle.buffa_fields.specs.OneOf.{one_of};"] * (has_one and world.over != "buffa") + [""]
-    return made + uses(world, names_of(message, fields), {i for k in message.members for i in k.imports})
+    made += knots.head(message) if message.holds_itself else layers(message, fields)
+    return made + [""] + uses(world, names_of(message, fields), {i for k in message.members for i in k.imports})
+
+
+def layers(message, fields):
+    """The words of its members in contracts."""
+    over, has_one = message.world.over, bool(message.oneofs)
+    found = ["field"] * any(not k.keeps for k in fields) + ["field_kept"] * any(k.keeps for k in fields)
+    found += ["keep"] if message.is_keeping else ["skip"]
+    found += ["one_of"] * (has_one and over == "buffa")
+    made = [f"ghost use Rattle.{over}.specs.Members.{{{', '.join(found)}}};"]
+    return made + ["ghost use Rattle.buffa_fields.specs.OneOf.{one_of};"] * (has_one and over != "buffa")
 
 
 def struct(message):
-    """The struct of the members, and of a message that holds itself the type around it."""
-    made = message_docs(message)
-    if message.held:
-        key = f"{message.held.key}, {message.held.key_type}, " if message.held.key else ""
-        made += held_docs(message) + [f"pub type {message.rust} = {message.holder}<{key}{message.own}>;", ""]
-        made += docs([f"What `{message.rust}` has beside `{message.held.it.name}`."])
-    parts = []
+    """The struct of the members."""
+    made, parts = message_docs(message), []
     for member in message.members:
         parts += docs(member.field.said, "    ") + [f"    pub {member.name}: {member.rust},"]
-    parts += ["    /// The fields that aren't declared, in order.", "    pub rest: UnknownFields,"] * message.is_keeping
-    made += ["#[derive(Drop)]", f"pub struct {message.own} {{"]
-    return made + parts + ["}"] if parts else made[:-1] + [f"pub struct {message.own} {{}}"]
+    rest = message.rest or "UnknownFields"
+    parts += ["    /// The fields that aren't declared, in order.", f"    pub rest: {rest},"] * message.is_keeping
+    made += ["#[derive(Drop)]", f"pub struct {message.rust} {{"]
+    made = made + parts + ["}"] if parts else made[:-1] + [f"pub struct {message.rust} {{}}"]
+    return made + rest_of(message) if message.rest else made
+
+
+def rest_of(message):
+    """What the extensions of a message that holds itself are set in: its calls need a struct whose contracts see its fields."""
+    made = ["", f"/// The fields of a `{message.rust}` that aren't declared, in order, with its extensions.", "#[derive(Drop)]"]
+    return made + [f"pub struct {message.rest} {{", "    /// The fields.", "    pub fields: UnknownFields,", "}"]
 
 
 def blank(message):
     """The function of the default."""
-    members = [(k.name, k.blank) for k in message.members]
-    members += [("rest", "UnknownFields::new(alloc)")] * message.is_keeping
-    alloc = "alloc" if any("alloc" in of for _, of in members) else "_alloc"
-    made = [f"    fn blank({alloc}: Global) -> {message.own} {{"]
+    members, rest = [(k.name, k.blank) for k in message.members], "UnknownFields::new(alloc)"
+    members += [("rest", rest)] * (message.is_keeping and not message.rest)
+    alloc = "alloc" if message.is_keeping or any("alloc" in of for _, of in members) else "_alloc"
+    made = [f"    fn blank({alloc}: Global) -> {message.rust} {{"]
     short = ", ".join(f"{name}: {of}" for name, of in members)
-    if len(short) <= LITERAL_WIDTH:
-        made += [f"        {message.own} {{ {short} }}" if members else f"        {message.own} {{}}"]
+    if len(short) <= LITERAL_WIDTH and not message.rest:
+        made += [f"        {message.rust} {{ {short} }}" if members else f"        {message.rust} {{}}"]
     else:
-        made += [f"        {message.own} {{"] + [f"            {name}: {of}," for name, of in members] + ["        }"]
+        made += [f"        {message.rust} {{"] + [f"            {name}: {of}," for name, of in members]
+        made += [f"            rest: {message.rest} {{", f"                fields: {rest},", "            },"] * bool(message.rest) + ["        }"]
     return made + ["    }"]
 
 
@@ -317,46 +305,42 @@ def some_value(means):
     }.get(means, ("0", set()))
 
 
-def codes_inside(message, messages):
-    """By their modules, the codes of what messages that hold themselves mean, of those in a message at any depth."""
-    found, seen, to_see = set(), set(), list(message.members)
+def has_knots(message, messages):
+    """Whether messages that hold themselves are in a message, at any depth."""
+    seen, to_see = set(), list(message.members)
     while to_see:
         for full in set(to_see.pop().inside) & set(messages) - seen:
             seen.add(full)
-            found.add(messages[full].holder)
             to_see += messages[full].members
-    return [(holder + "s", f"coded_{snake(holder)}") for holder in sorted(found - {None})]
+    return any(messages[full].holds_itself for full in seen)
 
 
 def codes_used(message, codes):
-    """What a meaning of its own cites, by the facade."""
-    wire = ["Datum"] * message.is_keeping + ["coded_datum"]
-    made = [f"    ghost use Rattle.buffa.specs.Wire.{{{', '.join(wire)}}};"]
-    return made + [f"    ghost use Rattle.buffa.specs.Members.{{{', '.join(codes)}}};"] * bool(codes) + [""]
-
-
-def codes_below(message, inside):
-    """The same, by the crates below the facade."""
+    """What a meaning of its own cites, by the facade or by the crates below it."""
+    datum = ["Datum"] * message.is_keeping
+    if message.world.over == "buffa":
+        made = [f"    ghost use Rattle.buffa.specs.Wire.{{{', '.join(datum + ['coded_datum'])}}};"]
+        return made + ["    ghost use Rattle.buffa.specs.Knots.{coded_knot};"] * bool(codes) + [""]
     made = ["    ghost use Rattle.buffa_wire.specs.Code.{coded_datum};"]
     made += ["    ghost use Rattle.buffa_wire.specs.Records.{Datum};"] * message.is_keeping
-    return made + [f"    ghost use Rattle.buffa_fields.specs.{module}.{{{code}}};" for module, code in inside] + [""]
+    return made + ["    ghost use Rattle.buffa_fields.specs.Knots.{coded_knot};"] * bool(codes) + [""]
 
 
 def opaque_meaning(message, messages):
     """What the members of a message mean, as a struct that has none of their types in it."""
-    inside = codes_inside(message, messages)
+    codes = ["coded_knot"] * has_knots(message, messages)
     values = [some_value(k.means) for k in message.members] + [("[]", {"[]"}) if message.is_keeping else ("tt", set())]
     words = set().union(*[w for _, w in values]) | ({"List", "ℕ"} if message.is_keeping else set())
     name = f"{message.rust}Meaning"
-    made = docs([f"What the members of `{message.own}` mean, one after the other. It is never made."])
+    made = docs([f"What the members of `{message.rust}` mean, one after the other. It is never made."])
     made += ["#[derive(Drop)]", f"pub struct {name} {{", "    never: (),", "}", "", f"impl Model for {name} {{"]
     made += ["    ghost use Rattle.std.specs.Coded.{codes};"]
     made += [f"    ghost use Rattle.std.specs.Prelude.{{{', '.join(sorted(words))}}};"] * bool(words)
-    made += codes_used(message, [code for _, code in inside]) if message.world.over == "buffa" else codes_below(message, inside)
+    made += codes_used(message, codes)
     made += ["    ghost Value = { let Means : (P X : Type 0) → (P → X) → Type 0 = λ P X f. X in"]
     made += [f"        Means _ _ {meaning_of(k)} × (" for k in message.members]
     made += [f"        {'List (ℕ × Datum)' if message.is_keeping else 'Unit {0}'}{')' * len(message.members)} }};", ""]
-    made += [f"    ghost coded = {{ Prim.hlevel ({', '.join(['codes', 'coded_datum'] + [code for _, code in inside])}) }};", ""]
+    made += [f"    ghost coded = {{ Prim.hlevel ({', '.join(['codes', 'coded_datum'] + codes)}) }};", ""]
     return made + pairs("    ghost view = { λ m. ", [v for v, _ in values]) + ["}", ""]
 
 
@@ -379,32 +363,16 @@ def pairs(head, parts):
     return made + [f"{'  ' * at}      )," for at in reversed(range(last))] + ["    ) };"]
 
 
-def head_of_impl(message, messages):
-    """What both forms begin with: what the members mean, and what an element costs."""
-    cost = message.cost(messages)
-    made = meaning([k.means for k in message.members] + ["KeptFields" if message.is_keeping else "()"]) + [""]
-    if message.is_opaque:
-        made = [f"    type Meaning = {message.rust}Meaning;", ""]
-    return made + [f"    const COST: usize = {cost};", "", f"    ghost COST = {{ {cost} }};", "", "    ghost positive = { lit< tt };", ""]
-
-
-def held_form(message, messages):
-    """What a message that holds itself has of its own, in one impl."""
-    name, number = message.own, message.held.number
-    made = opaque_meaning(message, messages) if message.is_opaque else []
-    made += [f"impl Holds for {name} {{"] + head_of_impl(message, messages)
-    made += [f"    const NUMBER: u32 = {number};", "", f"    ghost NUMBER = {{ {number} }};", ""]
-    made += layout(message.members, message.is_keeping) + [""]
-    made += ["    ghost sound = { refl };", "", "    ghost other = { refl };", ""]
-    return made + blank(message) + [""] + visits_of(message) + [""] + take(message) + ["}"]
-
-
 def listed_form(message, messages):
-    name = message.own
+    """All that makes a struct a message."""
+    name, cost = message.rust, message.cost(messages)
     made = opaque_meaning(message, messages) if message.is_opaque else []
-    made += [f"impl Fields for {name} {{"] + head_of_impl(message, messages)
+    made += [f"impl Fields for {name} {{"]
+    means = meaning([k.means for k in message.members] + ["KeptFields" if message.is_keeping else "()"])
+    made += ([f"    type Meaning = {name}Meaning;"] if message.is_opaque else means) + [""]
+    made += [f"    const COST: usize = {cost};", "", f"    ghost COST = {{ {cost} }};", "", "    ghost positive = { lit< tt };", ""]
     made += layout(message.members, message.is_keeping) + ["", "    ghost sound = { refl };", ""]
-    made += visits_of(message) + [""] + take(message) + ["}", ""]
+    made += visits(message.members, message.is_keeping) + [""] + take(message) + ["}", ""]
     made += [f"impl Blank for {name} {{", f"    type Meaning = <{name} as Fields>::Meaning;", ""]
     made += [f"    ghost {a} = {{ ⟦<{name} as Fields>⟧.layout.{b} }};\n" for a, b in (("meaning", "meaning"), ("blank_is", "blank"))]
     made += blank(message) + ["}", "", f"impl Listing for {name} {{"]
@@ -414,7 +382,10 @@ def listed_form(message, messages):
 
 def write_message(world, message, messages, enums):
     made = head_of_message(world, message, enums) + [""] + struct(message) + [""]
-    made += held_form(message, messages) if message.held else listed_form(message, messages)
+    if message.holds_itself:
+        made += knots.form(message, message.cost(messages), blank(message), called)
+    else:
+        made += listed_form(message, messages)
     made += extension_set(message) if message.it.extension_range else []
     return "\n".join(made + required.initialized(message) + getters(message, enums)) + "\n"
 

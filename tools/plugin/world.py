@@ -56,13 +56,13 @@ class World:
 
     def read_parameters(self, text):
         self.crate, self.module, self.over, self.maps, self.strings = folder_name(), "messages", "buffa", "", ""
-        self.left, self.dropping, self.opaque, self.costs, self.renamed, self.mapped = set(), set(), set(), {}, {}, {}
+        self.left, self.dropping, self.costs, self.renamed, self.mapped = set(), set(), {}, {}, {}
         self.fields = {key: set() for key in FIELD_KEYS}
         for word in filter(None, text.split(",")):
             self.tries(self.read_parameter, word)
 
     def read_parameter(self, word):
-        named = {"leave": self.left, "drop": self.dropping, "opaque": self.opaque, **self.fields}
+        named = {"leave": self.left, "drop": self.dropping, **self.fields}
         key, _, value = word.partition("=")
         cost = re.fullmatch(r"(.*):([1-9][0-9]*)", value)
         renamed = re.fullmatch(r"([\w.]+):([A-Za-z_][A-Za-z0-9_]*)", value, re.ASCII)
@@ -91,7 +91,7 @@ class World:
         known = messages | fields | {it.full for ones in self.oneofs.values() for it in ones} | {it.full for it in enums} | {it.full for f in self.by_name.values() for it in f.others}
         told = [("thing", name) for name in self.left - known] + [("file", name) for name in self.mapped if name not in self.by_name]
         told += [("field", name) for name in set().union(*self.fields.values()) - fields]
-        told += [("message", name) for name in (self.dropping | self.opaque | set(self.costs)) - messages]
+        told += [("message", name) for name in (self.dropping | set(self.costs)) - messages]
         told += [("type, field or value", name) for name in set(self.renamed) - known - values]
         for kind, name in sorted(told):
             self.refused.append(Refused(f"no {kind} is called {clean(name)} in these files"))

@@ -1,14 +1,12 @@
 -- The words that this crate hands out: its own, and some of the crates below.
-pub mod Alike
 pub mod Extensions
 pub mod Items
 pub mod Keys
+pub mod Knots
 pub mod MapFields
 pub mod Members
 pub mod Slots
 pub mod Wire
-pub use Rattle.buffa_fields.specs.MapNests
-pub use Rattle.buffa_fields.specs.NamedMaps
 pub use Rattle.sample_node.specs.Branch
 pub use Rattle.sample_node.specs.NodeMeaning
 pub use Rattle.sample_node.specs.NodeEncoding

@@ -1,9 +1,8 @@
 -- Words that messages by their fields cite, under one name.
-pub use Rattle.buffa_fields.specs.Chains.{coded_chain}
+unfoldable pub use Rattle.buffa_fields.specs.Aside.{TookBeside}
+unfoldable pub use Rattle.buffa_fields.specs.Layout.{Took}
 pub use Rattle.buffa_fields.specs.Levels.{AreExactLevels}
-pub use Rattle.buffa_fields.specs.MapNests.{coded_map_nest}
 pub use Rattle.buffa_fields.specs.Members.{field, field_kept, keep, skip}
-pub use Rattle.buffa_fields.specs.Nests.{coded_nest}
 pub use Rattle.buffa_fields.specs.OneOf.{one_of}
 pub use Rattle.buffa_fields.specs.OneOfParts.{case, enum_of, no_case}
 pub use Rattle.buffa_fields.specs.declared.meaning.Or.TheVariants.{Other, This}

@@ -1,11 +1,10 @@
 //! Messages by their fields: a struct of one's own is a [`Message`](crate::Message), and its author writes no proof.
 //!
 //! A struct is one by [`Fields`], [`Blank`](crate::Blank), [`Listing`] and [`Formed`]; what these cite is handed on in
-//! `specs/` under the name `Members`. An enum of which a message has one case is a [`OneOf`]. A struct that holds a list of
-//! itself, a map of itself or one message of itself is a [`Nest`], a [`MapNest`] or a [`Chain`] of a struct that has [`Holds`].
-//! A struct of one's own with a map of itself is one by [`HoldsMap`], [`HoldingMap`] and [`Held`]. [`crate::laws::fields`],
-//! [`crate::laws::held_maps`], [`crate::laws::held_messages`], [`crate::laws::held_ones`] and [`crate::laws::oneofs`] say what
-//! each member type and each form is.
+//! `specs/` under the name `Members`. An enum of which a message has one case is a [`OneOf`]. A struct that holds its own type,
+//! in lists, in maps and in boxes, is one by [`Laid`], [`SelfFields`], [`Blank`](crate::Blank), [`SelfListing`] and [`Formed`];
+//! what its `Model` cites is under the name `Knots`. [`crate::laws::fields`], [`crate::laws::inside`],
+//! [`crate::laws::selves`] and [`crate::laws::oneofs`] say what each member type and each form is.
 //!
 //! ```ignore
 //! impl Fields for Stock { .. }
@@ -14,12 +13,12 @@
 pub use buffa_fields::case::{Case, Set, case_reads_back};
 pub use buffa_fields::fields::Fields;
 pub use buffa_fields::group::Group;
-pub use buffa_fields::held::{self, Holds, Inside, Nest};
-pub use buffa_fields::held_map::{self, MapInside, MapNest, MapNestMeaning};
-pub use buffa_fields::held_one::{self, Chain, ChainInside};
-pub use buffa_fields::holds_map::{self, Held, HoldingMap, HoldsMap};
+pub use buffa_fields::inside_maps::take_map;
+pub use buffa_fields::inside_takes::{take_list, take_one};
 pub use buffa_fields::keeping::Keeping;
 pub use buffa_fields::kept::{self, KeptFields};
+pub use buffa_fields::keyed::{ByKey, Keyed};
+pub use buffa_fields::laid::Laid;
 pub use buffa_fields::map_member::MapOf;
 pub use buffa_fields::map_nested::MapOfNested;
 pub use buffa_fields::meaning::{
@@ -41,5 +40,10 @@ pub use buffa_fields::repeated::Repeated;
 pub use buffa_fields::repeated_group::RepeatedGroup;
 pub use buffa_fields::repeated_nested::RepeatedNested;
 pub use buffa_fields::required::Required;
+pub use buffa_fields::self_fields::SelfFields;
+pub use buffa_fields::self_listing::{SelfListed, SelfListing};
+pub use buffa_fields::self_merger::SelfMerger;
+pub use buffa_fields::self_one_of::take_one_of;
+pub use buffa_fields::self_visitor::SelfVisitor;
 pub use buffa_fields::visitor::Visitor;
 pub use buffa_wire::Formed;

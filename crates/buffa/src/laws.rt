@@ -27,8 +27,6 @@ use std::hash::{BuildHasher, Hash};
 
 /// Laws of the names of this crate: limits, codecs, and the usual map.
 pub use crate::name_laws as names;
-/// Laws of the words of clauses that this crate hands on.
-pub use crate::word_laws as words;
 /// Laws of bytes: varints, tags, fields, scalars and texts.
 pub use buffa_wire::laws::wire;
 /// Laws of codecs of extensions: scalars, texts, enums and lists.
@@ -37,12 +35,10 @@ pub use buffa_codec::laws as extension_codecs;
 pub use buffa_ext::laws as extensions;
 /// Laws of messages that are lists of their members, and of member types.
 pub use buffa_fields::laws as fields;
-/// Laws of messages that hold a map of themselves.
-pub use buffa_fields::held_map_laws as held_maps;
-/// Laws of structs that hold a map of themselves in a member with a name of its own.
-pub use buffa_fields::holds_map_laws as held_messages;
-/// Laws of messages that may hold one message of themselves.
-pub use buffa_fields::held_one_laws as held_ones;
+/// Laws of members that hold messages of the message's own type, and of such messages.
+pub use buffa_fields::inside_laws as inside;
+/// Laws of messages that hold themselves, in members of any kind.
+pub use buffa_fields::self_laws as selves;
 /// Laws of oneofs and of their cases.
 pub use buffa_fields::one_of_laws as oneofs;
 /// Laws of map fields: codecs, entries, runs, sizes, encodings and rewrites.

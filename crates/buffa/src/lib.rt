@@ -10,7 +10,6 @@ pub mod fields;
 pub mod laws;
 pub mod name_laws;
 pub mod samples;
-pub mod word_laws;
 
 pub use buffa_ext::{Extension, ExtensionSet};
 pub use buffa_map::map_codec;

@@ -16,15 +16,12 @@ ghost use Rattle.buffa_codec.specs.Decoded.{bytes_held, packed_record, string_he
 ghost use Rattle.buffa_ext.specs.Messages.{group_of};
 ghost use Rattle.std.specs.BTreeMap.{insert_entry};
 ghost use Rattle.buffa_fields.specs.Groups.{group_datum, group_merged, group_records};
-ghost use Rattle.buffa_fields.specs.Held.{nest_encoding};
-ghost use Rattle.buffa_fields.specs.HeldMap.{keys_by, map_nest_records};
-ghost use Rattle.buffa_fields.specs.HeldOne.{chain_encoding};
-ghost use Rattle.buffa_fields.specs.Layout.{both_take};
 ghost use Rattle.buffa_fields.specs.Lists.{element_records, elements_in, packed_records};
 ghost use Rattle.buffa_fields.specs.MapFields.{pair_taken};
 ghost use Rattle.buffa_fields.specs.MemberRecords.{optional_records, plain_records};
 ghost use Rattle.buffa_fields.specs.Nested.{message_merged, message_records};
 ghost use Rattle.buffa_fields.specs.RepeatedNested.{messages_records};
+ghost use Rattle.buffa_fields.specs.Told.{told};
 ghost use Rattle.buffa_map.specs.Enums.{closed_reading, open_reading};
 ghost use Rattle.buffa_map.specs.Message.{message_reading};
 ghost use Rattle.buffa_map.specs.Pairs.{put};
@@ -32,13 +29,13 @@ ghost use Rattle.buffa_map.specs.Scalars.{bytes_reading, number_reading, string_
 
 use crate::extension::{ExtensionCodec, PackableCodec, SingularCodec, codecs};
 use crate::fields::{
-    Fields, HoldingMap, Holds, HoldsMap, Listing, Member, OrderedKey, Packable, ProtoType,
+    Laid, Listing, Member, OrderedKey, Packable, ProtoType, SelfFields, SelfListing,
 };
 use crate::map_codec::{MapCodec, MapStorage, MapValueDecode};
 use crate::{
     Blank, Buf, DEFAULT_ELEMENT_MEMORY_LIMIT, DEFAULT_UNKNOWN_FIELD_LIMIT, DoubleBits, Enumeration,
     FloatBits, Limited, MAX_FIELD_NUMBER, MAX_MESSAGE_BYTES, Map, MapKey, Message, MessageSpec,
-    Pieces, RECURSION_LIMIT, fields, laws, map_codec, samples,
+    Pieces, RECURSION_LIMIT, fields, laws, map_codec,
 };
 use buffa_codec::laws::{numbers_are_read, the_last_record_is_read};
 use buffa_wire::MessageMeaning;
@@ -61,11 +58,10 @@ pub fn buffers_are_these<B: Buf>()
 {}
 
 /// Which laws the names of the modules in [`laws`] are: each has those of the form that it is named for.
-pub fn law_modules_are_these<KC: MapCodec<Value = K>, K: OrderedKey, O: Holds, H: HoldingMap>() {
-    laws::fields::messages_that_hold_themselves_are_these::<O>();
-    laws::held_maps::maps_of_themselves_are_these::<KC, K, O>();
-    laws::held_messages::held_messages_are_these::<H>();
-    laws::held_ones::messages_inside_themselves_are_these::<O>();
+pub fn law_modules_are_these<M: SelfFields, N: Message>(message: &M) {
+    laws::fields::nested_members_are_these::<N>();
+    laws::inside::lists_inside_are_these::<M>();
+    laws::selves::messages_are_their_members(message);
 }
 
 /// How each codec of extensions of one value reads a record, and which records lists and messages have. What the laws of
@@ -193,12 +189,6 @@ pub fn records_of_members_are_these<N: Message, P: Packable>()
         × (⟦<map_codec::Fixed64 as ProtoType>⟧.is_blank 0 ≡ true) }
 {}
 
-/// Which sample each name is, by what an element of it costs.
-pub fn samples_are_these()
-    ensures node { ⟦<samples::Node as MessageSpec>⟧.COST ≡ 96 }
-    ensures set { ⟦<samples::SetMsg as MessageSpec>⟧.COST ≡ 24 }
-{}
-
 /// Which member type each name of [`fields`] is: by the records of its values, and of maps by what they make of an
 /// entry.
 pub fn member_types_are_these<
@@ -209,8 +199,7 @@ pub fn member_types_are_these<
     K: MapKey + Hash + OrderedKey,
     VC: MapCodec,
     M: Listing,
-    O: Holds,
-    H: HoldingMap,
+    S: SelfListing,
 >()
     ensures plain { (n : ℕ) (v : _) → ⟦<fields::Plain<C> as Member>⟧.shape.records n v
         ≡ plain_records C.is_blank C.datum n v }
@@ -235,22 +224,6 @@ pub fn member_types_are_these<
         ≡ pair_taken KC.reading VC.reading (insert_entry K.order) }
     ensures ordered_map_of_nested { ⟦<fields::OrderedMapOfNested<KC, N> as Member>⟧.shape.takes
         ≡ pair_taken KC.reading (message_reading N.blank_is N.merged N.cost) (insert_entry K.order) }
-    ensures inside { (n : ℕ) (v : _) → ⟦<fields::Inside<O> as Member>⟧.shape.records n v
-        ≡ messages_records (nest_encoding O.layout O.NUMBER O.COST) n v }
-    ensures nest { (v : _) → ⟦<fields::Nest<O> as Fields>⟧.layout.records v
-        ≡ O.layout.front O.NUMBER v.1 ++ (messages_records (nest_encoding O.layout O.NUMBER O.COST) O.NUMBER v.0
-        ++ (O.layout.behind O.NUMBER v.1 ++ O.layout.kept v.1)) }
-    ensures map_inside { ⟦<fields::MapInside<KC, K, O> as Member>⟧.shape.takes
-        ≡ pair_taken KC.reading (message_reading ⟦<fields::MapNest<KC, K, O> as Blank>⟧.blank_is
-        ⟦<fields::MapNest<KC, K, O> as MessageSpec>⟧.merged ⟦<fields::MapNest<KC, K, O> as MessageSpec>⟧.cost)
-        (insert_entry K.order) }
-    ensures map_nest { ⟦<fields::MapNest<KC, K, O> as Fields>⟧.layout.takes
-        ≡ both_take O.NUMBER ⟦<fields::MapInside<KC, K, O> as Member>⟧.shape.takes O.layout.takes }
-    ensures chain_inside { (n : ℕ) (v : _) → ⟦<fields::ChainInside<O> as Member>⟧.shape.records n v
-        ≡ message_records (chain_encoding O.layout O.NUMBER) n v }
-    ensures chain { (v : _) → ⟦<fields::Chain<O> as Fields>⟧.layout.records v ≡ O.layout.front O.NUMBER v.1
-        ++ (message_records (chain_encoding O.layout O.NUMBER) O.NUMBER v.0
-        ++ (O.layout.behind O.NUMBER v.1 ++ O.layout.kept v.1)) }
     ensures listed { ⟦<fields::Listed as MessageMeaning<M>>⟧.records ≡ M.layout.records }
-    ensures held { ⟦<fields::Held as MessageMeaning<H>>⟧.records ≡ map_nest_records (keys_by H.KeyCodec.reading H.KeyCodec.writing H.KeyCodec.COST H.Key.order H.KeyCodec.fits H.KeyCodec.normal) H.own H.NUMBER H.HoldsMap.COST }
+    ensures self_listed { ⟦<fields::SelfListed as MessageMeaning<S>>⟧.records ≡ (told S.Laid.COST S.laying S.sound).records }
 {}

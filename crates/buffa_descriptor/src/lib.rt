@@ -2,15 +2,14 @@
 //!
 //! `protoc --include_imports --descriptor_set_out=x.bin x.proto` writes a [`FileDescriptorSet`]. Each `..Options` is an
 //! `ExtensionSet`, and each option, declared by `descriptor.proto` or custom, is read from it as an extension. Fields that
-//! aren't declared are kept. A [`DescriptorProto`] holds a list of itself: the message types inside it are its `inside`, and
-//! what else it has is in its `own`.
+//! aren't declared are kept. A [`DescriptorProto`] holds a list of itself, its `nested_type`.
 //!
 //! [`messages`] was made of `descriptor.proto`, beside `src`, by `tools/protoc-gen-buffa`.
 #![tactic(auto)]
 
 pub mod messages;
 
-pub use messages::descriptor_proto::{DescriptorProto, DescriptorProtoMeaning, DescriptorProtoOwn};
+pub use messages::descriptor_proto::DescriptorProto;
 pub use messages::descriptor_proto_extension_range::DescriptorProtoExtensionRange;
 pub use messages::descriptor_proto_reserved_range::DescriptorProtoReservedRange;
 pub use messages::enum_descriptor_proto::EnumDescriptorProto;

@@ -81,9 +81,8 @@ module _ {O P A : Type 0} (get : Option O → Option P) (s : Shape (Option P) (O
 -- The cases of a oneof: V has one of their values, X what one of these means.
 pub record Cases (V X : Type 0) : Type 1 where
   pub meaning : Option V → Option X
-  -- their numbers, and the first of these; whether they are sound beside others
+  -- their numbers; whether they are sound beside others
   pub mine : ℕ → Bool
-  pub place : ℕ
   pub sound : (ℕ → Bool) → Bool → Bool
   pub takes : Taker (Option X)
   pub asks : Asks
@@ -111,6 +110,9 @@ pub record CasesLaws {V X : Type 0} (c : Cases V X) : Type 1 where
       c.mine n ≡ true → c.Took at d old n w bs before r new after rest → IsTaken c.takes c.need d (c.meaning (at old)) n w bs before r (c.meaning (at new)) after rest
   pub puts : {O : Type 0} (at : Option O → Option V) (d : ℕ) (old : Option O) (n : ℕ) (w : WireType) (bs : List ℕ) (before : BudgetLeft) (x : Unit {0}) (new : Option O) (after : BudgetLeft) (rest : List ℕ) →
       c.mine n ≡ true → c.Took at d old n w bs before (let r : Result (Unit {0}) DecodeError = Ok x in r) new after rest → (v : V) × (at new ≡ Some v)
+  -- what is put means something
+  pub says : {O : Type 0} (at : Option O → Option V) (d : ℕ) (old : Option O) (n : ℕ) (w : WireType) (bs : List ℕ) (before : BudgetLeft) (x : Unit {0}) (new : Option O) (after : BudgetLeft) (rest : List ℕ) →
+      c.mine n ≡ true → c.Took at d old n w bs before (let r : Result (Unit {0}) DecodeError = Ok x in r) new after rest → (v : X) × (c.meaning (at new) ≡ Some v)
   pub asks_is : {O : Type 0} (at : Option O → Option V) (d : ℕ) (old : Option O) (n : ℕ) (w : WireType) (bs : List ℕ) (before : BudgetLeft) (r : Result (Unit {0}) DecodeError) (new : Option O) (after : BudgetLeft) (rest : List ℕ) →
       c.mine n ≡ true → c.Took at d old n w bs before r new after rest → FullOnlyIf r (c.asks d n w bs)
   pub seen_is : (v : V) (z : Seen) → c.seen v z ≡ more (if_there [] c.records (c.meaning (Some v))) (if_there [] c.slots (c.meaning (Some v))) z
@@ -125,7 +127,6 @@ abbrev pub none_of : Cases (Unit {0}) (Unit {0})
 none_of = record {
   meaning = λ o. None;
   mine = λ n. false;
-  place = 0;
   sound = λ D sound. sound;
   takes = λ d v n w p. None;
   asks = λ d n w bs. ⊥;
@@ -148,7 +149,6 @@ module _ {P A V B : Type 0} (k : ℕ) (s : Shape (Option P) (Option A)) (merges 
   case_of = record {
     meaning = λ o. either (s.meaning (this_of o)) (others.meaning (other_of o));
     mine = λ n. n == k || others.mine n;
-    place = k;
     sound = λ D sound. is_number k && not (D k || others.mine k) && (s.whole && others.sound D sound);
     takes = λ d v n w p. if n == k then option_map (option_map This) (s.takes d (this_of v) n w p) else option_map (option_map Other) (others.takes d (other_of v) n w p);
     asks = λ d n w bs. Choice (n == k) (s.asks d n w bs) (others.asks d n w bs);

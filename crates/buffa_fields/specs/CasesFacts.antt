@@ -79,6 +79,7 @@ none_laws = record {
   stays = λ d n w p x h. refl;
   taken_is = λ at d old n w bs before r new after rest is h. let no : false ≡ true = is in cc;
   puts = λ at d old n w bs before x new after rest is h. let no : false ≡ true = is in cc;
+  says = λ at d old n w bs before x new after rest is h. let no : false ≡ true = is in cc;
   asks_is = λ at d old n w bs before r new after rest is h. let no : false ≡ true = is in cc;
   seen_is = λ v z. more_none z;
   lent_is = λ v. refl;
@@ -174,6 +175,24 @@ module _ {P A V B : Type 0} (k : ℕ) (s : Shape (Option P) (Option A)) (merges 
     is_there : (x : Unit {0}) (t : Bool) → (t || others.mine n) ≡ true → Choice t (Own (Ok x)) (Its (Ok x)) → (v : Or P V) × (at new ≡ Some v)
     is_there x true mine h = places (if merges then this_of (at old) else None) x h
     is_there x false mine h = let there = laws.puts (λ o. other_of (at o)) d old n w bs before x new after rest mine h in (Other there.0, seen_other (at new) there.0 there.1)
+
+    -- and means something
+    said_over : (stood q : Option P) (x : Unit {0}) → this_of (at new) ≡ q → IsPutOver (λ o. this_of (at o)) s d old n w bs before stood (let r : answer = Ok x in r) q after rest → (y : Or A B) × (c.meaning (at new) ≡ Some y)
+    said_over stood None x is h = absurd h
+    said_over stood (Some q) x is h =
+        let there = words.there q in
+        (This there.0, ap (λ z. c.meaning z) (seen_this (at new) q is) ∙ ap (λ z. either z (others.meaning None)) there.1)
+
+    said_put : (stood : Option P) (x : Unit {0}) → IsCasePut (λ o. this_of (at o)) s d old n w bs before stood (let r : answer = Ok x in r) new after rest → (y : Or A B) × (c.meaning (at new) ≡ Some y)
+    said_put None x h = said_over None (this_of (at new)) x refl h
+    said_put (Some p) x h = said_over (Some p) (this_of (at new)) x refl h
+
+    said : (x : Unit {0}) (t : Bool) → (t || others.mine n) ≡ true → Choice t (Own (Ok x)) (Its (Ok x)) → (y : Or A B) × (c.meaning (at new) ≡ Some y)
+    said x true mine h = said_put (if merges then this_of (at old) else None) x h
+    said x false mine h =
+        let there = laws.puts (λ o. other_of (at o)) d old n w bs before x new after rest mine h in
+        let says = laws.says (λ o. other_of (at o)) d old n w bs before x new after rest mine h in
+        (Other says.0, ap (λ z. c.meaning z) (seen_other (at new) there.0 there.1) ∙ sym (other_is there.0) ∙ ap (λ z. option_map Other (others.meaning z)) (sym there.1) ∙ ap (option_map Other) says.1)
 
     -- memory runs out only where it is asked for
     asked : (stood q : Option P) (r : answer) → Took s d stood n w bs before r q after rest → FullOnlyIf r (s.asks d n w bs)
@@ -299,6 +318,7 @@ module _ {P A V B : Type 0} (k : ℕ) (s : Shape (Option P) (Option A)) (merges 
     stays = either_stays (λ n. n == k) s.need others.need s.stays laws.stays;
     taken_is = λ at d old n w bs before r new after rest mine h. is_taken at d old n w bs before new after rest r (n == k) refl mine h;
     puts = λ at d old n w bs before x new after rest mine h. is_there at d old n w bs before new after rest x (n == k) mine h;
+    says = λ at d old n w bs before x new after rest mine h. said at d old n w bs before new after rest x (n == k) mine h;
     asks_is = λ at d old n w bs before r new after rest mine h. asks_case at d old n w bs before new after rest r (n == k) mine h;
     seen_is = seen_case;
     lent_is = lent_case;

@@ -150,7 +150,7 @@ Choice false a b = b
 abbrev pub IsPutBehind : {X : Type 0} → Taker X → (X → List (ℕ × Datum) → X) → ℕ → ℕ × Datum → Type 0
 IsPutBehind {X} takes adds d y = (v : X) (p : List ℕ) → IsPayload d y.0 y.1 p → takes d v y.0 (wire_of y.1) p ≡ Some (adds v (y ∷ []))
 
--- What a message is, by its members: M is its type, X what it means.
+-- What a message is, by its members: M is its type, X what it means. Its words stand first, and then what holds of them.
 pub record Layout (M X : Type 0) : Type 1 where
   pub meaning : M → X
   pub blank : X
@@ -165,36 +165,31 @@ pub record Layout (M X : Type 0) : Type 1 where
   -- the numbers that are declared; each may be a field's, and no two are one
   pub declares : ℕ → Bool
   pub sound : Bool
-  -- whether fields that aren't declared are kept; the records that are; a value with some behind these; one with none; and the
-  -- members' own records, which stand before those that are kept
+  -- whether fields that aren't declared are kept; and the records that are
   pub keeps : Bool
   pub kept : X → List (ℕ × Datum)
+  -- a value with some behind these, and one with none
   pub adds : X → List (ℕ × Datum) → X
   pub bare : X → X
+  -- the members' own records, which stand before those that are kept
   pub own : X → List (ℕ × Datum)
-  -- the members in front of a number, and those behind: `field` has those in front that come before the first whose own number
-  -- isn't less. Their records; their slots, of the former with others that follow; a value with the former alone; what these owe
-  pub front : ℕ → X → List (ℕ × Datum)
-  pub behind : ℕ → X → List (ℕ × Datum)
-  pub front_slots : ℕ → X → List ℕ → List ℕ
-  pub slots_behind : ℕ → X → List ℕ
-  pub only_front : ℕ → X → X
-  pub OwesFront : ℕ → Type 0
-  pub OwesBehind : ℕ → Type 0
-  -- two messages have the same members; all but what is kept; the member of the number takes the field, and the others stay
+  -- two messages have the same members, or all but what is kept
   pub Same : M → M → Type 0
   pub SameBut : M → M → Type 0
+  -- the member of the number takes the field, and the others stay
   pub Taken : ℕ → M → ℕ → WireType → List ℕ → BudgetLeft → Result (Unit {0}) DecodeError → M → BudgetLeft → List ℕ → Type 0
   -- two values are the same, but for what the member of the number means
   pub Apart : ℕ → X → X → Type 0
   -- all members were visited, one after the other
   pub seen : M → Seen → Seen
-  -- those in front of a number were, or those behind
-  pub seen_front : ℕ → M → Seen → Seen
-  pub seen_behind : ℕ → M → Seen → Seen
+  -- what the members owe, for reading back and for exact levels
+  pub Owes : Type 0
+  pub Exact : Type 0
+  -- ---- what holds of these
   pub stays : Stays need
   pub same_is : (a b : M) → Same a b → meaning a ≡ meaning b
   pub same_but : (a b : M) (rs : List (ℕ × Datum)) → SameBut a b → kept (meaning b) ≡ kept (meaning a) ++ rs → meaning b ≡ adds (meaning a) rs
+  -- of a field that is taken
   pub taken_is : (d : ℕ) (old : M) (n : ℕ) (w : WireType) (bs : List ℕ) (before : BudgetLeft) (r : Result (Unit {0}) DecodeError) (new : M) (after : BudgetLeft) (rest : List ℕ) →
       Taken d old n w bs before r new after rest → IsTaken takes need d (meaning old) n w bs before r (meaning new) after rest
   pub asks_is : (d : ℕ) (old : M) (n : ℕ) (w : WireType) (bs : List ℕ) (before : BudgetLeft) (r : Result (Unit {0}) DecodeError) (new : M) (after : BudgetLeft) (rest : List ℕ) →
@@ -203,32 +198,19 @@ pub record Layout (M X : Type 0) : Type 1 where
       Taken d old n w bs before (let r : Result (Unit {0}) DecodeError = Err e in r) new after rest → Apart n (meaning old) (meaning new)
   pub seen_is : (m : M) (z : Seen) → seen m z ≡ more (records (meaning m)) (slots (meaning m)) z
   -- records are put behind others, and a value is what it is with none kept, and its own behind that
-  pub seen_front_is : (k : ℕ) (m : M) (z : Seen) → seen_front k m z ≡ more (front k (meaning m)) (front_slots k (meaning m) []) z
-  pub seen_behind_is : (k : ℕ) (m : M) (z : Seen) → seen_behind k m z ≡ more (behind k (meaning m) ++ kept (meaning m)) (slots_behind k (meaning m)) z
-  pub own_is : (k : ℕ) (v : X) → own v ≡ front k v ++ behind k v
-  pub slots_are : (k : ℕ) (v : X) → slots v ≡ front_slots k v (slots_behind k v)
-  pub front_slots_are : (k : ℕ) (v : X) (rest : List ℕ) → front_slots k v rest ≡ front_slots k v [] ++ rest
   pub adds_none : (v : X) → adds v [] ≡ v
   pub adds_twice : (v : X) (a b : List (ℕ × Datum)) → adds (adds v a) b ≡ adds v (a ++ b)
   pub adds_kept : keeps ≡ true → (v : X) (rs : List (ℕ × Datum)) → kept (adds v rs) ≡ kept v ++ rs
   pub adds_own : (v : X) (rs : List (ℕ × Datum)) → own (adds v rs) ≡ own v
-  pub adds_front : (k : ℕ) (v : X) (rs : List (ℕ × Datum)) → front k (adds v rs) ≡ front k v
-  pub adds_behind : (k : ℕ) (v : X) (rs : List (ℕ × Datum)) → behind k (adds v rs) ≡ behind k v
   pub whole : (v : X) → adds (bare v) (kept v) ≡ v
   pub in_two : (v : X) → records v ≡ own v ++ kept v
   pub kept_low : (v : X) → height (kept v) ≤ levels v
   -- where the records of each member are valid and read back, those of all do; and each that is kept is put behind the others again
-  pub Owes : Type 0
   pub valid : Owes → sound ≡ true → (v : X) → normal v → AreValid (records_of (records v))
   pub back : Owes → sound ≡ true → (d : ℕ) (v : X) → Readable (records_of (own v)) → normal v → levels v ≤ d → ReadsBack takes declares d blank (records_encoding (own v)) (bare v)
   pub again : Owes → sound ≡ true → (d : ℕ) (v : X) → normal v → levels v ≤ d → AllByRecursion (IsPutBehind takes adds d) (kept v)
-  -- so do those in front of a number, and then those behind
-  pub owes_both : (k : ℕ) → OwesFront k → OwesBehind k → Owes
-  pub back_front : Owes → sound ≡ true → (k d : ℕ) (v : X) → Readable (records_of (own v)) → normal v → levels v ≤ d → ReadsBack takes declares d blank (records_encoding (front k v)) (only_front k v)
-  pub back_behind : Owes → sound ≡ true → (k d : ℕ) (v : X) → Readable (records_of (own v)) → normal v → levels v ≤ d → ReadsBack takes declares d (only_front k v) (records_encoding (behind k v)) (bare v)
   -- where the levels of each member are exact, those of all are: their own records are of their numbers; and these, and what is kept
   -- under their numbers, are all taken only at a depth of the levels
-  pub Exact : Type 0
   pub numbers : Owes → Exact → (v : X) → AllNumbers declares (own v)
   pub least : Owes → Exact → sound ≡ true → (d : ℕ) (v : X) → normal v → height (kept v) ≤ d → AllByRecursion (IsTakenWritten takes d) (own v) →
       AllByRecursion (λ y. declares y.0 ≡ true → IsTakenWritten takes d y) (kept v) → levels v ≤ d

@@ -15,7 +15,6 @@ module _ {M P A : Type 0} (k : ℕ) (get : M → P) (s : Shape P A) where
     meaning = λ m. s.meaning (get m);
     blank = s.blank;
     mine = λ n. n == k;
-    place = k;
     sound = λ D keeps sound. is_number k && not (D k) && (s.whole && sound);
     takes = λ adds d v n w p. option_map (λ x. (x, v.1)) (s.takes d v.0 n w p);
     asks = λ left d n w bs. s.asks d n w bs;
@@ -40,7 +39,6 @@ module _ {M P A : Type 0} (k : ℕ) (get : M → P) (s : Shape P A) where
     meaning = λ m. s.meaning (get m);
     blank = s.blank;
     mine = λ n. n == k;
-    place = k;
     sound = λ D keeps sound. is_number k && not (D k) && (keeps && sound);
     takes = λ adds d v n w p. option_map (kept_among adds v.1) (a.takes d (v.0, []) n w p);
     asks = a.asks;

@@ -21,7 +21,7 @@ use Rattle.buffa_fields.specs.Values.{IfThere}
 
 -- ---- cases, of which one or none is there
 module _ {V X : Type 0} (c : Cases V X) (laws : CasesLaws c) where
-  there_seen : {O : Type 0} (view : O → V) (o : Option O) (z : Seen) →
+  pub there_seen : {O : Type 0} (view : O → V) (o : Option O) (z : Seen) →
       if_there z (λ x. c.seen (view x) z) o ≡ more (if_there [] c.records (c.meaning (option_map view o))) (if_there [] c.slots (c.meaning (option_map view o))) z
   there_seen view None z = more_none z ∙ ap (λ x. more (if_there [] c.records x) (if_there [] c.slots x) z) (sym laws.absent)
   there_seen view (Some x) z = laws.seen_is (view x) z

@@ -1,6 +1,7 @@
 -- A oneof is a part of a message. Source: the protobuf encoding guide, "Oneofs"; the protobuf language guide, "Oneof".
 use Rattle.std.specs.Prelude.{◌≡◌, ℕ, Bool, not, max, List, [], Option, None}
 use Rattle.std.specs.Option.{option_map}
+use Rattle.buffa_fields.specs.Aside.{Kept}
 use Rattle.buffa_fields.specs.Cases.{Cases, CasesLaws, CaseWords, case_of, if_there, none_of}
 use Rattle.buffa_fields.specs.CasesFacts.{case_laws, none_laws}
 use Rattle.buffa_fields.specs.Keep.{AllNumbers}
@@ -30,9 +31,12 @@ pub record OneOf (O X : Type 0) : Type 1 where
 abbrev pub enum_of : {O V X : Type 0} → CaseList V X → (O → V) → OneOf O X
 enum_of {V = V} all view = record { V = V; all = all; view = view }
 
--- what the case that stands means, where one does; its slots; and what was seen of it
+-- what the case that stands means, where one does; its records and its slots; and what was seen of it
 abbrev pub case_means : {O X : Type 0} → OneOf O X → Option O → Option X
 case_means e o = e.all.cases.meaning (option_map e.view o)
+
+abbrev pub case_records : {O X : Type 0} → OneOf O X → Option O → Kept
+case_records e o = if_there [] e.all.cases.records (case_means e o)
 
 abbrev pub case_slots : {O X : Type 0} → OneOf O X → Option O → List ℕ
 case_slots e o = if_there [] e.all.cases.slots (case_means e o)
@@ -49,7 +53,6 @@ module _ {M O X : Type 0} (get : M → Option O) (e : OneOf O X) where
     meaning = λ m. case_means e (get m);
     blank = None;
     mine = cases.mine;
-    place = cases.place;
     sound = λ D keeps sound. cases.sound D sound;
     takes = λ adds d v n w p. option_map (λ x. (x, v.1)) (cases.takes d v.0 n w p);
     asks = λ left. cases.asks;

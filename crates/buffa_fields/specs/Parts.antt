@@ -28,9 +28,8 @@ part_need mine f g d n w bs = if mine n then f d n w bs else g d n w bs
 pub record Part (M A : Type 0) : Type 1 where
   pub meaning : M → A
   pub blank : A
-  -- its own numbers, and the one by which it has its place among the others
+  -- its own numbers
   pub mine : ℕ → Bool
-  pub place : ℕ
   -- whether it is sound beside others: by which numbers these declare, whether they keep fields, and whether they are sound
   pub sound : (ℕ → Bool) → Bool → Bool → Bool
   -- what a field of its own makes of it and of the others, which it may give records to keep

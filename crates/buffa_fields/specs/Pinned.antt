@@ -9,7 +9,6 @@ use Rattle.buffa_wire.specs.Records.{Datum}
 use Rattle.buffa_wire.specs.Takes.{Asks, Need, Taker}
 use Rattle.buffa_fields.specs.Aside.{Aside, Kept, TookBeside}
 use Rattle.buffa_fields.specs.Layout.{Choice, IsFieldKept, Layout, Passed, Shape, Took}
-use Rattle.buffa_fields.specs.Nests.{Nest, inside_of, nest_list, own_of}
 
 -- two say the same of each field
 abbrev pub TakeAlike : {M : Type 0} → FieldTaken M → FieldTaken M → Type 0
@@ -29,13 +28,6 @@ PassedOver d old n w bs before r new after rest = Passed d n w bs before r after
 abbrev pub MemberOrOthers : {M P A B : Type 0} → ℕ → (M → P) → Shape P A → Layout M B → FieldTaken M
 MemberOrOthers k get s l d old n w bs before r new after rest =
     Choice (n == k) (Took s d (get old) n w bs before r (get new) after rest × l.Same old new) ((get new ≡ get old) × l.Taken d old n w bs before r new after rest)
-
--- the same of a message that holds a list of itself under the number: the list takes it, and its own members stay; or they take it, and
--- the list stays
-abbrev pub ListOrOwn : {O A B : Type 0} → ℕ → Shape (List (Nest O)) A → Layout O B → FieldTaken (Nest O)
-ListOrOwn k s l d old n w bs before r new after rest =
-    Choice (n == k) (Took s d (nest_list (inside_of old)) n w bs before r (nest_list (inside_of new)) after rest × (own_of new ≡ own_of old))
-    ((nest_list (inside_of new) ≡ nest_list (inside_of old)) × l.Taken d (own_of old) n w bs before r (own_of new) after rest)
 
 -- the same of a member that puts records aside, among those that the others keep
 abbrev pub KeepingOrOthers : {M P A B : Type 0} → ℕ → (M → P) → Shape P A → Aside A → Layout M B → FieldTaken M

@@ -46,16 +46,10 @@ ghost use Rattle.buffa_fields.specs.Values.{IfThere, RefusesAlone, ValueTakesMem
 pub use crate::aside_laws::these_may_stand;
 use crate::fields::Fields;
 use crate::group::Group;
-pub use crate::held_laws::{
-    fields_of_messages_that_hold_themselves_are_these, keeping_members_in_front_are_these,
-    lists_of_themselves_are_these, members_are_parts, members_in_front_are_these,
-    messages_that_hold_themselves_are_these,
-};
 use crate::keeping::Keeping;
 pub use crate::level_laws::{
     exact_levels_are_these, levels_of_fields_are_exact, messages_in_lists_are_these,
-    messages_in_lists_of_themselves_are_these, messages_in_members_are_these,
-    values_have_no_messages,
+    messages_in_members_are_these, values_have_no_messages,
 };
 use crate::map_member::MapOf;
 use crate::map_nested::MapOfNested;

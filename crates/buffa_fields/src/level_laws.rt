@@ -9,7 +9,6 @@ ghost use Rattle.buffa_fields.specs.Members.{field, field_kept, keep, skip};
 
 use crate::fields::Fields;
 use crate::group::Group;
-use crate::held::{Holds, Inside, Nest};
 use crate::keeping::Keeping;
 use crate::map_member::MapOf;
 use crate::map_nested::MapOfNested;
@@ -87,11 +86,4 @@ where
         ↔ AreExactLevels N.merged N.encoding N.records N.normal N.levels }
     ensures ordered { ⟦<OrderedMapOfNested<OC, N> as Member>⟧.shape.Exact
         ↔ AreExactLevels N.merged N.encoding N.records N.normal N.levels }
-{}
-
-/// The levels of the list in which a message holds itself are exact where those of its other members are. So are the
-/// levels of the whole message.
-pub fn messages_in_lists_of_themselves_are_these<O: Holds>()
-    ensures list { ⟦<Inside<O> as Member>⟧.shape.Exact ↔ O.layout.Exact }
-    ensures message { ⟦<Nest<O> as Fields>⟧.layout.Exact ↔ O.layout.Exact }
 {}

@@ -4,7 +4,7 @@
 //!
 //! The words of `MapCodec` and `MessageSpec` that these cite are pinned by the laws of the crates below.
 
-ghost use Rattle.std.specs.Prelude.{◌≡◌, ◌↔◌, ◌⊎◌, ◌==◌, ◌&&◌, ◌||◌, ◌∷◌, ◌++◌, ◌-◌, ◌^◌, ℕ, List, [], None, Err, Ok, Option, Some, false, if◌then◌else◌, length, max, min, nat_lt, not, suc, true};
+ghost use Rattle.std.specs.Prelude.{◌≡◌, ◌↔◌, ◌⊎◌, ◌==◌, ◌&&◌, ◌||◌, ◌∷◌, ◌++◌, ◌-◌, ◌^◌, ℕ, List, [], None, Err, Ok, Option, Some, false, if◌then◌else◌, length, max, min, not, suc, true};
 ghost use Rattle.std.specs.Option.{option_map};
 ghost use Rattle.buffa_bytes.specs.Content.{Content, HasContent};
 ghost use Rattle.buffa_wire.specs.Records.{Datum, bytes, group, records_of};
@@ -60,7 +60,6 @@ pub fn cases_are_these<E: OneOf, C: Case>()
     ensures normal { (k : ℕ) (a : C.Said) → (case k C.words E.cases.all).cases.normal (This a) ↔ C.form.normal (Some a) }
     ensures other_normal { (k : ℕ) (b : E.Meaning) →
         (case k C.words E.cases.all).cases.normal (Other b) ↔ E.cases.all.cases.normal b }
-    ensures place { (k : ℕ) → (case k C.words E.cases.all).cases.place ≡ k }
     ensures need { (k d : ℕ) (w : _) (bs : List ℕ) → (case k C.words E.cases.all).cases.need d k w bs ≡ C.form.need d k w bs }
     ensures other_need { (k d n : ℕ) (w : _) (bs : List ℕ) → (n == k) ≡ false →
         (case k C.words E.cases.all).cases.need d n w bs ≡ E.cases.all.cases.need d n w bs }
@@ -221,30 +220,6 @@ pub fn oneofs_are_these<M: Fields, E: OneOf>()
     ensures own_records { (get : M → Option E) (x : E.Meaning) (v : _) →
         ((one_of get E.cases M.layout).own (None, v) ≡ M.layout.own v)
         × ((one_of get E.cases M.layout).own (Some x, v) ≡ E.cases.all.cases.records x ++ M.layout.own v) }
-{}
-
-/// A oneof stands in front of a number, where a message of the message's own type has its place, if the number of its first case does.
-/// So does the case that is there, whatever its own number is.
-pub fn oneofs_in_front_are_these<M: Fields, E: OneOf>()
-    ensures front { (get : M → Option E) (j : ℕ) (x : E.Meaning) (v : _) → (one_of get E.cases M.layout).front j (Some x, v)
-        ≡ (if nat_lt E.cases.all.cases.place j then E.cases.all.cases.records x ++ M.layout.front j v else []) }
-    ensures behind { (get : M → Option E) (j : ℕ) (x : E.Meaning) (v : _) → (one_of get E.cases M.layout).behind j (Some x, v)
-        ≡ (if nat_lt E.cases.all.cases.place j then M.layout.behind j v else E.cases.all.cases.records x ++ M.layout.own v) }
-    ensures front_slots { (get : M → Option E) (j : ℕ) (x : E.Meaning) (v : _) (rest : List ℕ) →
-        (one_of get E.cases M.layout).front_slots j (Some x, v) rest ≡ (if nat_lt E.cases.all.cases.place j
-        then E.cases.all.cases.slots x ++ M.layout.front_slots j v rest else rest) }
-    ensures slots_behind { (get : M → Option E) (j : ℕ) (x : E.Meaning) (v : _) →
-        (one_of get E.cases M.layout).slots_behind j (Some x, v) ≡ (if nat_lt E.cases.all.cases.place j
-        then M.layout.slots_behind j v else E.cases.all.cases.slots x ++ M.layout.slots v) }
-    ensures absent { (get : M → Option E) (j : ℕ) (v : _) (rest : List ℕ) →
-        ((one_of get E.cases M.layout).front j (None, v) ≡ (if nat_lt E.cases.all.cases.place j then M.layout.front j v else []))
-        × ((one_of get E.cases M.layout).behind j (None, v)
-        ≡ (if nat_lt E.cases.all.cases.place j then M.layout.behind j v else M.layout.own v)) }
-    ensures absent_slots { (get : M → Option E) (j : ℕ) (v : _) (rest : List ℕ) →
-        ((one_of get E.cases M.layout).front_slots j (None, v) rest
-        ≡ (if nat_lt E.cases.all.cases.place j then M.layout.front_slots j v rest else rest))
-        × ((one_of get E.cases M.layout).slots_behind j (None, v)
-        ≡ (if nat_lt E.cases.all.cases.place j then M.layout.slots_behind j v else M.layout.slots v)) }
 {}
 
 /// A field of a case that is refused leaves what stands, where its value would take the place of that, and where another case stands,

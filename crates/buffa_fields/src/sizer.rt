@@ -1,13 +1,47 @@
 //! The size pass.
 
-ghost use Rattle.std.specs.Prelude.{◌≡◌, Ok};
-ghost use Rattle.buffa_fields.specs.Layout.{IsCounted};
+ghost use Rattle.std.specs.Prelude.{◌≡◌, [], Ok, ℕ};
+ghost use Rattle.buffa_bytes.specs.Number.{IsNumber};
+ghost use Rattle.buffa_wire.specs.Cache.{Cache};
+ghost use Rattle.buffa_fields.specs.Layout.{IsCounted, Seen, more, visited};
 ghost use Rattle.buffa_fields.specs.LayoutFacts.{comes_free};
 
 use crate::kept::kept_len;
 use crate::member::Member;
 use crate::visitor::Visitor;
 use buffa_wire::{EncodeError, SizeCache, UnknownFields};
+
+// Adds the length of a member to a sum, unless memory ran out.
+#[inline(always)]
+#[tactic(auto, using(crate::specs::LayoutFacts::is_counted, crate::specs::LayoutFacts::counted_err, crate::specs::LayoutFacts::counted_none))]
+pub(crate) fn member_counted<M: Member>(
+    total: Result<u32, EncodeError>,
+    number: u32,
+    part: &M::Part,
+    cache: &mut SizeCache,
+) -> Result<u32, EncodeError>
+    requires { IsNumber number }
+    ensures { (name : ℕ) (z : Seen) → IsCounted name total cache.old z →
+        IsCounted name result cache.new (visited M.shape number part.now z) }
+{
+    let total = total?;
+    let len = M::len(number, part, cache)?;
+    Ok(total.saturating_add(len))
+}
+
+// Adds the length of the fields that were kept.
+#[inline(always)]
+#[tactic(auto, using(crate::specs::LayoutFacts::is_counted, crate::specs::LayoutFacts::sized_free, crate::specs::LayoutFacts::counted_none))]
+pub(crate) fn kept_counted(
+    total: Result<u32, EncodeError>,
+    fields: &UnknownFields,
+) -> Result<u32, EncodeError>
+    ensures { (name : ℕ) (cache : Cache) (z : Seen) → IsCounted name total cache z →
+        IsCounted name result cache (more fields.now.records [] z) }
+{
+    let total = total?;
+    Ok(total.saturating_add(kept_len(fields)))
+}
 
 /// Adds lengths, up to 2^32 - 1, and puts those of messages into a cache that is lent, until memory runs out.
 #[derive(Drop)]
@@ -54,22 +88,12 @@ impl Visitor for Sizer<'_> {
     ghost begins = { λ ss rest s h. comes_free ss s };
 
     #[inline(always)]
-    #[tactic(auto, using(crate::specs::LayoutFacts::is_counted, crate::specs::LayoutFacts::counted_err, crate::specs::LayoutFacts::counted_none))]
     fn visit<M: Member>(&mut self, number: u32, part: &M::Part) {
-        if let Ok(total) = self.total {
-            // The error is kept for `finish`, and not handed on: the function returns nothing.
-            self.total = match M::len(number, part, self.cache) {
-                Ok(len) => Ok(total.saturating_add(len)),
-                Err(error) => Err(error),
-            };
-        }
+        self.total = member_counted::<M>(self.total, number, part, self.cache);
     }
 
     #[inline(always)]
-    #[tactic(auto, using(crate::specs::LayoutFacts::is_counted, crate::specs::LayoutFacts::sized_free, crate::specs::LayoutFacts::counted_none))]
     fn visit_kept(&mut self, fields: &UnknownFields) {
-        if let Ok(total) = self.total {
-            self.total = Ok(total.saturating_add(kept_len(fields)));
-        }
+        self.total = kept_counted(self.total, fields);
     }
 }

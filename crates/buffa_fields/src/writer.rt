@@ -1,12 +1,51 @@
 //! The write pass.
 
-ghost use Rattle.std.specs.Prelude.{◌≡◌, Ok};
-ghost use Rattle.buffa_fields.specs.Layout.{Follow, IsPut};
+ghost use Rattle.std.specs.Prelude.{◌≡◌, ◌++◌, [], List, Ok, ℕ};
+ghost use Rattle.buffa_bytes.specs.Number.{IsNumber};
+ghost use Rattle.buffa_wire.specs.Cache.{Cache};
+ghost use Rattle.buffa_fields.specs.Layout.{Comes, Follow, IsPut, Seen, more, visited};
 ghost use Rattle.buffa_fields.specs.LayoutFacts.{comes_front};
 
 use crate::member::Member;
 use crate::visitor::Visitor;
 use buffa_wire::{EncodeError, EncodeSink, SizeCache, UnknownFields};
+
+// Writes a member behind what was written, unless memory ran out.
+#[inline(always)]
+#[tactic(auto, using(crate::specs::LayoutFacts::is_put, crate::specs::LayoutFacts::put_none, crate::specs::LayoutFacts::follow_first, crate::specs::LayoutFacts::follow_rest, crate::specs::LayoutFacts::follow_none))]
+pub(crate) fn member_put<M: Member, S: EncodeSink>(
+    written: Result<(), EncodeError>,
+    number: u32,
+    part: &M::Part,
+    cache: &mut SizeCache,
+    sink: &mut S,
+) -> Result<(), EncodeError>
+    requires number { IsNumber number }
+    requires comes { Comes (λ ss c. Follow ss written c) (M.shape.slots (M.shape.meaning part.now)) cache.old }
+    ensures seen { (name of : ℕ) (z : Seen) → IsPut name of (S.written sink.old) cache.old written z →
+        IsPut name of (S.written sink.new) cache.new result (visited M.shape number part.now z) }
+    ensures waits { (rest : List ℕ) → Follow (M.shape.slots (M.shape.meaning part.now) ++ rest) written cache.old →
+        Follow rest result cache.new }
+{
+    written?;
+    M::write_to(number, part, cache, sink)
+}
+
+// Writes the fields that were kept.
+#[inline(always)]
+#[tactic(auto, using(crate::specs::LayoutFacts::is_put, crate::specs::LayoutFacts::put_none, buffa_wire::proofs::PassLemmas::written_put, crate::specs::LayoutFacts::follow_rest, crate::specs::LayoutFacts::follow_none))]
+pub(crate) fn kept_put<S: EncodeSink>(
+    written: Result<(), EncodeError>,
+    fields: &UnknownFields,
+    sink: &mut S,
+) -> Result<(), EncodeError>
+    ensures seen { (name of : ℕ) (cache : Cache) (z : Seen) → IsPut name of (S.written sink.old) cache written z →
+        IsPut name of (S.written sink.new) cache result (more fields.now.records [] z) }
+    ensures waits { (rest : List ℕ) (cache : Cache) → Follow rest written cache → Follow rest result cache }
+{
+    written?;
+    fields.write_to(sink)
+}
 
 /// Writes into a sink that is lent, by the sizes in a cache that is lent, until memory runs out.
 #[derive(Drop)]
@@ -62,18 +101,12 @@ impl<S: EncodeSink> Visitor for Writer<'_, S> {
     ghost begins = { comes_front (λ w. w.result) (λ w. w.cache.now) };
 
     #[inline(always)]
-    #[tactic(auto, using(crate::specs::LayoutFacts::is_put, crate::specs::LayoutFacts::put_none, crate::specs::LayoutFacts::follow_first, crate::specs::LayoutFacts::follow_rest, crate::specs::LayoutFacts::follow_none))]
     fn visit<M: Member>(&mut self, number: u32, part: &M::Part) {
-        if self.result.is_ok() {
-            self.result = M::write_to(number, part, self.cache, self.sink);
-        }
+        self.result = member_put::<M, S>(self.result, number, part, self.cache, self.sink);
     }
 
     #[inline(always)]
-    #[tactic(auto, using(crate::specs::LayoutFacts::is_put, crate::specs::LayoutFacts::put_none, buffa_wire::proofs::PassLemmas::written_put, crate::specs::LayoutFacts::follow_rest, crate::specs::LayoutFacts::follow_none))]
     fn visit_kept(&mut self, fields: &UnknownFields) {
-        if self.result.is_ok() {
-            self.result = fields.write_to(self.sink);
-        }
+        self.result = kept_put(self.result, fields, self.sink);
     }
 }

@@ -1,12 +1,16 @@
 //! buffa.sample.Failure, made of failure.proto by protoc-gen-buffa.
 
 ghost use Rattle.std.proofs.Common.{lit<, refl};
-ghost use Rattle.buffa.specs.Members.{field, keep};
+ghost use Rattle.buffa.specs.Knots.{keeps, knotted, member, one_inside};
 
-use buffa::fields::{And3, Chain, Holds, KeptFields, Member, Plain, Repeated, Visitor, kept};
+use buffa::fields::{
+    Formed, Laid, Member, Plain, Repeated, SelfFields, SelfListed, SelfListing, SelfMerger,
+    SelfVisitor, kept, take_one,
+};
 use buffa::map_codec::{Int32, Str};
-use buffa::{DecodeContext, DecodeError, Tag, UnknownFields};
+use buffa::{Blank, DecodeContext, DecodeError, Tag, UnknownFields};
 use std::alloc::Global;
+use std::marker::Model;
 use std::string::String;
 
 /// A failure, with what caused it.
@@ -16,68 +20,99 @@ use std::string::String;
 ///     optional Failure cause = 2;
 ///     repeated int32 lines = 3 [packed = false];
 /// }
-///
-/// Its `cause` is `inside`. Its other members are in `own`.
-pub type Failure = Chain<FailureOwn>;
-
-/// What `Failure` has beside `cause`.
 #[derive(Drop)]
-pub struct FailureOwn {
+pub struct Failure {
     pub reason: String,
+    pub cause: Option<Box<Failure>>,
     pub lines: Vec<i32>,
     /// The fields that aren't declared, in order.
     pub rest: UnknownFields,
 }
 
-impl Holds for FailureOwn {
-    type Meaning = And3<[u8; 0], [i32; 0], KeptFields>;
+impl Model for Failure {
+    ghost use Rattle.std.specs.Coded.{codes};
+    ghost use Rattle.std.specs.Option.{option_map};
+    ghost use Rattle.std.specs.Prelude.{List, ℕ, ℤ};
+    ghost use Rattle.std.proofs.Common.{arith};
+    ghost use Rattle.buffa.specs.Knots.{Datum, Knot, coded_datum, coded_knot, has, has_kept, has_one, knot_height, knot_of};
 
+    ghost Value = { Knot (List ℕ × (List ℤ × List (ℕ × Datum))) };
+
+    ghost coded = { Prim.hlevel (codes, coded_datum, coded_knot) };
+
+    ghost view = { λ m. knot_of (
+        has (⟦<Plain<Str> as Member>⟧.shape.meaning m.reason) (
+        has_one (option_map (λ b. b.value) m.cause) (
+        has (⟦<Repeated<Int32> as Member>⟧.shape.meaning m.lines) (has_kept m.rest.records)))) };
+
+    ghost size = { knot_height };
+
+    ghost size_decreases = { λ m h. Prim.grind arith };
+}
+
+impl Laid for Failure {
     const COST: usize = 80;
 
     ghost COST = { 80 };
 
     ghost positive = { lit< tt };
 
-    const NUMBER: u32 = 2;
+    ghost laying = { knotted (
+        member 1 ⟦<Plain<Str> as Member>⟧.shape (
+        one_inside 2 (
+        member 3 ⟦<Repeated<Int32> as Member>⟧.shape keeps))) };
 
-    ghost NUMBER = { 2 };
+    ghost sound = { λ w. refl };
+}
 
-    ghost layout = { field 1 (λ m. m.reason) ⟦<Plain<Str> as Member>⟧.shape (
-        field 3 (λ m. m.lines) ⟦<Repeated<Int32> as Member>⟧.shape (
-        keep (λ m. m.rest.records))) };
-
-    ghost sound = { refl };
-
-    ghost other = { refl };
-
-    fn blank(alloc: Global) -> FailureOwn {
-        FailureOwn {
-            reason: String::new(alloc),
-            lines: Vec::new(alloc),
-            rest: UnknownFields::new(alloc),
-        }
-    }
-
-    fn front<V: Visitor>(&self, visitor: &mut V) {
+impl SelfFields for Failure {
+    fn visit<V: SelfVisitor<Failure>>(&self, visitor: &mut V) {
         visitor.visit::<Plain<Str>>(1, &self.reason);
-    }
-
-    fn behind<V: Visitor>(&self, visitor: &mut V) {
+        visitor.visit_one(2, &self.cause);
         visitor.visit::<Repeated<Int32>>(3, &self.lines);
         visitor.visit_kept(&self.rest);
     }
 
-    fn take(
+    fn take<I: SelfMerger<Failure>>(
         &mut self,
         alloc: Global,
         tag: Tag,
         buf: &mut &[u8],
         ctx: DecodeContext<'_>,
+        inner: &I,
     ) -> Result<(), DecodeError> {
         match tag.field_number() {
             1 => Plain::<Str>::merge(&mut self.reason, alloc, tag, buf, ctx),
+            2 => take_one(&mut self.cause, alloc, tag, buf, ctx, inner),
             3 => Repeated::<Int32>::merge(&mut self.lines, alloc, tag, buf, ctx),
             _ => kept::keep(alloc, &mut self.rest, tag, buf, ctx),
         }
     }
+}
+
+impl Blank for Failure {
+    type Meaning = Failure;
+
+    ghost meaning = { λ m. m };
+
+    ghost blank_is = { ⟦<Failure as Laid>⟧.laying.into ⟦<Failure as Laid>⟧.laying.blank };
+
+    fn blank(alloc: Global) -> Failure {
+        Failure {
+            reason: String::new(alloc),
+            cause: None,
+            lines: Vec::new(alloc),
+            rest: UnknownFields::new(alloc),
+        }
+    }
+}
+
+impl SelfListing for Failure {
+    ghost means = { λ m. refl };
+
+    ghost starts = { refl };
+}
+
+impl Formed for Failure {
+    type Form = SelfListed;
 }

@@ -1,12 +1,16 @@
 //! buffa.sample.Branch, made of branch.proto by protoc-gen-buffa.
 
 ghost use Rattle.std.proofs.Common.{lit<, refl};
-ghost use Rattle.buffa.specs.Members.{field, keep};
+ghost use Rattle.buffa.specs.Knots.{keeps, knotted, list_inside, member};
 
-use buffa::fields::{And3, Holds, KeptFields, Member, Nest, Plain, Repeated, Visitor, kept};
+use buffa::fields::{
+    Formed, Laid, Member, Plain, Repeated, SelfFields, SelfListed, SelfListing, SelfMerger,
+    SelfVisitor, kept, take_list,
+};
 use buffa::map_codec::{Int32, Str};
-use buffa::{DecodeContext, DecodeError, Tag, UnknownFields};
+use buffa::{Blank, DecodeContext, DecodeError, Tag, UnknownFields};
 use std::alloc::Global;
+use std::marker::Model;
 use std::string::String;
 
 /// A branch, with the branches on it.
@@ -16,68 +20,98 @@ use std::string::String;
 ///     repeated int32 leaves = 2 [packed = false];
 ///     repeated Branch branches = 3;
 /// }
-///
-/// Its `branches` are `inside`. Its other members are in `own`.
-pub type Branch = Nest<BranchOwn>;
-
-/// What `Branch` has beside `branches`.
 #[derive(Drop)]
-pub struct BranchOwn {
+pub struct Branch {
     pub name: String,
     pub leaves: Vec<i32>,
+    pub branches: Vec<Branch>,
     /// The fields that aren't declared, in order.
     pub rest: UnknownFields,
 }
 
-impl Holds for BranchOwn {
-    type Meaning = And3<[u8; 0], [i32; 0], KeptFields>;
+impl Model for Branch {
+    ghost use Rattle.std.specs.Coded.{codes};
+    ghost use Rattle.std.specs.Prelude.{List, ℕ, ℤ};
+    ghost use Rattle.std.proofs.Common.{arith};
+    ghost use Rattle.buffa.specs.Knots.{Datum, Knot, coded_datum, coded_knot, has, has_kept, has_list, knot_height, knot_of, most-of_list};
 
+    ghost Value = { Knot (List ℕ × (List ℤ × List (ℕ × Datum))) };
+
+    ghost coded = { Prim.hlevel (codes, coded_datum, coded_knot) };
+
+    ghost view = { λ m. knot_of (
+        has (⟦<Plain<Str> as Member>⟧.shape.meaning m.name) (
+        has (⟦<Repeated<Int32> as Member>⟧.shape.meaning m.leaves) (
+        has_list m.branches.items (has_kept m.rest.records)))) };
+
+    ghost size = { knot_height };
+
+    ghost size_decreases = { λ m h. Prim.grind (arith, most-of_list m.branches.items) };
+}
+
+impl Laid for Branch {
     const COST: usize = 96;
 
     ghost COST = { 96 };
 
     ghost positive = { lit< tt };
 
-    const NUMBER: u32 = 3;
+    ghost laying = { knotted (
+        member 1 ⟦<Plain<Str> as Member>⟧.shape (
+        member 2 ⟦<Repeated<Int32> as Member>⟧.shape (
+        list_inside 3 keeps))) };
 
-    ghost NUMBER = { 3 };
+    ghost sound = { λ w. refl };
+}
 
-    ghost layout = { field 1 (λ m. m.name) ⟦<Plain<Str> as Member>⟧.shape (
-        field 2 (λ m. m.leaves) ⟦<Repeated<Int32> as Member>⟧.shape (
-        keep (λ m. m.rest.records))) };
-
-    ghost sound = { refl };
-
-    ghost other = { refl };
-
-    fn blank(alloc: Global) -> BranchOwn {
-        BranchOwn {
-            name: String::new(alloc),
-            leaves: Vec::new(alloc),
-            rest: UnknownFields::new(alloc),
-        }
-    }
-
-    fn front<V: Visitor>(&self, visitor: &mut V) {
+impl SelfFields for Branch {
+    fn visit<V: SelfVisitor<Branch>>(&self, visitor: &mut V) {
         visitor.visit::<Plain<Str>>(1, &self.name);
         visitor.visit::<Repeated<Int32>>(2, &self.leaves);
-    }
-
-    fn behind<V: Visitor>(&self, visitor: &mut V) {
+        visitor.visit_list(3, &self.branches);
         visitor.visit_kept(&self.rest);
     }
 
-    fn take(
+    fn take<I: SelfMerger<Branch>>(
         &mut self,
         alloc: Global,
         tag: Tag,
         buf: &mut &[u8],
         ctx: DecodeContext<'_>,
+        inner: &I,
     ) -> Result<(), DecodeError> {
         match tag.field_number() {
             1 => Plain::<Str>::merge(&mut self.name, alloc, tag, buf, ctx),
             2 => Repeated::<Int32>::merge(&mut self.leaves, alloc, tag, buf, ctx),
+            3 => take_list(&mut self.branches, alloc, tag, buf, ctx, inner),
             _ => kept::keep(alloc, &mut self.rest, tag, buf, ctx),
         }
     }
+}
+
+impl Blank for Branch {
+    type Meaning = Branch;
+
+    ghost meaning = { λ m. m };
+
+    ghost blank_is = { ⟦<Branch as Laid>⟧.laying.into ⟦<Branch as Laid>⟧.laying.blank };
+
+    fn blank(alloc: Global) -> Branch {
+        Branch {
+            name: String::new(alloc),
+            leaves: Vec::new(alloc),
+            branches: Vec::new(alloc),
+            rest: UnknownFields::new(alloc),
+        }
+    }
+}
+
+impl SelfListing for Branch {
+    ghost means = { λ m. refl };
+
+    ghost starts = { refl };
+}
+
+impl Formed for Branch {
+    type Form = SelfListed;
 }

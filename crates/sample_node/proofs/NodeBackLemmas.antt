@@ -1,24 +1,28 @@
--- The nodes that the form reads back of their encoding are the normal ones, where the records of a node fit.
-use Rattle.std.proofs.Common.{◌≡◌, inl, inr, ◌↔◌, ◌⊎◌, ℕ, ℤ, ◌==◌, Bool, true, false, not, FitsSigned, List, [], ◌∷◌, ◌++◌, refl, sym, subst, arith}
+-- The nodes that their encoding reads back to are the normal ones, where the records of a node fit.
+use Rattle.std.proofs.Common.{◌≡◌, inl, inr, ◌↔◌, ◌⊎◌, ℕ, ℤ, ◌==◌, Bool, true, false, not, FitsSigned, List, [], ◌∷◌, ◌++◌, refl, sym, ap, subst, ◌∙◌, arith}
 use Rattle.std.proofs.lemmas.Bool.{eq-eqb, eqb-false, eqb-true, ne_eqb}
 use Rattle.std.specs.Int.{w32}
 use Rattle.std.specs.List.{AllByRecursion}
+use Rattle.std.specs.List.Sorted.{IsStrictlySortedBy}
+use Rattle.std.specs.Map.{keys_of}
+use Rattle.std.specs.Ordering.{int_cmp}
 use Rattle.buffa_wire.specs.Parse.{AreValid, Fits, IsValidDatum}
 use Rattle.buffa_wire.specs.Records.{Datum, records_of}
 use Rattle.buffa_map.specs.Encoding.{AllHold}
 use Rattle.buffa_map.specs.Enums.{ClosedFits, closed_writing}
 use Rattle.buffa_map.specs.Scalars.{IsText, int32_reading, int32_writing, text_writing}
 use Rattle.buffa_fields.specs.Aside.{AllAside}
-use Rattle.buffa_fields.specs.HeldMap.{AreNormalKids, IsNormalMapNest}
 use Rattle.buffa_fields.specs.Keep.{AllNumbers}
 use Rattle.buffa_fields.specs.KeptMaps.{IsAsideEntry}
-use Rattle.buffa_fields.specs.Layout.{Choice, Layout}
+use Rattle.buffa_fields.specs.Knots.{KnotList, kid, knot, no_kid}
+use Rattle.buffa_fields.specs.Layout.{Choice}
 use Rattle.buffa_fields.specs.MapFields.{map_records}
-use Rattle.buffa_fields.specs.MapNests.{Kids, kid, no_kid}
+use Rattle.buffa_fields.specs.Nested.{FitsInside}
 use Rattle.buffa_fields.specs.PairFacts.{fits_both}
-use Rattle.sample_node.proofs.NodeOwnLemmas.{IsNormalBeside, SaysOwn, node_keys}
-use Rattle.sample_node.proofs.NodeShortLemmas.{child_shorter, short_encoding}
-use Rattle.sample_node.proofs.NodeWrittenLemmas.{records_same}
+use Rattle.buffa_fields.specs.Pairs.{child_pairs, keys_in, pairs_in, values_in}
+use Rattle.buffa_fields.specs.ToldFacts.{is_normal, normal_is}
+use Rattle.sample_node.proofs.NodeLaidLemmas.{AreNormalScores, AreNormalShades, members, members_owe, members_sound, node_keys, node_words}
+use Rattle.sample_node.proofs.NodeWrittenLemmas.{child_shorter, records_same, short_encoding}
 use Rattle.sample_node.specs.Branch.{Branch, NodeKept, NodeOwn, Scores, Shades, branch, shade_numbers}
 use Rattle.sample_node.specs.NodeEncoding.{AreNormalNodes, IsKept, IsNormalNode, IsNormalOwn, node_encoding, node_records, nodes_records}
 use Rattle.sample_node.specs.NodeMeaning.{shade_reading}
@@ -80,51 +84,92 @@ are_valid : (r : NodeKept) → AllByRecursion IsKept r → AreValid (records_of 
 are_valid [] h = tt
 are_valid (y ∷ ys) h = let here = valid_here y h.0 in (here.0, here.1, are_valid ys h.1)
 
--- ---- the members beside the children
-own_normal : (a : Scores) (h : Shades) (r : NodeKept) → IsNormalBeside (a, (h, r)) → NoNumber 2 r → IsNormalOwn (a, (h, r))
-own_normal a h r n two = (
-  (bare IsText (FitsSigned w32) a n.0.0, n.0.1),
-  (bare (FitsSigned w32) (ClosedFits shade_numbers) h n.1.0.0, n.1.0.1),
-  are_kept r n.1.1 n.2 two n.1.2,
-)
+-- ---- keys and children side by side
+abbrev pub ArePaired : List ℤ → KnotList NodeOwn → Type 0
+ArePaired ks cs = pairs_in (child_pairs ks cs) ≡ (ks, cs)
 
-own_as_normal : (a : Scores) (h : Shades) (r : NodeKept) → IsNormalOwn (a, (h, r)) → IsNormalBeside (a, (h, r))
-own_as_normal a h r n = (
-  (plus IsText (FitsSigned w32) a n.0.0, n.0.1),
-  ((plus (FitsSigned w32) (ClosedFits shade_numbers) h n.1.0, n.1.1), are_valid r n.2, are_aside r n.2),
-  other_numbers 1 (inl refl) r n.2,
-)
+pub are_paired : (ks : List ℤ) (cs : KnotList NodeOwn) → AreNormalNodes ks cs → ArePaired ks cs
+are_paired [] no_kid n = refl
+are_paired (k ∷ ks) (kid t cs) n = ap (λ (x : List ℤ × KnotList NodeOwn). (k ∷ x.0, kid t x.1)) (are_paired ks cs n.2)
+are_paired _ _ n = absurd n
+
+abbrev AreAsMany : List ℤ → KnotList NodeOwn → Type 0
+AreAsMany [] no_kid = Unit {0}
+AreAsMany (k ∷ ks) (kid t cs) = AreAsMany ks cs
+AreAsMany _ _ = ⊥
+
+pairs_as_many : (es : List (ℤ × Branch)) → AreAsMany (keys_in es) (values_in es)
+pairs_as_many [] = tt
+pairs_as_many (e ∷ es) = pairs_as_many es
+
+are_as_many : (ks : List ℤ) (cs : KnotList NodeOwn) → ArePaired ks cs → AreAsMany ks cs
+are_as_many ks cs is = subst (λ (x : List ℤ × KnotList NodeOwn). AreAsMany x.0 x.1) is (pairs_as_many (child_pairs ks cs))
+
+pub keys_same : (es : List (ℤ × Branch)) → keys_of es ≡ keys_in es
+keys_same [] = refl
+keys_same (e ∷ es) = ap (λ (ks : List ℤ). e.0 ∷ ks) (keys_same es)
+
+pub keys_paired : (ks : List ℤ) (cs : KnotList NodeOwn) → ArePaired ks cs → keys_of (child_pairs ks cs) ≡ ks
+keys_paired ks cs is = keys_same (child_pairs ks cs) ∙ ap (λ x. x.0) is
 
 -- ---- a node
-module _ {M : Type 0} (l : Layout M NodeOwn) (says : SaysOwn l) where
-  abbrev NodeFits : Branch → Type 0
-  NodeFits t = Fits (records_of (node_records t))
+abbrev NodeFits : Branch → Type 0
+NodeFits t = Fits (records_of (node_records t))
 
-  mutual
-    to_node : (t : Branch) → IsNormalMapNest node_keys l 2 96 t → IsNormalNode t
-    to_node (branch a cs h r) n =
-        (own_normal a h r (says.normal (a, (h, r)) n.2) (subst (λ z. NoNumber 2 z) (says.kept (a, (h, r))) n.3), n.1.1, to_nodes cs n.1.0)
+abbrev AreInside : List (ℤ × Branch) → Type 0
+AreInside es = AllHold node_keys.Normal (FitsInside node_words.normal node_words.records) es
 
-    to_nodes : (cs : Kids ℤ NodeOwn) → AreNormalKids node_keys l 2 96 cs → AreNormalNodes cs
-    to_nodes no_kid n = tt
-    to_nodes (kid k t cs) n = (n.0.0, to_node t n.1.0, to_nodes cs n.2)
+own_normal : (a : Scores) (h : Shades) (r : NodeKept) → AreNormalScores a → AreNormalShades h → AreValid (records_of r) → AllAside 3 IsShadeAside r → NoNumber 1 r → NoNumber 2 r → IsNormalOwn a h r
+own_normal a h r scores shades valid aside first second =
+    ((bare IsText (FitsSigned w32) a scores.0, scores.1), (bare (FitsSigned w32) (ClosedFits shade_numbers) h shades.0, shades.1), are_kept r valid first second aside)
 
-  mutual
-    of_node : (t : Branch) → NodeFits t → IsNormalNode t → IsNormalMapNest node_keys l 2 96 t
-    of_node (branch a cs h r) fits n =
-        let below = fits_both (map_records text_writing int32_writing 1 a) (nodes_records cs ++ (map_records int32_writing closed_writing 3 h ++ r)) fits in
-        let shades = fits_both (nodes_records cs) (map_records int32_writing closed_writing 3 h ++ r) below.1 in (
-          (says.other, says.owes),
-          (of_nodes cs shades.0 n.2, n.1),
-          says.as_normal (a, (h, r)) (own_as_normal a h r n.0),
-          subst (λ z. NoNumber 2 z) (sym (says.kept (a, (h, r)))) (other_numbers 2 (inr refl) r n.0.2),
-        )
+-- its children stand in its first slot, and there is no other
+abbrev HasOneSlot : Branch → Type 0
+HasOneSlot (branch a ks cs h r) = Unit {0}
+HasOneSlot _ = ⊥
 
-    of_nodes : (cs : Kids ℤ NodeOwn) → Fits (records_of (nodes_records cs)) → AreNormalNodes cs → AreNormalKids node_keys l 2 96 cs
-    of_nodes no_kid fits n = tt
-    of_nodes (kid k t cs) fits n =
-        let inner = short_encoding t (child_shorter k (node_encoding t) fits.0) in
-        ((n.0, tt), (of_node t inner n.1, subst (λ z. Fits (records_of z)) (sym (records_same l says t)) inner), of_nodes cs fits.1 n.2)
+has_one : (t : Branch) → members.into (members.out t) ≡ t → HasOneSlot t
+has_one (knot (a, (ks, (h, r))) ss) is = subst HasOneSlot is tt
 
-  pub normal_is : (t : Branch) → NodeFits t → IsNormalMapNest node_keys l 2 96 t ↔ IsNormalNode t
-  normal_is t fits = (to_node t, of_node t fits)
+mutual
+  to_node : (t : Branch) → node_words.normal t → IsNormalNode t
+  to_node (branch a ks cs h r) normal =
+      let n = (normal_is 96 members members_sound (branch a ks cs h r) normal).2 in
+      (own_normal a h r n.0 n.1.1.0 n.1.1.1 n.1.1.2 n.2 n.1.2, subst (IsStrictlySortedBy int_cmp) (keys_paired ks cs n.1.0.0) n.1.0.1.1, to_nodes ks cs (are_as_many ks cs n.1.0.0) n.1.0.1.0)
+  to_node t normal = has_one t (normal_is 96 members members_sound t normal).1
+
+  to_nodes : (ks : List ℤ) (cs : KnotList NodeOwn) → AreAsMany ks cs → AreInside (child_pairs ks cs) → AreNormalNodes ks cs
+  to_nodes [] no_kid as_many n = tt
+  to_nodes (k ∷ ks) (kid t cs) as_many n = (n.0.0, to_node t n.1.0, to_nodes ks cs as_many n.2)
+  to_nodes _ _ as_many n = absurd as_many
+
+mutual
+  of_node : (t : Branch) → NodeFits t → IsNormalNode t → node_words.normal t
+  of_node (branch a ks cs h r) fits n =
+      let below = fits_both (map_records text_writing int32_writing 1 a) (nodes_records ks cs ++ (map_records int32_writing closed_writing 3 h ++ r)) fits in
+      let inside = fits_both (nodes_records ks cs) (map_records int32_writing closed_writing 3 h ++ r) below.1 in
+      let paired = are_paired ks cs n.2 in
+      is_normal 96 members members_sound (branch a ks cs h r) (
+        members_owe,
+        refl,
+        (
+          (plus IsText (FitsSigned w32) a n.0.0.0, n.0.0.1),
+          (
+            (paired, (of_nodes ks cs inside.0 n.2, subst (IsStrictlySortedBy int_cmp) (sym (keys_paired ks cs paired)) n.1)),
+            ((plus (FitsSigned w32) (ClosedFits shade_numbers) h n.0.1.0, n.0.1.1), are_valid r n.0.2, are_aside r n.0.2),
+            other_numbers 2 (inr refl) r n.0.2,
+          ),
+          other_numbers 1 (inl refl) r n.0.2,
+        ),
+      )
+  of_node _ fits n = absurd n
+
+  of_nodes : (ks : List ℤ) (cs : KnotList NodeOwn) → Fits (records_of (nodes_records ks cs)) → AreNormalNodes ks cs → AreInside (child_pairs ks cs)
+  of_nodes [] cs fits n = tt
+  of_nodes (k ∷ ks) no_kid fits n = tt
+  of_nodes (k ∷ ks) (kid t cs) fits n =
+      let inner = short_encoding t (child_shorter k (node_encoding t) fits.0) in
+      ((n.0, tt), (of_node t inner n.1, subst (λ z. Fits (records_of z)) (sym (records_same t)) inner), of_nodes ks cs fits.1 n.2)
+
+pub node_normal_is : (t : Branch) → NodeFits t → node_words.normal t ↔ IsNormalNode t
+node_normal_is t fits = (to_node t, of_node t fits)

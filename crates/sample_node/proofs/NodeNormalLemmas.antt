@@ -1,5 +1,5 @@
 -- What bytes make of a normal node is one.
-use Rattle.std.proofs.Common.{◌≡◌, inl, inr, ℕ, zero, suc, ℤ, ◌==◌, ◌-◌, ◌^◌, ◌<◌, FitsSigned, Bool, true, false, cond, List, [], ◌∷◌, ◌++◌, length, Option, None, Some, Result, Ok, Err, refl, sym, ap, subst, ◌∙◌, arith, append_assoc, append-nil, true≢false, if◌then◌else◌}
+use Rattle.std.proofs.Common.{◌≡◌, inl, inr, ℕ, zero, suc, ℤ, ◌==◌, ◌<◌, FitsSigned, Bool, true, false, cond, List, [], ◌∷◌, ◌++◌, Option, None, Some, Result, Ok, Err, refl, sym, ap, subst, ◌∙◌, arith, append-nil, true≢false, if◌then◌else◌}
 use Rattle.std.proofs.lemmas.Bool.{eqb-false, eqb-true}
 use Rattle.std.proofs.lemmas.Str.{IsUtf8-nil, is_utf8-from_IsUtf8}
 use Rattle.std.specs.BTreeMap.{insert_entry}
@@ -52,7 +52,9 @@ use Rattle.buffa_fields.specs.Keep.{keep_takes}
 use Rattle.buffa_fields.specs.KeepFacts.{kept_record}
 use Rattle.buffa_fields.specs.KeptMaps.{put_or_keep}
 use Rattle.buffa_fields.specs.MapFields.{stepped}
-use Rattle.buffa_fields.specs.MapNests.{Kids, kid_list, kid_list-kids_in, kids_in, kids_in-kid_list}
+use Rattle.buffa_fields.specs.Knots.{KnotList}
+use Rattle.buffa_fields.specs.Pairs.{child_pairs, keys_in, values_in}
+use Rattle.sample_node.proofs.NodeBackLemmas.{are_paired, keys_paired, keys_same}
 use Rattle.sample_node.specs.Branch.{Branch, NodeKept, NodeOwn, Scores, Shades, blank_node, branch, shade_numbers}
 use Rattle.sample_node.specs.NodeEncoding.{AreNormalNodes, IsKept, IsNormalNode}
 use Rattle.sample_node.specs.NodeMeaning.{LevelMeaning, children_take, node_field_takes, node_merged, node_reading, scores_take, shade_reading, shades_take, text_cmp}
@@ -116,11 +118,14 @@ insert_holds {K} {V} cmp P Q (e ∷ es) k v h a b = by (cmp k e.0) (insert_holds
     by Equal i = (h.0, b, h.2)
     by Greater i = (h.0, h.1, i)
 
-put_normal : (es : List (ℤ × Branch)) (k : ℤ) (t : Branch) → AreNormalNodes (kids_in es) → FitsSigned w32 k → IsNormalNode t → AreNormalNodes (kids_in (insert_entry int_cmp es k t))
+abbrev AreNormalPairs : List (ℤ × Branch) → Type 0
+AreNormalPairs es = AreNormalNodes (keys_in es) (values_in es)
+
+put_normal : (es : List (ℤ × Branch)) (k : ℤ) (t : Branch) → AreNormalPairs es → FitsSigned w32 k → IsNormalNode t → AreNormalPairs (insert_entry int_cmp es k t)
 put_normal [] k t a f n = (f, n, tt)
 put_normal (e ∷ es) k t a f n = by (int_cmp k e.0) (put_normal es k t a.2 f n)
   where
-    by : (r : Ordering) → AreNormalNodes (kids_in (insert_entry int_cmp es k t)) → AreNormalNodes (kids_in (match_ordering r ((k, t) ∷ e ∷ es) ((e.0, t) ∷ es) (e ∷ insert_entry int_cmp es k t)))
+    by : (r : Ordering) → AreNormalPairs (insert_entry int_cmp es k t) → AreNormalPairs (match_ordering r ((k, t) ∷ e ∷ es) ((e.0, t) ∷ es) (e ∷ insert_entry int_cmp es k t))
     by Less i = (f, n, a)
     by Equal i = (a.0, n, a.2)
     by Greater i = (a.0, a.1, i)
@@ -188,21 +193,26 @@ module _ (m : LevelMeaning) (stays : KeepsNormal m) (d : ℕ) where
       e s b (int32_fits 0, blank_is_normal) h
 
   -- ---- a field
-  module _ (a : Scores) (cs : Kids ℤ NodeOwn) (h : Shades) (r : NodeKept) (normal : IsNormalNode (branch a cs h r)) where
-    with_score : (s : MapEntry (List ℕ) ℤ) → IsScore s → (known : Bool) → IsNormalNode (branch (cond known (insert_entry text_cmp a s.key s.value) a) cs h r)
+  module _ (a : Scores) (ks : List ℤ) (cs : KnotList NodeOwn) (h : Shades) (r : NodeKept) (normal : IsNormalNode (branch a ks cs h r)) where
+    with_score : (s : MapEntry (List ℕ) ℤ) → IsScore s → (known : Bool) → IsNormalNode (branch (cond known (insert_entry text_cmp a s.key s.value) a) ks cs h r)
     with_score s is true = (((insert_holds text_cmp IsText (FitsSigned w32) a s.key s.value normal.0.0.0 is.0 is.1, sorted_put nat_list_cmp_total a s.key s.value normal.0.0.1), normal.0.1, normal.0.2), normal.1, normal.2)
     with_score s is false = normal
 
-    with_child : (s : MapEntry ℤ Branch) → IsChildEntry s → (known : Bool) → IsNormalNode (branch a (kids_in (cond known (insert_entry int_cmp (kid_list cs) s.key s.value) (kid_list cs))) h r)
-    with_child s is true = (
-      normal.0,
-      subst (λ es. IsStrictlySortedBy int_cmp (keys_of es)) (sym (kid_list-kids_in (insert_entry int_cmp (kid_list cs) s.key s.value))) (sorted_put int_cmp_total (kid_list cs) s.key s.value normal.1),
-      put_normal (kid_list cs) s.key s.value (subst (λ z. AreNormalNodes z) (sym (kids_in-kid_list cs)) normal.2) is.0 is.1,
-    )
-    with_child s is false = subst (λ z. IsNormalNode (branch a z h r)) (sym (kids_in-kid_list cs)) normal
+    with_child : (s : MapEntry ℤ Branch) → IsChildEntry s → (known : Bool) → let es = cond known (insert_entry int_cmp (child_pairs ks cs) s.key s.value) (child_pairs ks cs) in IsNormalNode (branch a (keys_in es) (values_in es) h r)
+    with_child s is known =
+        let paired = are_paired ks cs normal.2 in
+        let es = child_pairs ks cs in
+        let inside : AreNormalPairs es = subst (λ (x : List ℤ × KnotList NodeOwn). AreNormalNodes x.0 x.1) (sym paired) normal.2 in
+        let ascend : IsStrictlySortedBy int_cmp (keys_of es) = subst (IsStrictlySortedBy int_cmp) (sym (keys_paired ks cs paired)) normal.1 in
+        by known inside ascend
+      where
+        by : (known : Bool) → AreNormalPairs (child_pairs ks cs) → IsStrictlySortedBy int_cmp (keys_of (child_pairs ks cs)) → let es = cond known (insert_entry int_cmp (child_pairs ks cs) s.key s.value) (child_pairs ks cs) in IsNormalNode (branch a (keys_in es) (values_in es) h r)
+        by true inside ascend = let es = insert_entry int_cmp (child_pairs ks cs) s.key s.value in
+            (normal.0, subst (IsStrictlySortedBy int_cmp) (keys_same es) (sorted_put int_cmp_total (child_pairs ks cs) s.key s.value ascend), put_normal (child_pairs ks cs) s.key s.value inside is.0 is.1)
+        by false inside ascend = (normal.0, subst (IsStrictlySortedBy int_cmp) (keys_same (child_pairs ks cs)) ascend, inside)
 
     with_shade : (n : ℕ) → n ≡ 3 → (e : List ℕ) (s : MapEntry ℤ ℤ) → IsEntry int32_reading shade_reading d e s → FitsSigned w32 s.key → (known : Bool) → s.known ≡ known → (known ≡ true → ClosedFits shade_numbers s.value) →
-        IsNormalNode (branch a cs (cond known (insert_entry int_cmp h s.key s.value) h) (r ++ undeclared_record n e known))
+        IsNormalNode (branch a ks cs (cond known (insert_entry int_cmp h s.key s.value) h) (r ++ undeclared_record n e known))
     with_shade n three e s entry key true is fits = (
       (
         normal.0.0,
@@ -217,44 +227,45 @@ module _ (m : LevelMeaning) (stays : KeepsNormal m) (d : ℕ) where
         ((normal.0.0, normal.0.1, AllByRecursion-last IsKept r (n, bytes e) normal.0.2 (inr (three, aside))), normal.1, normal.2)
 
     module _ (u : Branch) (n : ℕ) (x : Datum) (p : List ℕ) (some : IsNumber n) (b : AreBytes p) (payload : IsPayload d n x p) where
-      score_put : option_map (λ z. branch z cs h r) (scores_take d a n (wire_of x) p) ≡ Some u → IsNormalNode u
+      score_put : option_map (λ z. branch z ks cs h r) (scores_take d a n (wire_of x) p) ≡ Some u → IsNormalNode u
       score_put taken =
-          let m = mapped (λ z. branch z cs h r) (scores_take d a n (wire_of x) p) u taken in
+          let m = mapped (λ z. branch z ks cs h r) (scores_take d a n (wire_of x) p) u taken in
           let t = taken_entry text_reading int32_reading (λ v e s. stepped (insert_entry text_cmp) v s) d a m.0 n x p b payload m.1 in
-          subst (λ z. IsNormalNode z) (sym (m.2 ∙ ap (λ z. branch z cs h r) t.4)) (with_score t.1 (score_is d t.0 t.1 t.2 t.3) t.1.known)
+          subst (λ z. IsNormalNode z) (sym (m.2 ∙ ap (λ z. branch z ks cs h r) t.4)) (with_score t.1 (score_is d t.0 t.1 t.2 t.3) t.1.known)
 
-      child_put : option_map (λ es. branch a (kids_in es) h r) (children_take m d (kid_list cs) n (wire_of x) p) ≡ Some u → IsNormalNode u
+      child_put : option_map (λ es. branch a (keys_in es) (values_in es) h r) (children_take m d (child_pairs ks cs) n (wire_of x) p) ≡ Some u → IsNormalNode u
       child_put taken =
-          let o = mapped (λ es. branch a (kids_in es) h r) (children_take m d (kid_list cs) n (wire_of x) p) u taken in
-          let t = taken_entry int32_reading (node_reading m (λ _. nothing)) (λ v e s. stepped (insert_entry int_cmp) v s) d (kid_list cs) o.0 n x p b payload o.1 in
-          subst (λ z. IsNormalNode z) (sym (o.2 ∙ ap (λ es. branch a (kids_in es) h r) t.4)) (with_child t.1 (child_is t.0 t.1 t.2 t.3) t.1.known)
+          let o = mapped (λ es. branch a (keys_in es) (values_in es) h r) (children_take m d (child_pairs ks cs) n (wire_of x) p) u taken in
+          let t = taken_entry int32_reading (node_reading m (λ _. nothing)) (λ v e s. stepped (insert_entry int_cmp) v s) d (child_pairs ks cs) o.0 n x p b payload o.1 in
+          subst (λ z. IsNormalNode z) (sym (o.2 ∙ ap (λ es. branch a (keys_in es) (values_in es) h r) t.4)) (with_child t.1 (child_is t.0 t.1 t.2 t.3) t.1.known)
 
-      shade_put : n ≡ 3 → option_map (λ (z : Shades × NodeKept). branch a cs z.0 z.1) (shades_take d (h, r) n (wire_of x) p) ≡ Some u → IsNormalNode u
+      shade_put : n ≡ 3 → option_map (λ (z : Shades × NodeKept). branch a ks cs z.0 z.1) (shades_take d (h, r) n (wire_of x) p) ≡ Some u → IsNormalNode u
       shade_put three taken =
-          let o = mapped (λ (z : Shades × NodeKept). branch a cs z.0 z.1) (shades_take d (h, r) n (wire_of x) p) u taken in
+          let o = mapped (λ (z : Shades × NodeKept). branch a ks cs z.0 z.1) (shades_take d (h, r) n (wire_of x) p) u taken in
           let t = taken_entry int32_reading shade_reading (put_or_keep int32_reading shade_reading (insert_entry int_cmp) n) d (h, r) o.0 n x p b payload o.1 in
           let is = shade_is d t.0 t.1 t.2 t.3 in
-          subst (λ z. IsNormalNode z) (sym (o.2 ∙ ap (λ (z : Shades × NodeKept). branch a cs z.0 z.1) t.4)) (with_shade n three t.0 t.1 t.3 is.0 t.1.known refl is.1)
+          subst (λ z. IsNormalNode z) (sym (o.2 ∙ ap (λ (z : Shades × NodeKept). branch a ks cs z.0 z.1) t.4)) (with_shade n three t.0 t.1 t.3 is.0 t.1.known refl is.1)
 
-      other_put : 3 < n → option_map (λ z. branch a cs h z) (keep_takes d r n (wire_of x) p) ≡ Some u → IsNormalNode u
+      other_put : 3 < n → option_map (λ z. branch a ks cs h z) (keep_takes d r n (wire_of x) p) ≡ Some u → IsNormalNode u
       other_put high taken =
-          let o = mapped (λ z. branch a cs h z) (keep_takes d r n (wire_of x) p) u taken in
+          let o = mapped (λ z. branch a ks cs h z) (keep_takes d r n (wire_of x) p) u taken in
           let same : (let q : Option NodeKept = Some o.0 in q ≡ Some (r ++ (n, x) ∷ [])) = sym o.1 ∙ kept_record d n x p r payload in
           let more : o.0 ≡ r ++ (n, x) ∷ [] = cc in
-          subst (λ z. IsNormalNode z) (sym (o.2 ∙ ap (λ z. branch a cs h z) more)) ((normal.0.0, normal.0.1, AllByRecursion-last IsKept r (n, x) normal.0.2 (inl (high, (some, payload_valid x d n p b payload, tt)))), normal.1, normal.2)
+          subst (λ z. IsNormalNode z) (sym (o.2 ∙ ap (λ z. branch a ks cs h z) more)) ((normal.0.0, normal.0.1, AllByRecursion-last IsKept r (n, x) normal.0.2 (inl (high, (some, payload_valid x d n p b payload, tt)))), normal.1, normal.2)
 
       by_number : (i j k : Bool) → (n == 1) ≡ i → (n == 2) ≡ j → (n == 3) ≡ k →
-          (if i then option_map (λ z. branch z cs h r) (scores_take d a n (wire_of x) p)
-          else if j then option_map (λ es. branch a (kids_in es) h r) (children_take m d (kid_list cs) n (wire_of x) p)
-          else if k then option_map (λ (z : Shades × NodeKept). branch a cs z.0 z.1) (shades_take d (h, r) n (wire_of x) p)
-          else option_map (λ z. branch a cs h z) (keep_takes d r n (wire_of x) p)) ≡ Some u → IsNormalNode u
+          (if i then option_map (λ z. branch z ks cs h r) (scores_take d a n (wire_of x) p)
+          else if j then option_map (λ es. branch a (keys_in es) (values_in es) h r) (children_take m d (child_pairs ks cs) n (wire_of x) p)
+          else if k then option_map (λ (z : Shades × NodeKept). branch a ks cs z.0 z.1) (shades_take d (h, r) n (wire_of x) p)
+          else option_map (λ z. branch a ks cs h z) (keep_takes d r n (wire_of x) p)) ≡ Some u → IsNormalNode u
       by_number true j k is_one is_two is_three taken = score_put taken
       by_number false true k is_one is_two is_three taken = child_put taken
       by_number false false true is_one is_two is_three taken = shade_put (eqb-true n 3 is_three) taken
       by_number false false false no_one no_two no_three taken = other_put (omega (arith, some, eqb-false n 1 no_one, eqb-false n 2 no_two, eqb-false n 3 no_three)) taken
 
   field_keeps : (v u : Branch) (n : ℕ) (x : Datum) (p : List ℕ) → IsNormalNode v → IsNumber n → AreBytes p → IsPayload d n x p → node_field_takes m d v n (wire_of x) p ≡ Some u → IsNormalNode u
-  field_keeps (branch a cs h r) u n x p normal some b payload taken = by_number a cs h r normal u n x p some b payload (n == 1) (n == 2) (n == 3) refl refl refl taken
+  field_keeps (branch a ks cs h r) u n x p normal some b payload taken = by_number a ks cs h r normal u n x p some b payload (n == 1) (n == 2) (n == 3) refl refl refl taken
+  field_keeps _ u n x p normal some b payload taken = absurd normal
 
 -- ---- all bytes
 none_keeps : KeepsNormal (λ _ _. None)

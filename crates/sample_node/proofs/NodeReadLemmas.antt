@@ -1,142 +1,123 @@
--- A node as a message that holds a map of itself: bytes make of it, and cost, what the specs say.
-use Rattle.std.proofs.Common.{◌≡◌, ℕ, ℤ, zero, suc, ◌==◌, Bool, true, false, List, [], ◌++◌, Option, Some, None, refl, sym, ap, subst, ◌∙◌, if◌then◌else◌}
-use Rattle.std.proofs.lemmas.Bool.{eqb-true}
+-- Bytes make of a node, and cost, what the specs say.
+use Rattle.std.proofs.Common.{◌≡◌, ℕ, ℤ, zero, suc, ◌+◌, ◌==◌, Bool, true, false, List, [], ◌++◌, Option, Some, None, refl, sym, ap, subst, ◌∙◌, arith, if◌then◌else◌}
 use Rattle.std.specs.BTreeMap.{insert_entry}
 use Rattle.std.specs.Option.{option_map}
 use Rattle.std.specs.Ordering.{int_cmp}
 use Rattle.buffa_bytes.specs.declared.wire_type.WireType.{WireType}
-use Rattle.buffa_wire.specs.BudgetLeft.{nothing}
-use Rattle.buffa_wire.specs.Takes.{Taker, cost_of, merged_of}
-use Rattle.buffa_map.specs.Message.{message_reading}
+use Rattle.buffa_wire.proofs.ByPayloadLemmas.{ByPayload, by_payload}
+use Rattle.buffa_wire.specs.Takes.{cost_of, merged_of}
 use Rattle.buffa_map.specs.Scalars.{int32_reading}
-use Rattle.buffa_fields.specs.HeldMap.{map_nest_cost, map_nest_merged, map_nest_need, map_nest_takes}
-use Rattle.buffa_fields.specs.HeldMessageFacts.{merged_apart}
+use Rattle.buffa_wire.specs.BudgetLeft.{BudgetLeft, nothing}
+use Rattle.buffa_wire.specs.Kept.{keep_need}
+use Rattle.buffa_fields.specs.Aside.{kept_among, kept_behind}
 use Rattle.buffa_fields.specs.KeptMapFacts.{kept_pair_behind}
 use Rattle.buffa_fields.specs.Keep.{keep_takes}
-use Rattle.buffa_fields.specs.Layout.{Layout}
-use Rattle.buffa_fields.specs.MapFields.{pair_cost, pair_taken}
-use Rattle.buffa_fields.specs.MapNests.{Kids, kid_list, kids_in, kids_in-kid_list, map_nest, map_nest_of, map_parts_of, nest_of-parts_of, no_kid, parts_of-nest_of}
-use Rattle.sample_node.proofs.NodeOwnLemmas.{SaysOwn, node_keys, own_need, own_takes}
-use Rattle.sample_node.specs.Branch.{Branch, NodeKept, NodeOwn, Scores, Shades, branch}
-use Rattle.sample_node.specs.NodeMeaning.{LevelCost, LevelMeaning, children_cost, children_take, node_cost, node_field_need, node_field_takes, node_merged, scores_take, shade_reading, shades_take}
+use Rattle.buffa_fields.specs.Knots.{KnotList, head_many, knot}
+use Rattle.buffa_fields.specs.Laying.{whole_takes}
+use Rattle.buffa_fields.specs.MapFields.{pair_cost}
+use Rattle.buffa_fields.specs.MapKindFacts.{pair_cost_alike, pair_taken_alike}
+use Rattle.buffa_fields.specs.PairShapes.{reading_by}
+use Rattle.buffa_fields.specs.Pairs.{child_pairs, keys_in, pairs_in, values_in}
+use Rattle.buffa_fields.specs.TiedFacts.{costs_alike, merged_alike}
+use Rattle.buffa_fields.specs.Told.{told_layout}
+use Rattle.buffa_fields.specs.ToldFacts.{blank_is, cost_by_is, cost_is, each_is, merged_by_is, merged_is}
+use Rattle.sample_node.proofs.NodeLaidLemmas.{members, members_sound, node_words}
+use Rattle.sample_node.specs.Branch.{Branch, NodeKept, NodeOwn, Scores, Shades, blank_node, branch}
+use Rattle.sample_node.specs.NodeMeaning.{LevelCost, LevelMeaning, children_cost, children_take, node_cost, node_field_need, node_field_takes, node_merged, node_reading, scores_cost, scores_take, shade_reading, shades_cost, shades_take}
 
--- ---- a field, of a child or of another member
-module _ (m : LevelMeaning) (d : ℕ) (a : Scores) (cs : Kids ℤ NodeOwn) (h : Shades) (r : NodeKept) (n : ℕ) (w : WireType) (p : List ℕ) where
-  abbrev Parts : Type 0
-  Parts = List (ℤ × Branch) × NodeOwn
+-- ---- a field, by what it makes of each member
+module _ (a : Scores) (ks : List ℤ) (cs : KnotList NodeOwn) (h : Shades) (r : NodeKept) where
+  abbrev Children : Type 0
+  Children = List ℤ × KnotList NodeOwn
 
-  abbrev as_child : Option (List (ℤ × Branch)) → Option Branch
-  as_child o = option_map map_nest_of (option_map (λ (x : List (ℤ × Branch)). let y : Parts = (x, (a, (h, r))) in y) o)
+  abbrev Members : Type 0
+  Members = Scores × (Children × (Shades × NodeKept))
 
-  abbrev as_other : Option NodeOwn → Option Branch
-  as_other o = option_map map_nest_of (option_map (λ (y : NodeOwn). let x : Parts = (kid_list cs, y) in x) o)
+  abbrev of_members : Option Members → Option Branch
+  of_members o = option_map (λ (y : Members). branch y.0 y.1.0.0 y.1.0.1 y.1.1.0 y.1.1.1) o
 
-  of_child : (o : Option (List (ℤ × Branch))) → as_child o ≡ option_map (λ es. branch a (kids_in es) h r) o
-  of_child None = refl
-  of_child (Some x) = refl
+  abbrev by_members : Bool → Bool → Bool → Option Scores → Option (List (ℤ × Branch)) → Option (Shades × NodeKept) → Option NodeKept → Option Branch
+  by_members i j k scored es shaded kept =
+      let third : Option (Shades × NodeKept) = if k then option_map (kept_among (λ v rs. v ++ rs) r) shaded else option_map (λ y. (h, y)) kept in
+      let second : Option (Children × (Shades × NodeKept)) = if j then option_map (λ x. (x, (h, r))) (option_map pairs_in es) else option_map (λ y. ((ks, cs), y)) third in
+      of_members (if i then option_map (λ x. (x, ((ks, cs), (h, r)))) scored else option_map (λ y. (a, y)) second)
 
-  of_other : {A B : Type 0} (set : B → NodeOwn) (part : A → B) (o : Option A) → as_other (option_map set (option_map part o)) ≡ option_map (λ x. map_nest (set (part x)) cs) o
-  of_other set part None = refl
-  of_other set part (Some x) = ap (λ (z : Kids ℤ NodeOwn). Some (map_nest (set (part x)) z)) (kids_in-kid_list cs)
+  abbrev by_node : Bool → Bool → Bool → Option Scores → Option (List (ℤ × Branch)) → Option (Shades × NodeKept) → Option NodeKept → Option Branch
+  by_node i j k scored es shaded kept =
+      if i then option_map (λ b. branch b ks cs h r) scored
+      else if j then option_map (λ es. branch a (keys_in es) (values_in es) h r) es
+      else if k then option_map (λ x. branch a ks cs x.0 x.1) shaded
+      else option_map (λ s. branch a ks cs h s) kept
 
-  of_score : (o : Option Scores) → as_other (option_map (λ (b : Scores). let y : NodeOwn = (b, (h, r)) in y) o) ≡ option_map (λ b. branch b cs h r) o
-  of_score None = refl
-  of_score (Some x) = ap (λ (z : Kids ℤ NodeOwn). Some (branch x z h r)) (kids_in-kid_list cs)
+  one_field : (i j k : Bool) (scored : Option Scores) (es : Option (List (ℤ × Branch))) (shaded : Option (Shades × NodeKept)) (kept : Option NodeKept) → by_members i j k scored es shaded kept ≡ by_node i j k scored es (option_map (kept_behind r) shaded) kept
+  one_field true j k None es shaded kept = refl
+  one_field true j k (Some x) es shaded kept = refl
+  one_field false true k scored None shaded kept = refl
+  one_field false true k scored (Some x) shaded kept = refl
+  one_field false false true scored es None kept = refl
+  one_field false false true scored es (Some x) kept = refl
+  one_field false false false scored es shaded None = refl
+  one_field false false false scored es shaded (Some x) = refl
 
-  abbrev with_own : Shades × NodeKept → NodeOwn
-  with_own x = (a, x)
+-- ---- all fields, where the level below makes this of nodes
+module _ (m : LevelMeaning) (d : ℕ) (means_so : (e : ℕ) → suc e ≡ d → node_words.merged e ≡ m) where
+  abbrev below : (node_words.blank ≡ blank_node) × ((e : ℕ) → suc e ≡ d → node_words.merged e ≡ m)
+  below = (blank_is 96 members members_sound, means_so)
 
-  abbrev kept_behind_these : Shades × NodeKept → Shades × NodeKept
-  kept_behind_these x = (x.0, r ++ x.1)
+  field_same : (t : Branch) (n : ℕ) (w : WireType) (p : List ℕ) → whole_takes members node_words d t n w p ≡ node_field_takes m d t n w p
+  field_same (knot (a, (ks, (h, r))) ss) n w p =
+      let cs = head_many ss in
+      let one = scores_take d a n w p in
+      let three = shades_take d (h, []) n w p in
+      let other = keep_takes d r n w p in
+      (λ i. by_members a ks cs h r (n == 1) (n == 2) (n == 3) one (pair_taken_alike int32_reading node_words.blank blank_node node_words.merged (λ _. m) node_words.cost (λ _ _. nothing) d below (insert_entry int_cmp) i (child_pairs ks cs) n w p) three other)
+      ∙ one_field a ks cs h r (n == 1) (n == 2) (n == 3) one (children_take m d (child_pairs ks cs) n w p) three other
+      ∙ ap (λ z. by_node a ks cs h r (n == 1) (n == 2) (n == 3) one (children_take m d (child_pairs ks cs) n w p) z other) (sym (kept_pair_behind int32_reading shade_reading (insert_entry int_cmp) d h r n w p))
 
-  behind : (o : Option (Shades × NodeKept)) → option_map (λ (x : Shades × NodeKept). branch a cs x.0 (r ++ x.1)) o ≡ option_map (λ (x : Shades × NodeKept). branch a cs x.0 x.1) (option_map kept_behind_these o)
-  behind None = refl
-  behind (Some x) = refl
+  level_merged : node_words.merged d ≡ merged_of (node_field_takes m) d
+  level_merged = merged_is 96 members members_sound d ∙ merged_alike (whole_takes members node_words) (node_field_takes m) d (λ i t n w p. field_same t n w p i)
 
-  -- a node takes it as the parts do
-  abbrev by_parts : Option Branch
-  by_parts = if n == 2 then as_child (children_take m d (kid_list cs) n w p) else as_other (own_takes d (a, (h, r)) n w p)
+  -- and costs this
+  module _ (c : LevelCost) (costs_so : (e : ℕ) → suc e ≡ d → node_words.cost e ≡ c) where
+    child_paid : pair_cost int32_reading (reading_by node_words) (4 + node_words.each) d ≡ children_cost m c d
+    child_paid =
+        pair_cost_alike int32_reading node_words.blank blank_node node_words.merged (λ _. m) node_words.cost (λ _. c) d below costs_so (4 + node_words.each)
+        ∙ ap (λ k. pair_cost int32_reading (node_reading m c) (4 + k) d) (each_is 96 members members_sound)
 
-  at_two : n ≡ 2 → as_child (children_take m d (kid_list cs) n w p) ≡ node_field_takes m d (branch a cs h r) n w p
-  at_two two = subst (λ z. as_child (children_take m d (kid_list cs) z w p) ≡ node_field_takes m d (branch a cs h r) z w p) (sym two) (of_child (children_take m d (kid_list cs) 2 w p))
+    field_paid : (told_layout 96 members members_sound).need d ≡ node_field_need m c d
+    field_paid = λ i n w bs. if n == 1 then scores_cost d n w bs else if n == 2 then child_paid i n w bs else if n == 3 then shades_cost d n w bs else keep_need d n w bs
 
-  at_others : (i j : Bool) → (n == 2) ≡ false → (n == 1) ≡ i → (n == 3) ≡ j → as_other (own_takes d (a, (h, r)) n w p) ≡ node_field_takes m d (branch a cs h r) n w p
-  at_others true j not_two one three = rw (one) (of_score (scores_take d a n w p))
-  at_others false true not_two one three =
-      rw (not_two, one, three) (
-      of_other with_own kept_behind_these (shades_take d (h, []) n w p)
-      ∙ behind (shades_take d (h, []) n w p)
-      ∙ ap (option_map (λ (x : Shades × NodeKept). branch a cs x.0 x.1)) (sym (kept_pair_behind int32_reading shade_reading (insert_entry int_cmp) d h r n w p))
-      )
-  at_others false false not_two one three = rw (not_two, one, three) (of_other with_own (λ (s : NodeKept). let y : Shades × NodeKept = (h, s) in y) (keep_takes d r n w p))
+    level_paid : node_words.cost d ≡ cost_of (node_field_need m c) d
+    level_paid = cost_is 96 members members_sound d ∙ costs_alike (told_layout 96 members members_sound).need (node_field_need m c) d field_paid
 
-  field_taken : by_parts ≡ node_field_takes m d (branch a cs h r) n w p
-  field_taken = by (n == 2) refl
-    where
-      by : (t : Bool) → (n == 2) ≡ t → (if t then as_child (children_take m d (kid_list cs) n w p) else as_other (own_takes d (a, (h, r)) n w p)) ≡ node_field_takes m d (branch a cs h r) n w p
-      by true two = at_two (eqb-true n 2 two)
-      by false not_two = at_others (n == 1) (n == 3) not_two refl refl
+-- ---- at each depth
+none_below : (e : ℕ) → suc e ≡ zero → ⊥
+none_below e is = omega (arith, is)
 
--- what it costs
-module _ (m : LevelMeaning) (c : LevelCost) (d n : ℕ) (w : WireType) (bs : List ℕ) where
-  by_number : (t i : Bool) → (n == 2) ≡ t → (n == 1) ≡ i → (if t then children_cost m c d n w bs else own_need d n w bs) ≡ node_field_need m c d n w bs
-  by_number true i two one = subst (λ z. children_cost m c d z w bs ≡ node_field_need m c d z w bs) (sym (eqb-true n 2 two)) refl
-  by_number false true two one = rw one refl
-  by_number false false two one = rw (two, one) refl
+next_below : {A : Type 0} (f g : ℕ → A) (d : ℕ) → f d ≡ g d → (e : ℕ) → suc e ≡ suc d → f e ≡ g d
+next_below f g d same e is = let level : e ≡ d = omega (arith, is) in ap f level ∙ same
 
-  field_paid : (if n == 2 then children_cost m c d n w bs else own_need d n w bs) ≡ node_field_need m c d n w bs
-  field_paid = by_number (n == 2) (n == 1) refl refl
+merged_same : (d : ℕ) → node_words.merged d ≡ node_merged d
+merged_same zero = level_merged (λ _ _. None) zero (λ e is. absurd (none_below e is))
+merged_same (suc d) = level_merged (node_merged d) (suc d) (next_below node_words.merged node_merged d (merged_same d))
 
--- ---- all bytes
-module _ {M : Type 0} (l : Layout M NodeOwn) (says : SaysOwn l) where
-  -- with what a level below makes of a node
-  module _ (m : LevelMeaning) where
-    abbrev as_node : Taker Branch
-    as_node d t n w p = option_map map_nest_of (map_nest_takes node_keys l 2 96 m d (map_parts_of t) n w p)
+cost_same : (d : ℕ) → node_words.cost d ≡ node_cost d
+cost_same zero = level_paid (λ _ _. None) zero (λ e is. absurd (none_below e is)) (λ _. nothing) (λ e is. absurd (none_below e is))
+cost_same (suc d) = level_paid (node_merged d) (suc d) (next_below node_words.merged node_merged d (merged_same d)) (node_cost d) (next_below node_words.cost node_cost d (cost_same d))
 
-    same_takes : (d : ℕ) (t : Branch) (n : ℕ) (w : WireType) (p : List ℕ) → as_node d t n w p ≡ node_field_takes m d t n w p
-    same_takes d (branch a cs h r) n w p = split (n == 2) ∙ field_taken m d a cs h r n w p
-      where
-        kids_take : Option (List (ℤ × Branch))
-        kids_take = pair_taken int32_reading (message_reading (map_nest l.blank no_kid) (λ _. m) (λ _ _. nothing)) (insert_entry int_cmp) d (kid_list cs) n w p
+-- as functions
+pub node_merged_is : node_words.merged ≡ node_merged
+node_merged_is = λ i d. merged_same d i
 
-        kids_same : kids_take ≡ children_take m d (kid_list cs) n w p
-        kids_same = ap (λ (o : NodeOwn). pair_taken int32_reading (message_reading (map_nest o no_kid) (λ _. m) (λ _ _. nothing)) (insert_entry int_cmp) d (kid_list cs) n w p) says.blank
+pub node_cost_is : node_words.cost ≡ node_cost
+node_cost_is = λ i d. cost_same d i
 
-        split : (t : Bool) → option_map map_nest_of (if t then option_map (λ (x : List (ℤ × Branch)). let y : List (ℤ × Branch) × NodeOwn = (x, (a, (h, r))) in y) kids_take else option_map (λ (y : NodeOwn). let x : List (ℤ × Branch) × NodeOwn = (kid_list cs, y) in x) (l.takes d (a, (h, r)) n w p))
-            ≡ (if t then as_child m d a cs h r n w p (children_take m d (kid_list cs) n w p) else as_other m d a cs h r n w p (own_takes d (a, (h, r)) n w p))
-        split true = ap (as_child m d a cs h r n w p) kids_same
-        split false = ap (as_other m d a cs h r n w p) (says.takes d (a, (h, r)) n w p)
+-- what holds by the words that are told holds by those of the specs
+pub in_node_words : (P : (ℕ → Branch → List ℕ → Option Branch) → (ℕ → List ℕ → BudgetLeft) → Type 0) → P node_words.merged node_words.cost → P node_merged node_cost
+in_node_words P h = subst (λ m. P m node_cost) node_merged_is (subst (λ c. P node_words.merged c) node_cost_is h)
 
-    level_merged : (d : ℕ) (t : Branch) (b : List ℕ) → option_map map_nest_of (merged_of (map_nest_takes node_keys l 2 96 m) d (map_parts_of t) b) ≡ merged_of (node_field_takes m) d t b
-    level_merged d t b =
-        sym (merged_apart map_nest_of map_parts_of parts_of-nest_of (map_nest_takes node_keys l 2 96 m) d (map_parts_of t) b)
-        ∙ ap (λ z. merged_of as_node d z b) (nest_of-parts_of t)
-        ∙ (λ i. merged_of (λ d t n w p. same_takes d t n w p i) d t b)
-
-    -- and what it costs there
-    module _ (c : LevelCost) where
-      same_need : (d n : ℕ) (w : WireType) (bs : List ℕ) → map_nest_need node_keys l 2 96 m c d n w bs ≡ node_field_need m c d n w bs
-      same_need d n w bs =
-          (λ i. if n == 2 then pair_cost int32_reading (message_reading (map_nest (says.blank i) no_kid) (λ _. m) (λ _. c)) 100 d n w bs else says.need d n w bs i)
-          ∙ field_paid m c d n w bs
-
-      level_paid : (d : ℕ) (b : List ℕ) → cost_of (map_nest_need node_keys l 2 96 m c) d b ≡ cost_of (node_field_need m c) d b
-      level_paid d b = λ i. cost_of (λ d n w bs. same_need d n w bs i) d b
-
-  pub merged_same : (d : ℕ) (t : Branch) (b : List ℕ) → map_nest_merged node_keys l 2 96 d t b ≡ node_merged d t b
-  merged_same zero t b = level_merged (λ _ _. None) zero t b
-  merged_same (suc d) t b = level_merged (map_nest_merged node_keys l 2 96 d) (suc d) t b ∙ (λ i. merged_of (node_field_takes (λ t b. merged_same d t b i)) (suc d) t b)
-
-  pub cost_same : (d : ℕ) (b : List ℕ) → map_nest_cost node_keys l 2 96 d b ≡ node_cost d b
-  cost_same zero b = level_paid (λ _ _. None) (λ _. nothing) zero b
-  cost_same (suc d) b =
-      level_paid (map_nest_merged node_keys l 2 96 d) (map_nest_cost node_keys l 2 96 d) (suc d) b
-      ∙ (λ i. cost_of (node_field_need (λ t b. merged_same d t b i) (λ b. cost_same d b i)) (suc d) b)
-
-  -- as functions
-  pub merged_is : map_nest_merged node_keys l 2 96 ≡ node_merged
-  merged_is = λ i d t b. merged_same d t b i
-
-  pub cost_is : map_nest_cost node_keys l 2 96 ≡ node_cost
-  cost_is = λ i d b. cost_same d b i
+-- ---- all bytes mean, and cost, what payloads do
+pub node_by_payloads : ByPayload (whole_takes members node_words) (told_layout 96 members members_sound).need node_merged node_cost
+node_by_payloads =
+    let all = told_layout 96 members members_sound in
+    in_node_words (λ m c. ByPayload (whole_takes members node_words) all.need m c) (by_payload all.stays (merged_by_is 96 members members_sound) (cost_by_is 96 members members_sound))

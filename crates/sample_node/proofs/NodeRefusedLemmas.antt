@@ -1,142 +1,128 @@
--- A refused field of a node as a message that holds a map of itself: what the specs say of it holds.
-use Rattle.std.proofs.Common.{◌≡◌, ◌≢◌, ℕ, ℤ, ◌==◌, Bool, true, false, List, refl, sym, ap, subst, ◌∙◌, arith}
+-- Of a refused field of a node what the specs say holds.
+use Rattle.std.proofs.Common.{◌≡◌, ◌≢◌, ℕ, ℤ, ◌+◌, ◌==◌, Bool, true, false, List, Result, Ok, Err, IfErr, refl, sym, ap, subst, ◌∙◌, arith}
 use Rattle.std.proofs.lemmas.Bool.{eqb-false, eqb-true}
 use Rattle.buffa_bytes.specs.declared.error.DecodeError.{DecodeError}
 use Rattle.buffa_bytes.specs.declared.error.DecodeError.TheVariants.{OutOfMemory}
 use Rattle.buffa_bytes.specs.declared.wire_type.WireType.{WireType}
 use Rattle.buffa_wire.specs.BudgetLeft.{BudgetLeft}
 use Rattle.buffa_wire.specs.Pinned.{refusal}
-use Rattle.buffa_map.specs.Codec.{Reading}
+use Rattle.buffa_wire.specs.RecordReading.{field_at}
 use Rattle.buffa_map.specs.Message.{message_reading}
 use Rattle.buffa_map.specs.Scalars.{int32_reading, text_reading}
 use Rattle.buffa_fields.specs.Aside.{Aside, TookBeside}
-use Rattle.buffa_fields.specs.HeldMap.{blank_map_nest, held_map_shape, kids_meant, map_nest_cost, map_nest_merged, message_refused}
-use Rattle.buffa_fields.specs.KeptMaps.{RefusesKeptPair}
-use Rattle.buffa_fields.specs.Layout.{Choice, IsFieldKept, Layout, Shape, Took}
-use Rattle.buffa_fields.specs.MapNests.{MapNest, kid_list, kids_of, map_nest, map_nest_of, map_own_of, map_parts_of, nest_of-parts_of, no_kid}
-use Rattle.buffa_fields.specs.Refusals.{RefusesPair}
-use Rattle.sample_node.proofs.NodeOwnLemmas.{IsOwnRefused, SaysOwn, node_keys}
-use Rattle.sample_node.proofs.NodeReadLemmas.{cost_is, merged_is}
-use Rattle.sample_node.proofs.NodeSaysLemmas.{members, members_say}
-use Rattle.sample_node.specs.Branch.{Branch, NodeKept, NodeOwn, Scores, Shades, blank_node}
+use Rattle.buffa_fields.specs.Knots.{KnotList, head_many, knot}
+use Rattle.buffa_fields.specs.Layout.{Choice, IsFieldKept, Shape, Took}
+use Rattle.buffa_fields.specs.Pairs.{child_pairs, pairs_again}
+use Rattle.buffa_fields.specs.SelfRefused.{IsSelfRefused}
+use Rattle.buffa_fields.specs.ToldFacts.{blank_is, each_is}
+use Rattle.sample_node.proofs.NodeLaidLemmas.{members, members_sound, node_words}
+use Rattle.sample_node.proofs.NodeReadLemmas.{in_node_words}
+use Rattle.sample_node.specs.Branch.{Branch, IsNode, NodeKept, NodeOwn, Scores, Shades, blank_node, branch, node_of}
 use Rattle.sample_node.specs.NodeMeaning.{node_cost, node_merged, shade_reading}
 use Rattle.sample_node.specs.Refused.{HasEntryFault, IsNodeRefused}
 
--- ---- the members beside the children
-module _ {P Q : Type 0} (s : Shape P Scores) (t : Shape Q Shades) (a : Aside Shades)
-    (scores : (d : ℕ) (old : Scores) (n : ℕ) (w : WireType) (bs : List ℕ) (left : BudgetLeft) (e : DecodeError) (new : Scores) → s.refuses d old n w bs left e new → RefusesPair text_reading int32_reading 28 d old n w bs left e new)
-    (shades : (d : ℕ) (old : Shades) (n : ℕ) (w : WireType) (bs : List ℕ) (left : BudgetLeft) (e : DecodeError) (new : Shades) → a.refuses d old n w bs left e new → RefusesKeptPair int32_reading shade_reading 8 d old n w bs left e new)
-    (d : ℕ) (p p2 : P) (q q2 : Q) (r r2 : NodeKept) (n : ℕ) (w : WireType) (bs : List ℕ) (before : BudgetLeft) (e : DecodeError) (after : BudgetLeft) (rest : List ℕ) where
-  abbrev old : NodeOwn
-  old = (s.meaning p, (t.meaning q, r))
+-- what a node has, its children as pairs
+abbrev Parts : Type 0
+Parts = Scores × (List (ℤ × Branch) × (Shades × NodeKept))
 
-  abbrev new : NodeOwn
-  new = (s.meaning p2, (t.meaning q2, r2))
+abbrev parts_of : Branch → Parts
+parts_of (knot (a, (ks, (h, r))) ss) = (a, (child_pairs ks (head_many ss), (h, r)))
 
-  abbrev OwnRefused : Type 0
-  OwnRefused = IsOwnRefused d old n w bs before e new
+-- how a child is read, and what it costs, is what the specs say
+child_fault : (d n : ℕ) (w : WireType) (bs : List ℕ) (left : BudgetLeft) (e : DecodeError) →
+    HasEntryFault int32_reading (message_reading node_words.blank node_words.merged node_words.cost) (4 + node_words.each) 0 d n w bs left e → HasEntryFault int32_reading (message_reading blank_node node_merged node_cost) 100 0 d n w bs left e
+child_fault d n w bs left e h =
+    in_node_words (λ m c. HasEntryFault int32_reading (message_reading blank_node m c) 100 0 d n w bs left e)
+    (subst (λ (z : Branch). HasEntryFault int32_reading (message_reading z node_words.merged node_words.cost) 100 0 d n w bs left e) (blank_is 96 members members_sound)
+    (subst (λ z. HasEntryFault int32_reading (message_reading node_words.blank node_words.merged node_words.cost) (4 + z) 0 d n w bs left e) (each_is 96 members members_sound) h))
 
-  by_score : n ≡ 1 → Took s d p n w bs before (refusal e) p2 after rest → (q2 ≡ q) × (r2 ≡ r) → OwnRefused
+-- ---- a member that refused it says why, and what is kept stays
+module _ (d n : ℕ) (w : WireType) (bs rest : List ℕ) (before after : BudgetLeft) (e : DecodeError) where
+  took_refused : {P X : Type 0} (s : Shape P X) (old new : P) → Took s d old n w bs before (refusal e) new after rest → s.refuses d (s.meaning old) n w bs before e (s.meaning new)
   unfolding Took
-  by_score one took same =
-      let told = scores d (s.meaning p) n w bs before e (s.meaning p2) (took.3 e refl) in
-      record {
-        stays = λ i. (sym told.0 i, (t.meaning (same.0 i), same.1 i));
-        score = λ _. told.1;
-        shade = λ three. absurd (omega (arith, one, three));
-        other = λ not_one. absurd (not_one one);
-      }
+  took_refused s old new took = took.3 e refl
 
-  by_shade : n ≡ 3 → p2 ≡ p → TookBeside t a d q r n w bs before (refusal e) q2 r2 after rest → OwnRefused
+  beside_refused : {P X : Type 0} (s : Shape P X) (a : Aside X) (old new : P) (r r2 : NodeKept) → TookBeside s a d old r n w bs before (refusal e) new r2 after rest → a.refuses d (s.meaning old) n w bs before e (s.meaning new) × (r ≡ r2)
   unfolding TookBeside
-  by_shade three same took =
-      let refused = took.3 e refl in
-      let told = shades d (t.meaning q) n w bs before e (t.meaning q2) refused.0 in
-      record {
-        stays = λ i. (s.meaning (same i), (sym told.0 i, sym refused.1 i));
-        score = λ one. absurd (omega (arith, one, three));
-        shade = λ _. told.1;
-        other = λ _ not_three. absurd (not_three three);
-      }
+  beside_refused s a old new r r2 took = took.3 e refl
 
-  by_keep : n ≢ 1 → n ≢ 3 → p2 ≡ p → q2 ≡ q → IsFieldKept d r n w bs before (refusal e) r2 after rest → OwnRefused
+  keep_refused : (r r2 : NodeKept) → IsFieldKept d r n w bs before (refusal e) r2 after rest → (r ≡ r2) × (e ≢ OutOfMemory → field_at d before.unknown n w bs ≡ Err e)
   unfolding IsFieldKept
-  by_keep not_one not_three same alike kept = record {
-    stays = λ i. (s.meaning (same i), (t.meaning (alike i), sym kept.1 i));
-    score = λ one. absurd (not_one one);
-    shade = λ three. absurd (not_three three);
-    other = λ _ _ ne. (kept.4 e refl ne).0;
-  }
+  keep_refused r r2 kept = (kept.1, λ ne. (kept.4 e refl ne).0)
 
-  abbrev ShadeOrKept : Bool → Type 0
-  ShadeOrKept j = Choice j (TookBeside t a d q r n w bs before (refusal e) q2 r2 after rest × Unit {0}) ((q2 ≡ q) × IsFieldKept d r n w bs before (refusal e) r2 after rest)
+-- ---- the member of the number refused it, and the others stay; u and v are nodes of these parts
+module _ (v u : Branch) (d n : ℕ) (w : WireType) (bs : List ℕ) (left : BudgetLeft) (e : DecodeError) (a a2 : Scores) (ks ks2 : List ℤ) (cs cs2 : KnotList NodeOwn) (h h2 : Shades) (r r2 : NodeKept)
+    (stay : parts_of (branch a2 ks2 cs2 h2 r2) ≡ parts_of (branch a ks cs h r) → u ≡ v) where
+  abbrev Children : Type 0
+  Children = List ℤ × KnotList NodeOwn
 
-  by_number : (i j : Bool) → (n == 1) ≡ i → (n == 3) ≡ j → Choice i (Took s d p n w bs before (refusal e) p2 after rest × ((q2 ≡ q) × (r2 ≡ r))) ((p2 ≡ p) × ShadeOrKept j) → OwnRefused
-  by_number true j one three h = by_score (eqb-true n 1 one) h.0 h.1
-  by_number false true one three h = by_shade (eqb-true n 3 three) h.0 h.1.0
-  by_number false false one three h = by_keep (eqb-false n 1 one) (eqb-false n 3 three) h.0 h.1.0 h.1.1
+  abbrev old_children : Children
+  old_children = (ks, cs)
 
-  pub own_refused : Choice (n == 1) (Took s d p n w bs before (refusal e) p2 after rest × ((q2 ≡ q) × (r2 ≡ r))) ((p2 ≡ p) × ShadeOrKept (n == 3)) → OwnRefused
-  own_refused h = by_number (n == 1) (n == 3) refl refl h
+  abbrev new_children : Children
+  new_children = (ks2, cs2)
+
+  by_number : {One Two Three Four : Type 0} (i j k : Bool) → (n == 1) ≡ i → (n == 2) ≡ j → (n == 3) ≡ k →
+      Choice i (One × ((new_children ≡ old_children) × ((h2 ≡ h) × (r2 ≡ r)))) ((a2 ≡ a) × Choice j (Two × ((h2 ≡ h) × (r2 ≡ r))) ((new_children ≡ old_children) × Choice k (Three × Unit {0}) ((h2 ≡ h) × Four))) →
+      (One → (a ≡ a2) × (e ≢ OutOfMemory → HasEntryFault text_reading int32_reading 28 0 d n w bs left e)) →
+      (Two → (child_pairs ks cs ≡ child_pairs ks2 cs2) × (e ≢ OutOfMemory → HasEntryFault int32_reading (message_reading node_words.blank node_words.merged node_words.cost) (4 + node_words.each) 0 d n w bs left e)) →
+      (Three → ((h ≡ h2) × (e ≢ OutOfMemory → HasEntryFault int32_reading shade_reading 8 1 d n w bs left e)) × (r ≡ r2)) → (Four → (r ≡ r2) × (e ≢ OutOfMemory → field_at d left.unknown n w bs ≡ Err e)) → IsNodeRefused d v n w bs left e u
+  by_number true j k is _ _ (took, (children, (shades, kept))) one two three four =
+      let told = one took in record {
+        stays = stay (λ i. (sym told.0 i, (child_pairs (children i).0 (children i).1, (shades i, kept i))));
+        score = λ _. told.1;
+        child = λ at. absurd (omega (arith, eqb-true n 1 is, at));
+        shade = λ at. absurd (omega (arith, eqb-true n 1 is, at));
+        other = λ none _ _. absurd (none (eqb-true n 1 is));
+      }
+  by_number false true k off is _ (scores, (took, (shades, kept))) one two three four =
+      let told = two took in record {
+        stays = stay (λ i. (scores i, (sym told.0 i, (shades i, kept i))));
+        score = λ at. absurd (eqb-false n 1 off at);
+        child = λ _ ne. child_fault d n w bs left e (told.1 ne);
+        shade = λ at. absurd (omega (arith, eqb-true n 2 is, at));
+        other = λ _ none _. absurd (none (eqb-true n 2 is));
+      }
+  by_number false false true off away is (scores, (children, (took, _))) one two three four =
+      let told = three took in record {
+        stays = stay (λ i. (scores i, (child_pairs (children i).0 (children i).1, (sym told.0.0 i, sym told.1 i))));
+        score = λ at. absurd (eqb-false n 1 off at);
+        child = λ at. absurd (eqb-false n 2 away at);
+        shade = λ _. told.0.1;
+        other = λ _ _ none. absurd (none (eqb-true n 3 is));
+      }
+  by_number false false false off away apart (scores, (children, (shades, took))) one two three four =
+      let told = four took in record {
+        stays = stay (λ i. (scores i, (child_pairs (children i).0 (children i).1, (shades i, sym told.0 i))));
+        score = λ at. absurd (eqb-false n 1 off at);
+        child = λ at. absurd (eqb-false n 2 away at);
+        shade = λ at. absurd (eqb-false n 3 apart at);
+        other = λ _ _ _. told.1;
+      }
 
 -- ---- a node
-module _ {N M : Type 0} (l : Layout M NodeOwn) (says : SaysOwn l) (key : N → ℤ)
-    (own : (d : ℕ) (old : M) (n : ℕ) (w : WireType) (bs : List ℕ) (before : BudgetLeft) (e : DecodeError) (new : M) (after : BudgetLeft) (rest : List ℕ) → l.Taken d old n w bs before (refusal e) new after rest → IsOwnRefused d (l.meaning old) n w bs before e (l.meaning new))
-    (d : ℕ) (v : Branch) (n : ℕ) (w : WireType) (bs : List ℕ) (left : BudgetLeft) (e : DecodeError) (u : Branch) where
-  abbrev Parts : Type 0
-  Parts = List (ℤ × Branch) × NodeOwn
+-- a node is what its parts make
+node_by : (t : Branch) → IsNode t → (let p = parts_of t in node_of p.0 p.1.0 p.1.1.0 p.1.1.1) ≡ t
+node_by t (a, es, h, r, is) = ap (λ (x : Branch). let p = parts_of x in node_of p.0 p.1.0 p.1.1.0 p.1.1.1) is ∙ (λ i. node_of a (pairs_again es i) h r) ∙ sym is
 
-  reading_is : message_reading (blank_map_nest node_keys l 2 96) (map_nest_merged node_keys l 2 96) (map_nest_cost node_keys l 2 96) ≡ message_reading blank_node node_merged node_cost
-  reading_is = λ i. message_reading (map_nest (says.blank i) no_kid) (merged_is l says i) (cost_is l says i)
+same_node : (u v : Branch) → IsNode u → IsNode v → parts_of u ≡ parts_of v → u ≡ v
+same_node u v is so same = sym (node_by u is) ∙ ap (λ (p : Parts). node_of p.0 p.1.0 p.1.1.0 p.1.1.1) same ∙ node_by v so
 
-  same_node : map_parts_of u ≡ map_parts_of v → u ≡ v
-  same_node h = sym (nest_of-parts_of u) ∙ ap map_nest_of h ∙ nest_of-parts_of v
+-- what the members mean, as these parts
+abbrev parts_in : members.Y → Parts
+parts_in y = (y.0, (child_pairs y.1.0.0 y.1.0.1, y.1.1))
 
-  module _ (a b : MapNest N M) (after : BudgetLeft) (rest : List ℕ) where
-    abbrev says_kids : List (N × MapNest N M) → List (ℤ × Branch)
-    says_kids ps = kids_meant node_keys l 2 96 key ps
+parts_meant : (t : Branch) → parts_in (members.out t) ≡ parts_of t
+parts_meant (knot (a, (ks, (h, r))) ss) = refl
 
-    abbrev parts : MapNest N M → Parts
-    parts t = (says_kids (kid_list (kids_of t)), l.meaning (map_own_of t))
+pub node_refused : (d : ℕ) (v : Branch) (n : ℕ) (w : WireType) (bs : List ℕ) (left : BudgetLeft) (e : DecodeError) (u : Branch) → IsNode v → IsNode u → IsSelfRefused 96 members members_sound d v n w bs left e u → IsNodeRefused d v n w bs left e u
+node_refused d v n w bs left e u old new (apart, (knot (a, (ks, (h, r))) ss, knot (a2, (ks2, (h2, r2))) ss2, after, rest, was, is, taken)) =
+    by_number v u d n w bs left e a a2 ks ks2 (head_many ss) (head_many ss2) h h2 r r2
+    (λ same. same_node u v new old (sym (ap parts_in is ∙ parts_meant u) ∙ same ∙ ap parts_in was ∙ parts_meant v)) (n == 1) (n == 2) (n == 3) refl refl refl taken
+    (λ took. took_refused d n w bs rest left after e _ a a2 took) (λ took. took_refused d n w bs rest left after e _ (ks, head_many ss) (ks2, head_many ss2) took) (λ took. beside_refused d n w bs rest left after e _ _ h h2 r r2 took)
+    (λ kept. keep_refused d n w bs rest left after e r r2 kept)
 
-    abbrev InMap : Type 0
-    InMap = Took (held_map_shape node_keys l 2 96 says_kids) d (kid_list (kids_of a)) n w bs left (refusal e) (kid_list (kids_of b)) after rest
-
-    abbrev InOwn : Type 0
-    InOwn = l.Taken d (map_own_of a) n w bs left (refusal e) (map_own_of b) after rest
-
-    by_child : n ≡ 2 → InMap → map_own_of b ≡ map_own_of a → (parts b ≡ parts a) × (e ≢ OutOfMemory → HasEntryFault int32_reading (message_reading blank_node node_merged node_cost) 100 0 d n w bs left e)
-    unfolding Took
-    by_child two took same =
-        let told = took.3 e refl in
-        ((λ i. (sym told.0 i, l.meaning (same i))), λ ne. subst (λ (z : Reading Branch). HasEntryFault int32_reading z 100 0 d n w bs left e) reading_is (told.1 ne))
-
-    by_test : (t : Bool) → (n == 2) ≡ t → parts a ≡ map_parts_of v → parts b ≡ map_parts_of u → Choice t (InMap × (map_own_of b ≡ map_own_of a)) ((kid_list (kids_of b) ≡ kid_list (kids_of a)) × InOwn) → IsNodeRefused d v n w bs left e u
-    by_test true is old new h =
-        let two = eqb-true n 2 is in
-        let told = by_child two h.0 h.1 in
-        record {
-          stays = same_node (sym new ∙ told.0 ∙ old);
-          score = λ one. absurd (omega (arith, one, two));
-          child = λ _. told.1;
-          shade = λ three. absurd (omega (arith, two, three));
-          other = λ _ not_two. absurd (not_two two);
-        }
-    by_test false is old new h =
-        let told = own d (map_own_of a) n w bs left e (map_own_of b) after rest h.1 in
-        record {
-          stays = same_node (sym new ∙ (λ i. (says_kids (h.0 i), told.stays i)) ∙ old);
-          score = told.score;
-          child = λ two. absurd (eqb-false n 2 is two);
-          shade = told.shade;
-          other = λ not_one _ not_three. told.other not_one not_three;
-        }
-
-  pub refused_as_node : message_refused node_keys l 2 96 key d v n w bs left e u → IsNodeRefused d v n w bs left e u
-  refused_as_node (apart, (a, b, after, rest, old, new, taken)) = by_test a b after rest (n == 2) refl old new taken
-
-pub node_refused : (d : ℕ) (v : Branch) (n : ℕ) (w : WireType) (bs : List ℕ) (left : BudgetLeft) (e : DecodeError) (u : Branch) → message_refused node_keys members 2 96 (λ (k : ℤ). k) d v n w bs left e u → IsNodeRefused d v n w bs left e u
-node_refused d v n w bs left e u refused =
-    refused_as_node members members_say (λ (k : ℤ). k)
-    (λ d old n w bs before e new after rest taken. own_refused _ _ _ (λ d old n w bs left e new h. h) (λ d old n w bs left e new h. h) d _ _ _ _ _ _ n w bs before e after rest taken)
-    d v n w bs left e u refused
+pub refused_if : {T : Type 0} (d : ℕ) (v : Branch) (n : ℕ) (w : WireType) (bs : List ℕ) (left : BudgetLeft) (u : Branch) → IsNode v → IsNode u → (r : Result T DecodeError) → IfErr r (λ e. IsSelfRefused 96 members members_sound d v n w bs left e u) →
+    IfErr r (λ e. IsNodeRefused d v n w bs left e u)
+refused_if d v n w bs left u old new (Ok x) h = tt
+refused_if d v n w bs left u old new (Err e) h = node_refused d v n w bs left e u old new h

@@ -1,53 +1,126 @@
--- A node as a message that holds a map of itself: its records, encoding, slots and levels are those of the specs.
-use Rattle.std.proofs.Common.{◌≡◌, ℤ, suc, max, ◌∷◌, ◌++◌, length, refl, sym, ap, ◌∙◌, append-nil}
+-- A node's records, encoding, slots and levels are those of the specs.
+use Rattle.std.proofs.Common.{◌≡◌, ◌^◌, ◌<◌, ℕ, ℤ, suc, max, List, [], ◌∷◌, ◌++◌, length, length-append, refl, sym, ap, ◌∙◌, append-nil, arith}
+use Rattle.std.specs.Int.{cast_unsigned, w64}
+use Rattle.buffa_bytes.specs.Values.{delimited_encoding, tag_encoding}
+use Rattle.buffa_bytes.specs.Varint.{varint_encoding}
+use Rattle.buffa_bytes.specs.declared.wire_type.WireType.TheVariants.{LengthDelimited, Varint}
+use Rattle.buffa_wire.proofs.EncodingLemmas.{records_encoding-append}
+use Rattle.buffa_wire.proofs.ParseLemmas.{short_fits}
 use Rattle.buffa_wire.specs.Encoding.{records_encoding}
+use Rattle.buffa_wire.specs.Parse.{Fits}
 use Rattle.buffa_wire.specs.Passes.{cap}
-use Rattle.buffa_wire.specs.Records.{bytes}
-use Rattle.buffa_fields.specs.HeldMap.{kid_levels, kid_records, kid_slots, map_nest_encoding, map_nest_levels, map_nest_records, map_nest_slots}
-use Rattle.buffa_fields.specs.Layout.{Layout}
-use Rattle.buffa_fields.specs.MapNests.{Kids, kid, no_kid}
-use Rattle.sample_node.proofs.NodeLemmas.{node_encoding_records}
-use Rattle.sample_node.proofs.NodeOwnLemmas.{SaysOwn, node_keys}
-use Rattle.sample_node.specs.Branch.{Branch, NodeOwn, branch}
-use Rattle.sample_node.specs.NodeEncoding.{node_encoding, node_entry, node_levels, node_records, node_slots, nodes_levels, nodes_records, nodes_slots}
+use Rattle.buffa_wire.specs.Records.{bytes, records_of}
+use Rattle.buffa_map.specs.Enums.{closed_writing}
+use Rattle.buffa_map.specs.Scalars.{int32_writing, text_writing}
+use Rattle.buffa_fields.specs.Knots.{KnotList, Slots, head_many, kid, knot, many, no_kid, no_slot, one}
+use Rattle.buffa_fields.specs.MapFacts.{map_encoding}
+use Rattle.buffa_fields.specs.MapFields.{entry_records, map_records}
+use Rattle.buffa_fields.specs.NestedMaps.{pair_levels, pair_records, pair_slots}
+use Rattle.buffa_fields.specs.Pairs.{child_pairs}
+use Rattle.buffa_fields.specs.ToldFacts.{levels_are, records_are, slots_are}
+use Rattle.buffa_fields.specs.Words.{encoding_by}
+use Rattle.sample_node.proofs.NodeLaidLemmas.{members, members_sound, node_words}
+use Rattle.sample_node.specs.Branch.{Branch, NodeKept, NodeOwn, Scores, Shades}
+use Rattle.sample_node.specs.NodeEncoding.{children_encoding, children_levels, children_slots, kept_levels, node_encoding, node_entry, node_entry_record, node_levels, node_records, node_slots, nodes_encoding, nodes_levels, nodes_records, nodes_slots, shades_encoding}
 
-module _ {M : Type 0} (l : Layout M NodeOwn) (says : SaysOwn l) where
-  mutual
-    pub records_same : (t : Branch) → map_nest_records node_keys l 2 96 t ≡ node_records t
-    records_same (branch a cs h r) = λ i. says.front (a, (h, r)) i ++ (kid_records_same cs i ++ (says.behind (a, (h, r)) i ++ says.kept (a, (h, r)) i))
+-- ---- the encoding is that of records
+no_records : (ks : List ℤ) → nodes_records ks no_kid ≡ []
+no_records [] = refl
+no_records (k ∷ ks) = refl
 
-    kid_records_same : (cs : Kids ℤ NodeOwn) → kid_records node_keys l 2 96 cs ≡ nodes_records cs
-    kid_records_same no_kid = refl
-    kid_records_same (kid k t cs) = λ i. (2, bytes (node_entry k ((ap records_encoding (records_same t) ∙ sym (node_encoding_records t)) i))) ∷ kid_records_same cs i
+nodes_encoding_records : (ks : List ℤ) (cs : KnotList NodeOwn) → nodes_encoding ks cs ≡ records_encoding (nodes_records ks cs)
+nodes_encoding_records [] cs = refl
+nodes_encoding_records (k ∷ ks) no_kid = refl
+nodes_encoding_records (k ∷ ks) (kid t cs) = ap (λ (z : List ℕ). node_entry_record k (node_encoding t) ++ z) (nodes_encoding_records ks cs)
 
-  pub encoding_same : (t : Branch) → map_nest_encoding node_keys l 2 96 t ≡ node_encoding t
-  encoding_same t = ap records_encoding (records_same t) ∙ sym (node_encoding_records t)
+children_encoding_records : (ks : List ℤ) (ss : Slots NodeOwn) → children_encoding ks ss ≡ records_encoding (nodes_records ks (head_many ss))
+children_encoding_records ks (many cs ss) = nodes_encoding_records ks cs
+children_encoding_records ks no_slot = ap records_encoding (sym (no_records ks))
+children_encoding_records ks (one m ss) = ap records_encoding (sym (no_records ks))
 
-  mutual
-    pub slots_same : (t : Branch) → map_nest_slots node_keys l 2 96 t ≡ node_slots t
-    slots_same (branch a cs h r) = says.slots (a, (h, r)) (kid_slots node_keys l 2 96 cs) ∙ append-nil (kid_slots node_keys l 2 96 cs) ∙ kid_slots_same cs
+pub node_encoding_records : (t : Branch) → node_encoding t ≡ records_encoding (node_records t)
+node_encoding_records (knot (a, (ks, (h, r))) ss) =
+    let first = map_records text_writing int32_writing 1 a in
+    let second = nodes_records ks (head_many ss) in
+    let third = map_records int32_writing closed_writing 3 h in
+    let end : shades_encoding h ++ records_encoding r ≡ records_encoding (third ++ r) = ap (λ (z : List ℕ). z ++ records_encoding r) (sym (map_encoding int32_writing closed_writing 3 h)) ∙ sym (records_encoding-append third r) in
+    let mid : children_encoding ks ss ++ (shades_encoding h ++ records_encoding r) ≡ records_encoding (second ++ (third ++ r)) = (λ i. children_encoding_records ks ss i ++ end i) ∙ sym (records_encoding-append second (third ++ r)) in
+    (λ i. sym (map_encoding text_writing int32_writing 1 a) i ++ mid i) ∙ sym (records_encoding-append first (second ++ (third ++ r)))
 
-    kid_slots_same : (cs : Kids ℤ NodeOwn) → kid_slots node_keys l 2 96 cs ≡ nodes_slots cs
-    kid_slots_same no_kid = refl
-    kid_slots_same (kid k t cs) = λ i. cap (length (encoding_same t i)) ∷ slots_same t i ++ kid_slots_same cs i
+-- ---- no record is too long to be read where the encoding isn't; and a child's encoding is shorter than the record that holds it
+pub child_shorter : (k : ℤ) (b : List ℕ) → length (node_entry k b) < 2 ^ 64 → length b < 2 ^ 64
+child_shorter k b h = omega (arith, h, length-append (tag_encoding 1 Varint ++ varint_encoding (cast_unsigned w64 k)) (tag_encoding 2 LengthDelimited ++ delimited_encoding b), length-append (tag_encoding 2 LengthDelimited) (delimited_encoding b), length-append (varint_encoding (length b)) b)
 
-  mutual
-    pub levels_same : (t : Branch) → map_nest_levels node_keys l 2 96 t ≡ node_levels t
-    levels_same (branch a cs h r) = λ i. max (kid_levels_same cs i) (says.levels (a, (h, r)) i)
+pub short_encoding : (t : Branch) → length (node_encoding t) < 2 ^ 64 → Fits (records_of (node_records t))
+short_encoding t short = short_fits (records_of (node_records t)) (omega (arith, short, ap length (node_encoding_records t)))
 
-    kid_levels_same : (cs : Kids ℤ NodeOwn) → kid_levels node_keys l 2 96 cs ≡ nodes_levels cs
-    kid_levels_same no_kid = refl
-    kid_levels_same (kid k t cs) = λ i. max (suc (levels_same t i)) (kid_levels_same cs i)
+-- ---- what the members say of a node, by its children
+module _ (a : Scores) (ks : List ℤ) (h : Shades) (r : NodeKept) (ss : Slots NodeOwn) where
+  abbrev node : Branch
+  node = knot (a, (ks, (h, r))) ss
 
-  -- as functions
-  pub records_are : map_nest_records node_keys l 2 96 ≡ node_records
-  records_are = λ i t. records_same t i
+  by_records : node_words.records node ≡ map_records text_writing int32_writing 1 a ++ (pair_records int32_writing (encoding_by node_words) 2 (child_pairs ks (head_many ss)) ++ (map_records int32_writing closed_writing 3 h ++ r))
+  unfolding entry_records
+  by_records = records_are 96 members members_sound node
 
-  pub encoding_is : map_nest_encoding node_keys l 2 96 ≡ node_encoding
-  encoding_is = λ i t. encoding_same t i
+  by_slots : node_words.slots node ≡ pair_slots (encoding_by node_words) node_words.slots (child_pairs ks (head_many ss))
+  by_slots = slots_are 96 members members_sound node ∙ append-nil (pair_slots (encoding_by node_words) node_words.slots (child_pairs ks (head_many ss)))
 
-  pub slots_are : map_nest_slots node_keys l 2 96 ≡ node_slots
-  slots_are = λ i t. slots_same t i
+  by_levels : node_words.levels node ≡ max (pair_levels node_words.levels (child_pairs ks (head_many ss))) (kept_levels r)
+  by_levels = levels_are 96 members members_sound node ∙ omega arith
 
-  pub levels_are : map_nest_levels node_keys l 2 96 ≡ node_levels
-  levels_are = λ i t. levels_same t i
+-- ---- they say of it what the specs do, and of its children
+abbrev SameNode : Branch → Type 0
+SameNode t = (node_words.records t ≡ node_records t) × (node_words.slots t ≡ node_slots t) × (node_words.levels t ≡ node_levels t)
+
+abbrev SameNodes : List ℤ → KnotList NodeOwn → Type 0
+SameNodes ks cs =
+    let es = child_pairs ks cs in
+    (pair_records int32_writing (encoding_by node_words) 2 es ≡ nodes_records ks cs) × (pair_slots (encoding_by node_words) node_words.slots es ≡ nodes_slots ks cs) × (pair_levels node_words.levels es ≡ nodes_levels ks cs)
+
+abbrev SameChildren : List ℤ → Slots NodeOwn → Type 0
+SameChildren ks ss =
+    let es = child_pairs ks (head_many ss) in
+    (pair_records int32_writing (encoding_by node_words) 2 es ≡ nodes_records ks (head_many ss)) × (pair_slots (encoding_by node_words) node_words.slots es ≡ children_slots ks ss) × (pair_levels node_words.levels es ≡ children_levels ks ss)
+
+no_children : (ks : List ℤ) → (pair_records int32_writing (encoding_by node_words) 2 (child_pairs ks no_kid) ≡ nodes_records ks no_kid) × (pair_slots (encoding_by node_words) node_words.slots (child_pairs ks no_kid) ≡ []) × (pair_levels node_words.levels (child_pairs ks no_kid) ≡ 0)
+unfolding pair_records pair_slots
+no_children [] = (refl, refl, refl)
+no_children (k ∷ ks) = (refl, refl, refl)
+
+mutual
+  unfolding pair_records pair_slots
+
+  same_node : (t : Branch) → SameNode t
+  same_node (knot (a, (ks, (h, r))) ss) =
+      let inside = same_children ks ss in (
+        by_records a ks h r ss ∙ (λ i. map_records text_writing int32_writing 1 a ++ (inside.0 i ++ (map_records int32_writing closed_writing 3 h ++ r))),
+        by_slots a ks h r ss ∙ inside.1,
+        by_levels a ks h r ss ∙ (λ i. max (inside.2 i) (kept_levels r)),
+      )
+
+  same_children : (ks : List ℤ) (ss : Slots NodeOwn) → SameChildren ks ss
+  same_children ks (many cs ss) = same_nodes ks cs
+  same_children ks no_slot = no_children ks
+  same_children ks (one m ss) = no_children ks
+
+  same_nodes : (ks : List ℤ) (cs : KnotList NodeOwn) → SameNodes ks cs
+  same_nodes [] cs = (refl, refl, refl)
+  same_nodes (k ∷ ks) no_kid = (refl, refl, refl)
+  same_nodes (k ∷ ks) (kid t cs) =
+      let first = same_node t in
+      let others = same_nodes ks cs in
+      let encoding = ap records_encoding first.0 ∙ sym (node_encoding_records t) in
+      ((λ i. (2, bytes (node_entry k (encoding i))) ∷ others.0 i), (λ i. cap (length (encoding i)) ∷ first.1 i ++ others.1 i), (λ i. max (suc (first.2 i)) (others.2 i)))
+
+pub records_same : (t : Branch) → node_words.records t ≡ node_records t
+records_same t = (same_node t).0
+
+pub encoding_same : (t : Branch) → encoding_by node_words t ≡ node_encoding t
+encoding_same t = ap records_encoding (records_same t) ∙ sym (node_encoding_records t)
+
+pub slots_same : (t : Branch) → node_words.slots t ≡ node_slots t
+slots_same t = (same_node t).1
+
+pub levels_same : (t : Branch) → node_words.levels t ≡ node_levels t
+levels_same t = (same_node t).2

@@ -1,12 +1,11 @@
 -- What a node is: scores by text, children by number, shades by number, each in the order of its keys, and the records of
--- fields that it doesn't declare.
-use Rattle.std.specs.Prelude.{ℕ, ℤ, List, [], Option, None, Some, if◌then◌else◌, pos, string_bytes}
+-- fields that it doesn't declare. Source: the protobuf language guide, "Maps" and "Unknown Fields".
+use Rattle.std.specs.Prelude.{◌≡◌, ℕ, ℤ, List, [], Option, None, Some, if◌then◌else◌, pos}
 use Rattle.std.specs.Ordering.{int_eq}
 use Rattle.buffa_wire.specs.Enums.{Numbers, numbers}
 use Rattle.buffa_wire.specs.Records.{Datum}
-use Rattle.buffa_map.specs.Pairs.{means}
-use Rattle.buffa_fields.specs.MapNests.{Kids, MapNest, map_nest, map_nest_means, no_kid}
-use Rattle.sample_node.specs.declared.node.NodeMembers.{NodeMembers}
+use Rattle.buffa_fields.specs.Knots.{Knot, KnotList, knot, many, no_kid, no_slot}
+use Rattle.buffa_fields.specs.Pairs.{keys_in, values_in}
 use Rattle.sample_node.specs.declared.shade.Shade.{Shade}
 use Rattle.sample_node.specs.declared.shade.Shade.TheVariants.{A, B}
 
@@ -31,32 +30,25 @@ Shades = List (ℤ × ℤ)
 abbrev pub NodeKept : Type 0
 NodeKept = List (ℕ × Datum)
 
--- all but the children
+-- what a node has of its own: all but the children, of which it has the keys
 abbrev pub NodeOwn : Type 0
-NodeOwn = Scores × (Shades × NodeKept)
+NodeOwn = Scores × (List ℤ × (Shades × NodeKept))
 
+-- a node: what it has of its own, and its children in one slot, in the order of their keys
 abbrev pub Branch : Type 0
-Branch = MapNest ℤ NodeOwn
+Branch = Knot NodeOwn
 
-pattern abbrev pub branch : Scores → Kids ℤ NodeOwn → Shades → NodeKept → Branch
-branch a cs h r = map_nest (a, (h, r)) cs
+pattern abbrev pub branch : Scores → List ℤ → KnotList NodeOwn → Shades → NodeKept → Branch
+branch a ks cs h r = knot (a, (ks, (h, r))) (many cs no_slot)
+
+-- the node of these scores, children, shades, and what is kept
+abbrev pub node_of : Scores → List (ℤ × Branch) → Shades → NodeKept → Branch
+node_of a es h r = branch a (keys_in es) (values_in es) h r
+
+-- what a struct `Node` holds is such a node
+abbrev pub IsNode : Branch → Type 0
+IsNode t = (a : Scores) × (es : List (ℤ × Branch)) × (h : Shades) × (r : NodeKept) × (t ≡ node_of a es h r)
 
 -- the one with nothing in it
 abbrev pub blank_node : Branch
-blank_node = branch [] no_kid [] []
-
-abbrev pub scores_of : Branch → Scores
-scores_of (branch a cs h r) = a
-
-abbrev pub shades_of : Branch → Shades
-shades_of (branch a cs h r) = h
-
-abbrev pub kept_of : Branch → NodeKept
-kept_of (branch a cs h r) = r
-
--- what the members of a node mean, and the node
-abbrev pub own_means : NodeMembers → NodeOwn
-own_means m = (means string_bytes (λ v. v) m.scores.entries, (means (λ k. k) shade_number m.shades.entries, m.rest.records))
-
-abbrev pub node_means : MapNest ℤ NodeMembers → Branch
-node_means = map_nest_means (λ k. k) own_means
+blank_node = branch [] [] no_kid [] []

@@ -1,4 +1,6 @@
--- The encoding, the records, the slots and the levels of a node, and which nodes their encoding reads back to.
+-- The encoding, the records, the slots and the levels of a node, and which nodes their encoding reads back to: each by the same of
+-- its children, which stand in its first slot in the order of its keys.
+-- Source: the protobuf encoding guide, "Maps" and "Submessages".
 use Rattle.std.specs.Prelude.{◌≡◌, ◌<◌, ◌⊎◌, ℕ, suc, ℤ, FitsSigned, max, List, [], ◌∷◌, ◌++◌, length, Result}
 use Rattle.std.specs.Int.{w32}
 use Rattle.std.specs.List.{AllByRecursion}
@@ -17,7 +19,7 @@ use Rattle.buffa_map.specs.Encoding.{AllHold, entry_encoding, field_encoding, re
 use Rattle.buffa_fields.specs.Aside.{aside_levels}
 use Rattle.buffa_fields.specs.KeptMaps.{IsAsideEntry, aside_entry_levels}
 use Rattle.buffa_fields.specs.MapFields.{map_records}
-use Rattle.buffa_fields.specs.MapNests.{Kids, kid, kid_list, no_kid}
+use Rattle.buffa_fields.specs.Knots.{KnotList, Slots, head_many, kid, knot, many, no_kid}
 use Rattle.sample_node.specs.Branch.{Branch, NodeKept, NodeOwn, Scores, Shades, branch, shade_numbers}
 use Rattle.sample_node.specs.NodeMeaning.{shade_reading, text_cmp}
 
@@ -37,32 +39,41 @@ node_entry_record k t = record_encoding int32_writing (delimited_writing (λ (x 
 -- a record for each score, child and shade, and then what is kept
 abbrev mutual
   pub node_encoding : Branch → List ℕ
-  node_encoding (branch a cs h r) = scores_encoding a ++ (nodes_encoding cs ++ (shades_encoding h ++ records_encoding r))
+  node_encoding (knot (a, (ks, (h, r))) ss) = scores_encoding a ++ (children_encoding ks ss ++ (shades_encoding h ++ records_encoding r))
 
-  pub nodes_encoding : Kids ℤ NodeOwn → List ℕ
-  nodes_encoding no_kid = []
-  nodes_encoding (kid k t cs) = node_entry_record k (node_encoding t) ++ nodes_encoding cs
+  pub children_encoding : List ℤ → Slots NodeOwn → List ℕ
+  children_encoding ks (many cs ss) = nodes_encoding ks cs
+  children_encoding ks _ = []
+
+  pub nodes_encoding : List ℤ → KnotList NodeOwn → List ℕ
+  nodes_encoding (k ∷ ks) (kid t cs) = node_entry_record k (node_encoding t) ++ nodes_encoding ks cs
+  nodes_encoding _ _ = []
 
 -- for each child the capped length of its encoding, and then its own slots
 abbrev mutual
   pub node_slots : Branch → List ℕ
-  node_slots (branch a cs h r) = nodes_slots cs
+  node_slots (knot (a, (ks, (h, r))) ss) = children_slots ks ss
 
-  pub nodes_slots : Kids ℤ NodeOwn → List ℕ
-  nodes_slots no_kid = []
-  nodes_slots (kid k t cs) = cap (length (node_encoding t)) ∷ node_slots t ++ nodes_slots cs
+  pub children_slots : List ℤ → Slots NodeOwn → List ℕ
+  children_slots ks (many cs ss) = nodes_slots ks cs
+  children_slots ks _ = []
+
+  pub nodes_slots : List ℤ → KnotList NodeOwn → List ℕ
+  nodes_slots (k ∷ ks) (kid t cs) = cap (length (node_encoding t)) ∷ node_slots t ++ nodes_slots ks cs
+  nodes_slots _ _ = []
 
 -- a node was written, or refused, by a pass that takes its slots out of a cache
 abbrev pub IsNodeWritten : {T : Type 0} → Branch → Cache → List ℕ → Result T EncodeError → Cache → List ℕ → Type 0
 IsNodeWritten t old before r new after = IsWritten (node_encoding t) (node_slots t) old before r new after
 
 -- the records
-abbrev pub nodes_records : Kids ℤ NodeOwn → List (ℕ × Datum)
-nodes_records no_kid = []
-nodes_records (kid k t cs) = (2, bytes (node_entry k (node_encoding t))) ∷ nodes_records cs
+abbrev pub nodes_records : List ℤ → KnotList NodeOwn → List (ℕ × Datum)
+nodes_records (k ∷ ks) (kid t cs) = (2, bytes (node_entry k (node_encoding t))) ∷ nodes_records ks cs
+nodes_records _ _ = []
 
 abbrev pub node_records : Branch → List (ℕ × Datum)
-node_records (branch a cs h r) = map_records text_writing int32_writing 1 a ++ (nodes_records cs ++ (map_records int32_writing closed_writing 3 h ++ r))
+node_records (knot (a, (ks, (h, r))) ss) =
+    map_records text_writing int32_writing 1 a ++ (nodes_records ks (head_many ss) ++ (map_records int32_writing closed_writing 3 h ++ r))
 
 -- how deep groups nest in what is kept, those in the entries of shades too
 abbrev pub kept_levels : NodeKept → ℕ
@@ -71,11 +82,15 @@ kept_levels r = max (height r) (aside_levels 3 (aside_entry_levels int32_reading
 -- how deep messages and groups nest
 abbrev mutual
   pub node_levels : Branch → ℕ
-  node_levels (branch a cs h r) = max (nodes_levels cs) (kept_levels r)
+  node_levels (knot (a, (ks, (h, r))) ss) = max (children_levels ks ss) (kept_levels r)
 
-  pub nodes_levels : Kids ℤ NodeOwn → ℕ
-  nodes_levels no_kid = 0
-  nodes_levels (kid k t cs) = max (suc (node_levels t)) (nodes_levels cs)
+  pub children_levels : List ℤ → Slots NodeOwn → ℕ
+  children_levels ks (many cs ss) = nodes_levels ks cs
+  children_levels ks _ = 0
+
+  pub nodes_levels : List ℤ → KnotList NodeOwn → ℕ
+  nodes_levels (k ∷ ks) (kid t cs) = max (suc (node_levels t)) (nodes_levels ks cs)
+  nodes_levels _ _ = 0
 
 -- what a node keeps of bytes: a field of a number that it doesn't declare, valid as those in its groups are, or an entry with an
 -- undeclared shade
@@ -83,17 +98,20 @@ abbrev pub IsKept : ℕ × Datum → Type 0
 IsKept y = ((3 < y.0) × AreValid (records_of (y ∷ []))) ⊎ ((y.0 ≡ 3) × IsAsideEntry int32_reading shade_reading y.1)
 
 -- of all but the children: keys and values are of their types, shades are declared, keys ascend
-abbrev pub IsNormalOwn : NodeOwn → Type 0
-IsNormalOwn (a, (h, r)) =
+abbrev pub IsNormalOwn : Scores → Shades → NodeKept → Type 0
+IsNormalOwn a h r =
     (AllHold IsText (FitsSigned w32) a × IsStrictlySortedBy text_cmp (keys_of a))
     × (AllHold (FitsSigned w32) (ClosedFits shade_numbers) h × IsStrictlySortedBy int_cmp (keys_of h))
     × AllByRecursion IsKept r
 
--- the nodes that their encoding reads back to: keys of children are int32 and ascend, and the children are such nodes
+-- the nodes that their encoding reads back to: they have as many keys as children, and nothing behind these; the keys are int32 and
+-- ascend, and the children are such nodes
 abbrev mutual
   pub IsNormalNode : Branch → Type 0
-  IsNormalNode (branch a cs h r) = IsNormalOwn (a, (h, r)) × IsStrictlySortedBy int_cmp (keys_of (kid_list cs)) × AreNormalNodes cs
+  IsNormalNode (branch a ks cs h r) = IsNormalOwn a h r × IsStrictlySortedBy int_cmp ks × AreNormalNodes ks cs
+  IsNormalNode _ = ⊥
 
-  pub AreNormalNodes : Kids ℤ NodeOwn → Type 0
-  AreNormalNodes no_kid = Unit {0}
-  AreNormalNodes (kid k t cs) = FitsSigned w32 k × IsNormalNode t × AreNormalNodes cs
+  pub AreNormalNodes : List ℤ → KnotList NodeOwn → Type 0
+  AreNormalNodes [] no_kid = Unit {0}
+  AreNormalNodes (k ∷ ks) (kid t cs) = FitsSigned w32 k × IsNormalNode t × AreNormalNodes ks cs
+  AreNormalNodes _ _ = ⊥

@@ -8,7 +8,6 @@ use Rattle.std.specs.Option.{option_map}
 use Rattle.std.specs.Ordering.{int_cmp, nat_cmp}
 use Rattle.std.specs.declared.cmp.Ordering.{Ordering}
 use Rattle.buffa_wire.specs.BudgetLeft.{BudgetLeft, nothing}
-use Rattle.buffa_wire.specs.Message.{cost_in, merged_in}
 use Rattle.buffa_map.specs.Codec.{Reading}
 use Rattle.buffa_map.specs.Enums.{closed_reading}
 use Rattle.buffa_map.specs.Message.{message_reading}
@@ -18,7 +17,8 @@ use Rattle.buffa_fields.specs.Keep.{keep_takes}
 use Rattle.buffa_wire.specs.Takes.{Need, Taker, cost_of, merged_of}
 use Rattle.buffa_fields.specs.KeptMaps.{kept_pair_cost, kept_pair_taken}
 use Rattle.buffa_fields.specs.MapFields.{pair_cost, pair_taken}
-use Rattle.buffa_fields.specs.MapNests.{kid_list, kids_in}
+use Rattle.buffa_fields.specs.Pairs.{child_pairs, keys_in, values_in}
+use Rattle.buffa_fields.specs.Knots.{head_many, knot}
 use Rattle.sample_node.specs.Branch.{Branch, NodeKept, Scores, Shades, blank_node, branch, shade_numbers}
 
 -- texts are in the order of their bytes
@@ -59,13 +59,15 @@ shades_take = kept_pair_taken int32_reading shade_reading (insert_entry int_cmp)
 abbrev pub shades_cost : Need
 shades_cost = kept_pair_cost int32_reading shade_reading 8
 
+-- what a field makes of a node, by what a level below does
 abbrev pub node_field_takes : LevelMeaning → Taker Branch
-node_field_takes m d (branch a cs h r) n w p =
-    if n == 1 then option_map (λ b. branch b cs h r) (scores_take d a n w p)
-    else if n == 2 then option_map (λ es. branch a (kids_in es) h r) (children_take m d (kid_list cs) n w p)
-    else if n == 3 then option_map (λ x. branch a cs x.0 x.1) (shades_take d (h, r) n w p)
-    else option_map (λ s. branch a cs h s) (keep_takes d r n w p)
+node_field_takes m d (knot (a, (ks, (h, r))) ss) n w p = let cs = head_many ss in
+    if n == 1 then option_map (λ b. branch b ks cs h r) (scores_take d a n w p)
+    else if n == 2 then option_map (λ es. branch a (keys_in es) (values_in es) h r) (children_take m d (child_pairs ks cs) n w p)
+    else if n == 3 then option_map (λ x. branch a ks cs x.0 x.1) (shades_take d (h, r) n w p)
+    else option_map (λ s. branch a ks cs h s) (keep_takes d r n w p)
 
+-- and what it costs
 abbrev pub node_field_need : LevelMeaning → LevelCost → Need
 node_field_need m c d n w bs =
     if n == 1 then scores_cost d n w bs
@@ -73,6 +75,7 @@ node_field_need m c d n w bs =
     else if n == 3 then shades_cost d n w bs
     else keep_need d n w bs
 
+-- what bytes make of a node where so many levels may still open, and what they cost
 abbrev pub node_merged : ℕ → Branch → List ℕ → Option Branch
 node_merged zero v bs = merged_of (node_field_takes (λ _ _. None)) zero v bs
 node_merged (suc d) v bs = merged_of (node_field_takes (node_merged d)) (suc d) v bs
@@ -80,10 +83,3 @@ node_merged (suc d) v bs = merged_of (node_field_takes (node_merged d)) (suc d) 
 abbrev pub node_cost : ℕ → List ℕ → BudgetLeft
 node_cost zero bs = cost_of (node_field_need (λ _ _. None) (λ _. nothing)) zero bs
 node_cost (suc d) bs = cost_of (node_field_need (node_merged d) (node_cost d)) (suc d) bs
-
--- what a payload makes of a node, and what a field costs
-abbrev pub node_takes : Taker Branch
-node_takes d = node_field_takes (merged_in node_merged d) d
-
-abbrev pub node_need : Need
-node_need d = node_field_need (merged_in node_merged d) (cost_in node_cost d) d

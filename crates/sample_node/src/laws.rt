@@ -8,8 +8,7 @@ ghost use Rattle.buffa_bytes.specs.Varint.{IsByte};
 ghost use Rattle.buffa_wire.specs.Parse.{Fits};
 ghost use Rattle.buffa_wire.specs.Records.{records_of};
 ghost use Rattle.buffa_map.specs.Pairs.{means};
-ghost use Rattle.buffa_fields.specs.MapNests.{kids_in, map_nest};
-ghost use Rattle.sample_node.specs.Branch.{Branch, blank_node, branch, node_means, shade_number};
+ghost use Rattle.sample_node.specs.Branch.{Branch, IsNode, blank_node, node_of, shade_number};
 ghost use Rattle.sample_node.specs.NodeMeaning.{node_cost, node_merged};
 ghost use Rattle.sample_node.specs.Refused.{IsNodeRefused};
 ghost use Rattle.sample_node.specs.NodeEncoding.{IsNormalNode, node_encoding, node_levels, node_records, node_slots};
@@ -20,18 +19,18 @@ use buffa_wire::{Blank, Enumeration, MessageSpec, UnknownFields};
 use std::collections::BTreeMap;
 
 /// Which message a node is: what bytes make of it and cost, its encoding, its slots, which nodes are read back where no
-/// length in them is too large to be read, and how deep their encoding nests. Of these nothing is left out. What its type
-/// says of a refused field is at least what `IsNodeRefused` does.
+/// length in them is too large to be read, and how deep their encoding nests. Of these nothing is left out. Of a refused
+/// field its type says at least what `IsNodeRefused` does, where the values are those of structs.
 pub fn node_is_this()
     ensures merged { (⟦<Node as MessageSpec>⟧.merged ≡ node_merged) × (⟦<Node as MessageSpec>⟧.cost ≡ node_cost) }
     ensures encoding { (⟦<Node as MessageSpec>⟧.encoding ≡ node_encoding) × (⟦<Node as MessageSpec>⟧.records ≡ node_records) }
     ensures slots { (⟦<Node as MessageSpec>⟧.slots ≡ node_slots) × (⟦<Node as MessageSpec>⟧.COST ≡ 96) }
     ensures levels { ⟦<Node as MessageSpec>⟧.levels ≡ node_levels }
     ensures normal { (v : Branch) → Fits (records_of (node_records v)) → ⟦<Node as MessageSpec>⟧.normal v ↔ IsNormalNode v }
-    ensures refused { (d : ℕ) (v : Branch) (n : ℕ) (w : _) (bs : List ℕ) (l : _) (e : _) (u : Branch) →
+    ensures refused { (d : ℕ) (v : Branch) (n : ℕ) (w : _) (bs : List ℕ) (l : _) (e : _) (u : Branch) → IsNode v → IsNode u →
         ⟦<Node as MessageSpec>⟧.Refused d v n w bs l e u → IsNodeRefused d v n w bs l e u }
     ensures blank { ⟦<Node as Blank>⟧.blank_is ≡ blank_node }
-    ensures meaning { ⟦<Node as Blank>⟧.meaning ≡ node_means }
+    ensures meaning { (v : Branch) → ⟦<Node as Blank>⟧.meaning v ≡ v }
 {}
 
 /// What bytes make of a normal node is normal, and so is the blank one: what is read is read back of its encoding.
@@ -49,7 +48,7 @@ pub fn node_levels_are_exact()
         ⟦<Node as MessageSpec>⟧.merged d old (⟦<Node as MessageSpec>⟧.encoding v) ≡ None }
 {}
 
-/// A node is its fields, and what it means is what they hold. Nothing is left out.
+/// A node is what its fields hold. Nothing is left out.
 pub fn nodes_hold_these(
     node: &Node,
 ) -> (
@@ -58,11 +57,8 @@ pub fn nodes_hold_these(
     &BTreeMap<i32, Shade>,
     &UnknownFields,
 )
-    ensures fields { node.now ≡ map_nest (record { scores = result.0.now; shades = result.2.now; rest = result.3.now })
-        (kids_in result.1.now.entries) }
-    ensures meaning { node_means node.now ≡ branch (means string_bytes (λ v. v) result.0.now.entries)
-        (kids_in (means (λ k. k) node_means result.1.now.entries)) (means (λ k. k) shade_number result.2.now.entries)
-        result.3.now.records }
+    ensures { node.now ≡ node_of (means string_bytes (λ v. v) result.0.now.entries) (means (λ k. k) (λ t. t) result.1.now.entries)
+        (means (λ k. k) shade_number result.2.now.entries) result.3.now.records }
 {
     (&node.scores, &node.children, &node.shades, &node.rest)
 }

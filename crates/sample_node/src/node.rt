@@ -5,21 +5,24 @@ ghost use Rattle.std.specs.Prelude.{OnErr, [], IfErr, ◌≢◌};
 ghost use Rattle.buffa_bytes.specs.Gives.{FullOnlyIf};
 ghost use Rattle.buffa_wire.specs.Message.{BeginsField, IsFieldMerged, IsMerged, Stands};
 ghost use Rattle.buffa_wire.specs.Passes.{IsNext, IsSized};
-ghost use Rattle.sample_node.specs.Branch.{node_means};
+ghost use Rattle.sample_node.specs.Branch.{IsNode};
 ghost use Rattle.sample_node.specs.NodeMeaning.{node_cost, node_merged};
 ghost use Rattle.sample_node.specs.NodeEncoding.{IsNodeWritten, node_encoding, node_slots};
 ghost use Rattle.sample_node.specs.Refused.{IsNodeRefused};
 ghost use Rattle.sample_node.specs.Stops.{Stops};
 
 use crate::shade::Shade;
-use buffa_fields::held_map::MapNestMeaning;
-use buffa_fields::holds_map::{Held, HoldingMap, HoldsMap};
+use buffa_fields::inside_maps::take_map;
 use buffa_fields::keeping::Keeping;
-use buffa_fields::kept::{self, KeptFields};
-use buffa_fields::meaning::{And, And3};
+use buffa_fields::kept;
+use buffa_fields::keyed::{ByKey, Keyed};
+use buffa_fields::laid::Laid;
 use buffa_fields::member::Member;
 use buffa_fields::ordered_map::OrderedMapOf;
-use buffa_fields::visitor::Visitor;
+use buffa_fields::self_fields::SelfFields;
+use buffa_fields::self_listing::{SelfListed, SelfListing};
+use buffa_fields::self_merger::SelfMerger;
+use buffa_fields::self_visitor::SelfVisitor;
 use buffa_map::map_codec::{ClosedEnum, Int32, Str};
 use buffa_wire::{
     Blank, Budget, Buf, DecodeContext, DecodeError, EncodeError, EncodeSink, Formed, Message,
@@ -47,72 +50,31 @@ pub struct Node {
     pub rest: UnknownFields,
 }
 
-/// The members of a node beside its children, as contracts see them. No value of it is ever made.
-///
-/// ```ignore
-/// type Own = NodeMembers;
-/// ```
-pub struct NodeMembers {
-    /// The scores.
-    pub scores: BTreeMap<String, i32>,
-    /// The shades.
-    pub shades: BTreeMap<i32, Shade>,
-    /// What isn't declared.
-    pub rest: UnknownFields,
-}
-
 impl Model for Node {
-    ghost use Rattle.std.specs.Prelude.{ℤ};
-    ghost use Rattle.std.specs.Coded.{coded_ℤ};
-    ghost use Rattle.buffa_fields.specs.MapNests.{MapNest, coded_map_nest, kids_in, map_nest, map_nest_height, most-map_nest_heights};
-    ghost use Rattle.sample_node.specs.contracts.node.NodeMembers.{the_row};
-    ghost use Rattle.sample_node.specs.declared.node.NodeMembers.{NodeMembers};
+    ghost use Rattle.std.specs.Prelude.{string_bytes};
+    ghost use Rattle.std.specs.Coded.{coded_list, coded_ℕ, coded_ℤ, coded×};
     ghost use Rattle.std.proofs.Common.{arith};
+    ghost use Rattle.buffa_wire.specs.Code.{coded_datum};
+    ghost use Rattle.buffa_map.specs.Pairs.{means};
+    ghost use Rattle.buffa_fields.specs.Knots.{coded_knot, knot_height};
+    ghost use Rattle.buffa_fields.specs.Pairs.{most-of_map};
+    ghost use Rattle.sample_node.specs.Branch.{Branch, node_of, shade_number};
 
-    ghost Value = { MapNest ℤ NodeMembers };
+    ghost Value = { Branch };
 
-    ghost coded = { coded_map_nest coded_ℤ the_row.coded };
+    ghost coded = { coded_knot (coded× (coded_list (coded× (coded_list coded_ℕ) coded_ℤ)) (coded× (coded_list coded_ℤ) (
+        coded× (coded_list (coded× coded_ℤ coded_ℤ)) (coded_list (coded× coded_ℕ coded_datum))))) };
 
-    ghost view = { λ t. map_nest (record { scores = t.scores; shades = t.shades; rest = t.rest })
-        (kids_in t.children.entries) };
+    ghost view = { λ t. node_of (means string_bytes (λ v. v) t.scores.entries) (means (λ k. k) (λ m. m) t.children.entries)
+        (means (λ k. k) shade_number t.shades.entries) t.rest.records };
 
-    ghost size = { map_nest_height };
+    ghost size = { knot_height };
 
-    ghost size_decreases = { λ t h. omega (arith, most-map_nest_heights t.children.entries) };
+    ghost size_decreases = { λ t h. omega (arith, most-of_map (λ k. k) t.children.entries) };
 }
 
-impl Blank for Node {
-    ghost use Rattle.sample_node.specs.Branch.{blank_node};
-
-    type Meaning = MapNestMeaning<i32, <Node as HoldsMap>::Words>;
-
-    ghost meaning = { node_means };
-
-    ghost blank_is = { blank_node };
-
-    fn blank(alloc: Global) -> Node {
-        Node {
-            scores: BTreeMap::new(alloc),
-            children: BTreeMap::new(alloc),
-            shades: BTreeMap::new(alloc),
-            rest: UnknownFields::new(alloc),
-        }
-    }
-}
-
-impl HoldsMap for Node {
-    ghost use Rattle.buffa_fields.specs.Members.{field, field_kept, keep};
-    ghost use Rattle.buffa_fields.specs.NamedMaps.{put_map};
-
-    type Key = i32;
-
-    type KeyCodec = Int32;
-
-    type Inside = BTreeMap<i32, Node>;
-
-    type Own = NodeMembers;
-
-    type Words = And3<[And<[u8; 0], i32>; 0], [And<i32, i32>; 0], KeptFields>;
+impl Laid for Node {
+    ghost use Rattle.buffa_fields.specs.Open.{keeps, knotted, map_inside, member, member_kept};
 
     const COST: usize = 96;
 
@@ -120,49 +82,34 @@ impl HoldsMap for Node {
 
     ghost positive = { lit< tt };
 
-    const NUMBER: u32 = 2;
+    ghost laying = { knotted (
+        member 1 ⟦<OrderedMapOf<Str, Int32> as Member>⟧.shape (
+        map_inside 2 ⟦<ByKey<Int32> as Keyed>⟧.keys (
+        member_kept 3 ⟦<OrderedMapOf<Int32, ClosedEnum<Shade>> as Member>⟧.shape
+        ⟦<OrderedMapOf<Int32, ClosedEnum<Shade>> as Keeping>⟧.aside keeps))) };
 
-    ghost NUMBER = { 2 };
+    ghost sound = { λ w. refl };
+}
 
-    ghost own = { field 1 (λ m. m.scores) ⟦<OrderedMapOf<Str, Int32> as Member>⟧.shape (
-        field_kept 3 (λ m. m.shades) ⟦<OrderedMapOf<Int32, ClosedEnum<Shade>> as Member>⟧.shape
-        ⟦<OrderedMapOf<Int32, ClosedEnum<Shade>> as Keeping>⟧.aside (
-        keep (λ m. m.rest.records))) };
-
-    ghost sound = { refl };
-
-    ghost other = { refl };
-
-    ghost nest = { λ t. t };
-
-    ghost with_inside = { put_map };
-
-    fn inside(&self) -> &BTreeMap<i32, Node> {
-        &self.children
-    }
-
-    fn inside_mut(&mut self) -> &mut BTreeMap<i32, Node> {
-        &mut self.children
-    }
-
-    fn front<V: Visitor>(&self, visitor: &mut V) {
+impl SelfFields for Node {
+    fn visit<V: SelfVisitor<Node>>(&self, visitor: &mut V) {
         visitor.visit::<OrderedMapOf<Str, Int32>>(1, &self.scores);
-    }
-
-    fn behind<V: Visitor>(&self, visitor: &mut V) {
+        visitor.visit_map::<Int32>(2, &self.children);
         visitor.visit_keeping::<OrderedMapOf<Int32, ClosedEnum<Shade>>>(3, &self.shades);
         visitor.visit_kept(&self.rest);
     }
 
-    fn take(
+    fn take<I: SelfMerger<Node>>(
         &mut self,
         alloc: Global,
         tag: Tag,
         buf: &mut &[u8],
         ctx: DecodeContext<'_>,
+        inner: &I,
     ) -> Result<(), DecodeError> {
         match tag.field_number() {
             1 => OrderedMapOf::<Str, Int32>::merge(&mut self.scores, alloc, tag, buf, ctx),
+            2 => take_map::<Int32, Node, I>(&mut self.children, alloc, tag, buf, ctx, inner),
             3 => OrderedMapOf::<Int32, ClosedEnum<Shade>>::merge_kept(
                 &mut self.shades,
                 &mut self.rest,
@@ -176,18 +123,33 @@ impl HoldsMap for Node {
     }
 }
 
-impl Formed for Node {
-    type Form = Held;
+impl Blank for Node {
+    ghost use Rattle.sample_node.specs.Branch.{blank_node};
+
+    type Meaning = Node;
+
+    ghost meaning = { λ m. m };
+
+    ghost blank_is = { blank_node };
+
+    fn blank(alloc: Global) -> Node {
+        Node {
+            scores: BTreeMap::new(alloc),
+            children: BTreeMap::new(alloc),
+            shades: BTreeMap::new(alloc),
+            rest: UnknownFields::new(alloc),
+        }
+    }
 }
 
-impl HoldingMap for Node {
-    ghost use Rattle.buffa_fields.specs.NamedMaps.{map_put};
-
-    ghost means = { λ t. refl };
+impl SelfListing for Node {
+    ghost means = { λ m. refl };
 
     ghost starts = { refl };
+}
 
-    ghost puts = { map_put };
+impl Formed for Node {
+    type Form = SelfListed;
 }
 
 /// The size pass: the length of the encoding, and the slots of the children appended.
@@ -199,9 +161,8 @@ impl HoldingMap for Node {
 /// let size = size_node(&node, &mut cache)?;
 /// ```
 pub fn size_node(node: &Node, cache: &mut SizeCache) -> Result<u32, EncodeError>
-    ensures sized { IsSized (node_encoding (node_means node.now)) (node_slots (node_means node.now)) cache.old result
-        cache.new }
-    ensures some { OnErr result (node_slots (node_means node.now) ≢ []) }
+    ensures sized { IsSized (node_encoding node.now) (node_slots node.now) cache.old result cache.new }
+    ensures some { OnErr result (node_slots node.now ≢ []) }
 {
     node.compute_size(cache)
 }
@@ -219,10 +180,17 @@ pub fn write_node<S: EncodeSink>(
     cache: &mut SizeCache,
     sink: &mut S,
 ) -> Result<(), EncodeError>
-    requires { IsNext (node_slots (node_means node.now)) cache.old }
-    ensures { IsNodeWritten (node_means node.now) cache.old (S.written sink.old) result cache.new (S.written sink.new) }
+    requires { IsNext (node_slots node.now) cache.old }
+    ensures { IsNodeWritten node.now cache.old (S.written sink.old) result cache.new (S.written sink.new) }
 {
     node.write_to(cache, sink)
+}
+
+// Does nothing. It tells the proof of its caller that a node has as many keys as children, and nothing behind these.
+fn is_node(node: &Node)
+    ensures { IsNode node.now }
+{
+    let _scores = &node.scores;
 }
 
 // Merges the field whose tag was read, as the form does, in the words of a node. A refused one leaves the node as it was, and
@@ -235,13 +203,16 @@ fn merge_node_field(
     depth: u32,
     budget: &mut Budget,
 ) -> Result<(), DecodeError>
-    ensures merged { IsFieldMerged node_merged node_cost depth (node_means node.old) tag.number tag.wire_type buf.old.now
-        budget.old result (node_means node.new) budget.new buf.new.now }
+    ensures merged { IsFieldMerged node_merged node_cost depth node.old tag.number tag.wire_type buf.old.now budget.old
+        result node.new budget.new buf.new.now }
     ensures full { FullOnlyIf result (tag.wire_type ≢ WireType.EndGroup) }
-    ensures refused { IfErr result (λ e. IsNodeRefused depth (node_means node.old) tag.number tag.wire_type buf.old.now
-        budget.old e (node_means node.new)) }
+    ensures refused { IfErr result (λ e. IsNodeRefused depth node.old tag.number tag.wire_type buf.old.now budget.old e
+        node.new) }
 {
-    node.merge_field(alloc, tag, buf, DecodeContext { depth, budget })
+    is_node(node);
+    let merged = node.merge_field(alloc, tag, buf, DecodeContext { depth, budget });
+    is_node(node);
+    merged
 }
 
 /// Merges the fields that the bytes are, all of them, where so many levels may still open: a child is one level
@@ -261,13 +232,12 @@ pub fn merge_node(
     depth: u32,
     budget: &mut Budget,
 ) -> Result<(), DecodeError>
-    ensures merged { IsMerged (node_merged depth (node_means node.old) bytes.now) (node_cost depth bytes.now) budget.old
-        result (node_means node.new) budget.new }
+    ensures merged { IsMerged (node_merged depth node.old bytes.now) (node_cost depth bytes.now) budget.old result node.new
+        budget.new }
     ensures full { FullOnlyIf result (BeginsField bytes.now) }
-    ensures stands { IfErr result (λ e. Stands node_merged node_cost IsNodeRefused depth (node_means node.old) bytes.now
-        budget.old e (node_means node.new)) }
-    ensures stops { IfErr result (Stops node_merged node_cost depth (node_means node.old) bytes.now budget.old
-        (node_means node.new) budget.new) }
+    ensures stands { IfErr result (λ e. Stands node_merged node_cost IsNodeRefused depth node.old bytes.now budget.old e
+        node.new) }
+    ensures stops { IfErr result (Stops node_merged node_cost depth node.old bytes.now budget.old node.new budget.new) }
 {
     let mut rest = bytes;
     while rest.remaining() > 0 {

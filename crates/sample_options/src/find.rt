@@ -4,7 +4,6 @@ use buffa_descriptor::{DescriptorProto, FileDescriptorSet};
 
 fn is_called(message: &DescriptorProto, name: &str) -> bool {
     message
-        .own
         .name
         .as_ref()
         .is_some_and(|own| own.as_str() == name)
@@ -16,7 +15,7 @@ fn at_path<'a>(types: &'a [DescriptorProto], path: &str) -> Option<&'a Descripto
     let first = names.next()?;
     let mut message = types.iter().find(|it| is_called(it, first))?;
     for name in names {
-        message = message.inside.iter().find(|it| is_called(it, name))?;
+        message = message.nested_type.iter().find(|it| is_called(it, name))?;
     }
     Some(message)
 }

@@ -52,7 +52,7 @@ fn judge_all(
 ) -> Result<usize, Error> {
     let alloc = rt.alloc();
     let mut faults = 0usize;
-    for field in &message.own.field {
+    for field in &message.field {
         let rules = read_rules(alloc, field)?;
         println!(rt; "{}", field_line(alloc, field, &rules)?)?;
         if let Err(fault) = judge(alloc, field, &rules, fields)? {

@@ -1,98 +1,118 @@
-//! A part of a text, with the parts in it.
+//! buffa.sample.Outline, made of outline.proto by protoc-gen-buffa.
 
 ghost use Rattle.std.proofs.Common.{lit<, refl};
-ghost use Rattle.buffa_self.specs.Open.{keeps, knotted, list_inside, map_inside, member, one_inside};
+ghost use Rattle.buffa.specs.Knots.{keeps, knotted, list_inside, map_inside, member, member_kept, member_one_of, one_inside};
 
-use buffa_fields::kept;
-use buffa_fields::member::Member;
-use buffa_fields::plain::Plain;
-use buffa_map::map_codec::{Int32, Str};
-use buffa_self::begins::{Begins, Knotted};
-use buffa_self::inner::Inner;
-use buffa_self::keyed::{ByKey, Keyed};
-use buffa_self::laid::Laid;
-use buffa_self::maps::take_map;
-use buffa_self::selves::Selves;
-use buffa_self::takes::{take_list, take_one};
-use buffa_self::visits::Visits;
-use buffa_wire::{Blank, DecodeContext, DecodeError, Formed, Tag, UnknownFields};
+use crate::outline_mark::OutlineMark;
+use crate::outline_source::OutlineSource;
+use buffa::fields::{
+    ByKey, Formed, Keeping, Keyed, Laid, MapOf, Member, OneOf, Optional, SelfFields, SelfListed,
+    SelfListing, SelfMerger, SelfVisitor, kept, take_list, take_map, take_one, take_one_of,
+};
+use buffa::map_codec::{ClosedEnum, Int32, Map, Str};
+use buffa::{Blank, DecodeContext, DecodeError, Tag, UnknownFields};
 use std::alloc::Global;
 use std::collections::BTreeMap;
 use std::marker::Model;
 use std::string::String;
 
-/// A part of a text.
+/// A part of a text, with the parts in it.
 ///
 /// message Outline {
-///     string title = 1;
+///     optional string title = 1;
 ///     repeated Outline parts = 2;
-///     int32 width = 3;
-///     Outline beside = 4;
+///     optional int32 width = 3;
+///     optional Outline beside = 4;
 ///     map<int32, Outline> by_number = 5;
+///     map<int32, Mark> marks = 6;
+///     oneof source {
+///         string book = 7;
+///         int32 page = 8;
+///         Spot spot = 9;
+///     }
 /// }
+///
+/// Written in the order of their keys: by_number = 5.
 #[derive(Drop)]
 pub struct Outline {
-    pub title: String,
+    pub title: Option<String>,
     pub parts: Vec<Outline>,
-    pub width: i32,
+    pub width: Option<i32>,
     pub beside: Option<Box<Outline>>,
     pub by_number: BTreeMap<i32, Outline>,
+    pub marks: Map<i32, OutlineMark>,
+    /// Where it is from.
+    pub source: Option<OutlineSource>,
     /// The fields that aren't declared, in order.
     pub rest: UnknownFields,
 }
 
 impl Model for Outline {
-    ghost use Rattle.std.specs.Prelude.{List, ℕ, ℤ};
+    ghost use Rattle.std.specs.Coded.{codes};
     ghost use Rattle.std.specs.Option.{option_map};
-    ghost use Rattle.std.specs.Coded.{coded_list, coded_ℕ, coded_ℤ, coded×};
+    ghost use Rattle.std.specs.Prelude.{List, Option, ℕ, ℤ};
     ghost use Rattle.std.proofs.Common.{arith};
-    ghost use Rattle.buffa_wire.specs.Code.{coded_datum};
-    ghost use Rattle.buffa_map.specs.Pairs.{means};
-    ghost use Rattle.buffa_self.specs.Pairs.{keys_in, most-of_map, values_in};
-    ghost use Rattle.buffa_wire.specs.Records.{Datum};
-    ghost use Rattle.buffa_self.specs.Knots.{Knot, coded_knot, knot, knot_height, many, most-of_list, no_slot, of_list, of_option, one};
+    ghost use Rattle.buffa.specs.Knots.{CaseMeaningOf, Datum, Knot, coded_datum, coded_knot, coded_or, has, has_case, has_kept, has_list, has_map, has_one, knot_height, knot_of, most-of_list, most-of_map};
 
-    ghost Value = { Knot (List ℕ × (ℤ × (List ℤ × List (ℕ × Datum)))) };
+    ghost Value = { Knot (
+        Option (List ℕ) × (
+        Option ℤ × (
+        List ℤ × (
+        (List (ℤ × ℤ)) × (
+        CaseMeaningOf ⟦<OutlineSource as OneOf>⟧.cases × List (ℕ × Datum)))))) };
 
-    ghost coded = { coded_knot (coded× (coded_list coded_ℕ) (coded× coded_ℤ (coded× (coded_list coded_ℤ) (coded_list (coded× coded_ℕ coded_datum))))) };
+    ghost coded = { Prim.hlevel (codes, coded_datum, coded_knot, coded_or) };
 
-    ghost view = { λ t. let pairs = means (λ k. k) (λ m. m) t.by_number.entries in
-        knot (⟦<Plain<Str> as Member>⟧.shape.meaning t.title, (t.width, (keys_in pairs, t.rest.records)))
-        (many (of_list t.parts.items) (one (of_option (option_map (λ b. b.value) t.beside)) (many (values_in pairs) no_slot))) };
+    ghost view = { λ m. knot_of (
+        has (⟦<Optional<Str> as Member>⟧.shape.meaning m.title) (
+        has_list m.parts.items (
+        has (⟦<Optional<Int32> as Member>⟧.shape.meaning m.width) (
+        has_one (option_map (λ b. b.value) m.beside) (
+        has_map ⟦<i32 as Blank>⟧.meaning m.by_number.entries (
+        has (⟦<MapOf<Int32, ClosedEnum<OutlineMark>> as Member>⟧.shape.meaning m.marks) (
+        has_case ⟦<OutlineSource as OneOf>⟧.cases m.source (has_kept m.rest.records)))))))) };
 
     ghost size = { knot_height };
 
-    ghost size_decreases = { λ t h. Prim.grind (arith, most-of_list t.parts.items, most-of_map (λ k. k) t.by_number.entries) };
+    ghost size_decreases = { λ m h. Prim.grind (
+      arith,
+      most-of_list m.parts.items,
+      most-of_map ⟦<i32 as Blank>⟧.meaning m.by_number.entries,
+    ) };
 }
 
 impl Laid for Outline {
-    const COST: usize = 160;
+    const COST: usize = 296;
 
-    ghost COST = { 160 };
+    ghost COST = { 296 };
 
     ghost positive = { lit< tt };
 
     ghost laying = { knotted (
-        member 1 ⟦<Plain<Str> as Member>⟧.shape (
+        member 1 ⟦<Optional<Str> as Member>⟧.shape (
         list_inside 2 (
-        member 3 ⟦<Plain<Int32> as Member>⟧.shape (
+        member 3 ⟦<Optional<Int32> as Member>⟧.shape (
         one_inside 4 (
-        map_inside 5 ⟦<ByKey<Int32> as Keyed>⟧.keys keeps))))) };
+        map_inside 5 ⟦<ByKey<Int32> as Keyed>⟧.keys (
+        member_kept 6 ⟦<MapOf<Int32, ClosedEnum<OutlineMark>> as Member>⟧.shape ⟦<MapOf<Int32, ClosedEnum<OutlineMark>> as Keeping>⟧.aside (
+        member_one_of ⟦<OutlineSource as OneOf>⟧.cases keeps))))))) };
 
     ghost sound = { λ w. refl };
 }
 
-impl Selves for Outline {
-    fn visit<V: Visits<Outline>>(&self, visitor: &mut V) {
-        visitor.visit::<Plain<Str>>(1, &self.title);
+impl SelfFields for Outline {
+    fn visit<V: SelfVisitor<Outline>>(&self, visitor: &mut V) {
+        visitor.visit::<Optional<Str>>(1, &self.title);
         visitor.visit_list(2, &self.parts);
-        visitor.visit::<Plain<Int32>>(3, &self.width);
+        visitor.visit::<Optional<Int32>>(3, &self.width);
         visitor.visit_one(4, &self.beside);
         visitor.visit_map::<Int32>(5, &self.by_number);
+        visitor.visit_keeping::<MapOf<Int32, ClosedEnum<OutlineMark>>>(6, &self.marks);
+        visitor.visit_one_of(&self.source);
         visitor.visit_kept(&self.rest);
     }
 
-    fn take<I: Inner<Outline>>(
+    fn take<I: SelfMerger<Outline>>(
         &mut self,
         alloc: Global,
         tag: Tag,
@@ -101,11 +121,22 @@ impl Selves for Outline {
         inner: &I,
     ) -> Result<(), DecodeError> {
         match tag.field_number() {
-            1 => Plain::<Str>::merge(&mut self.title, alloc, tag, buf, ctx),
+            1 => Optional::<Str>::merge(&mut self.title, alloc, tag, buf, ctx),
             2 => take_list(&mut self.parts, alloc, tag, buf, ctx, inner),
-            3 => Plain::<Int32>::merge(&mut self.width, alloc, tag, buf, ctx),
+            3 => Optional::<Int32>::merge(&mut self.width, alloc, tag, buf, ctx),
             4 => take_one(&mut self.beside, alloc, tag, buf, ctx, inner),
             5 => take_map::<Int32, Outline, I>(&mut self.by_number, alloc, tag, buf, ctx, inner),
+            6 => MapOf::<Int32, ClosedEnum<OutlineMark>>::merge_kept(
+                &mut self.marks,
+                &mut self.rest,
+                alloc,
+                tag,
+                buf,
+                ctx,
+            ),
+            7 => take_one_of(&mut self.source, alloc, tag, buf, ctx),
+            8 => take_one_of(&mut self.source, alloc, tag, buf, ctx),
+            9 => take_one_of(&mut self.source, alloc, tag, buf, ctx),
             _ => kept::keep(alloc, &mut self.rest, tag, buf, ctx),
         }
     }
@@ -120,22 +151,24 @@ impl Blank for Outline {
 
     fn blank(alloc: Global) -> Outline {
         Outline {
-            title: String::new(alloc),
+            title: None,
             parts: Vec::new(alloc),
-            width: 0,
+            width: None,
             beside: None,
             by_number: BTreeMap::new(alloc),
+            marks: Map::new(alloc),
+            source: None,
             rest: UnknownFields::new(alloc),
         }
     }
 }
 
-impl Begins for Outline {
+impl SelfListing for Outline {
     ghost means = { λ m. refl };
 
     ghost starts = { refl };
 }
 
 impl Formed for Outline {
-    type Form = Knotted;
+    type Form = SelfListed;
 }

@@ -10,14 +10,14 @@ use std::alloc::{AllocError, Global};
 /// Where memory runs out.
 pub fn place(alloc: Global, name: &str) -> Result<Place, AllocError> {
     let mut place = Place::blank(alloc);
-    place.own.name = String::from_str(alloc, name)?;
+    place.name = String::from_str(alloc, name)?;
     Ok(place)
 }
 
 /// How many places there are: this one, and all in it.
 pub fn count(place: &Place) -> u64 {
     let mut sum: u64 = 1;
-    for one in place.inside.iter() {
+    for one in place.places.iter() {
         sum = sum.saturating_add(count(one));
     }
     sum
@@ -28,9 +28,9 @@ pub fn count(place: &Place) -> u64 {
 /// # Errors
 /// Where memory runs out.
 pub fn outline(alloc: Global, place: &Place, indent: &str) -> Result<String, AllocError> {
-    let mut text = format!(in alloc; "{indent}{}\n", place.own.name)?;
+    let mut text = format!(in alloc; "{indent}{}\n", place.name)?;
     let further = format!(in alloc; "{indent}  ")?;
-    for one in place.inside.iter() {
+    for one in place.places.iter() {
         let lines = outline(alloc, one, further.as_str())?;
         text.push_str(lines.as_str())?;
     }

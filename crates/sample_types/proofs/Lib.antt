@@ -5,10 +5,9 @@ mod NumberLemmas
 pub mod PassedLemmas
 pub mod TripLemmas
 mod KeepLemmas
+mod AlikeLemmas
 mod TreeLemmas
-mod TreeBackLemmas
 mod TreeNormalLemmas
 mod TreeRefusedLemmas
-mod TreeToldLemmas
 mod PinLemmas
 mod PassPinLemmas

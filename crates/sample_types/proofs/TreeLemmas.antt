@@ -1,157 +1,236 @@
--- A tree as a message that holds a map of itself: its keys, its one member beside the children, and what it is read and written as.
-use Rattle.std.proofs.Common.{◌≡◌, ℕ, zero, suc, max, ◌==◌, ℤ, FitsSigned, Bool, true, false, List, [], ◌∷◌, ◌++◌, length, Option, None, Some, Ok, refl, sym, ap, ◌∙◌, arith, append-nil, if◌then◌else◌}
+-- What a tree is by what its type says of itself: what is told of messages that hold themselves, of one level.
+use Rattle.std.proofs.Common.{◌≡◌, ℕ, suc, max, ◌==◌, ◌&&◌, ◌+◌, ℤ, Bool, true, false, List, [], ◌∷◌, ◌++◌, length, map, Option, None, Some, Result, Ok, Err, cond, refl, sym, ap, ◌∙◌, arith, append-nil, if◌then◌else◌}
 use Rattle.std.proofs.lemmas.Bool.{eqb-true}
-use Rattle.std.specs.Cmp.{int_cmp_total}
-use Rattle.std.specs.Int.{cast_unsigned, w32, w64}
+use Rattle.std.specs.BTreeMap.{insert_entry}
+use Rattle.std.specs.Map.{keys_of}
 use Rattle.std.specs.Option.{option_map}
 use Rattle.std.specs.Ordering.{int_cmp}
-use Rattle.std.specs.Prelude.{◌≢◌, IsOk, OnErr, Result, Err}
-use Rattle.buffa_bytes.proofs.IntLemmas.{int32_below, int32_means}
-use Rattle.buffa_bytes.proofs.VarintLemmas.{IsVarint-varint_encoding}
-use Rattle.buffa_bytes.specs.Content.{number}
-use Rattle.buffa_bytes.specs.Front.{check_wire, skip_at}
+use Rattle.buffa_bytes.specs.Content.{Content, number, number_in}
+use Rattle.buffa_bytes.specs.Front.{delimited_at, varint_at}
 use Rattle.buffa_bytes.specs.Gives.{◌>>=◌}
+use Rattle.buffa_bytes.specs.Values.{int32_of}
+use Rattle.buffa_bytes.specs.WireType.{same_wire}
+use Rattle.buffa_bytes.specs.declared.error.DecodeError.{DecodeError}
 use Rattle.buffa_bytes.specs.declared.wire_type.WireType.{WireType}
-use Rattle.buffa_bytes.specs.declared.wire_type.WireType.TheVariants.{Varint}
-use Rattle.buffa_wire.specs.BudgetLeft.{BudgetLeft, nothing}
-use Rattle.buffa_wire.specs.ByField.{cost_by, merged_by}
-use Rattle.buffa_wire.specs.Encoding.{records_encoding}
+use Rattle.buffa_bytes.specs.declared.wire_type.WireType.TheVariants.{LengthDelimited, Varint}
+use Rattle.buffa_wire.specs.BudgetLeft.{BudgetLeft, need_by, nothing}
+use Rattle.buffa_wire.specs.ByField.{value_of}
 use Rattle.buffa_wire.specs.Passes.{cap}
-use Rattle.buffa_wire.specs.Records.{bytes, varint}
-use Rattle.buffa_wire.specs.Takes.{Need, Taker, answer, cost_of, front_of, merged_of}
+use Rattle.buffa_wire.specs.Records.{Datum, bytes}
+use Rattle.buffa_wire.specs.Takes.{cost_of, merged_of}
+use Rattle.buffa_map.specs.Codec.{Reading}
+use Rattle.buffa_map.specs.Entry.{entry_of, need_of}
+use Rattle.buffa_map.specs.Message.{message_reading}
+use Rattle.buffa_map.specs.Pairs.{means}
 use Rattle.buffa_map.specs.Scalars.{int32_reading, int32_writing}
-use Rattle.buffa_fields.specs.BlankFacts.{is_zero}
-use Rattle.buffa_fields.specs.HeldMap.{Keys, KeysReadBack, keys_by, kid_levels, kid_records, kid_slots, map_nest_cost, map_nest_levels, map_nest_merged, map_nest_need, map_nest_records, map_nest_slots, map_nest_takes}
-use Rattle.buffa_fields.specs.HeldMapFacts.{codec_reads_back}
-use Rattle.buffa_fields.specs.HeldMessageFacts.{merged_apart}
-use Rattle.buffa_fields.specs.Layout.{Layout, Shape}
-use Rattle.buffa_fields.specs.MapNests.{kid, kid_list, kids_in, kids_in-kid_list, map_nest_of, map_parts_of, nest_of-parts_of, no_kid, parts_of-nest_of}
-use Rattle.buffa_fields.specs.MemberRecords.{plain_records}
-use Rattle.buffa_fields.specs.Members.{field, skip}
-use Rattle.buffa_fields.specs.Refusals.{UnderAny}
-use Rattle.buffa_fields.specs.Values.{RefusesAlone, ValueTakesMemory, free, value_taken}
-use Rattle.sample_types.proofs.NumberLemmas.{flat_written}
-use Rattle.sample_types.specs.Grown.{Children, Grown, Label, grown}
-use Rattle.sample_types.specs.TreeEncoding.{child_entry, children_levels, children_records, children_slots, tree_encoding, tree_levels, tree_records, tree_slots}
-use Rattle.sample_types.specs.TreeMeaning.{ChildCost, ChildMeaning, kids_cost, kids_take, label_take, tree_cost, tree_field_need, tree_field_takes, tree_merged}
+use Rattle.buffa_map.specs.declared.map_entry.MapEntry.{MapEntry}
+use Rattle.buffa_fields.specs.Entries.{entry_cost, entry_taken, whole_entry_in}
+use Rattle.buffa_fields.specs.Knots.{KnotList, kid, knot, many, no_slot}
+use Rattle.buffa_fields.specs.Laying.{Laying, whole_takes}
+use Rattle.buffa_fields.specs.MapFields.{pair_taken, stepped}
+use Rattle.buffa_fields.specs.NestedMaps.{pair_levels, pair_records, pair_slots}
+use Rattle.buffa_fields.specs.PairShapes.{reading_by}
+use Rattle.buffa_fields.specs.Pairs.{child_pairs, keys_in, pairs_again, pairs_in, values_in}
+use Rattle.buffa_fields.specs.TiedFacts.{costs_alike}
+use Rattle.buffa_fields.specs.Told.{told}
+use Rattle.buffa_fields.specs.ToldFacts.{blank_is, cost_by_is, each_is, levels_are, merged_by_is, records_are, slots_are}
+use Rattle.buffa_fields.specs.Values.{all_of, value_taken}
+use Rattle.buffa_fields.specs.Words.{Words, encoding_by}
+use Rattle.sample_types.proofs.AlikeLemmas.{merged_as_told}
+use Rattle.sample_types.proofs.NumberLemmas.{plain_is}
+use Rattle.sample_types.specs.Trees.{Children, Grown, Own, child_entry, child_reading, entry_by, tree_entry_in, grown, label_in, row, tree_levels, tree_need, tree_records, tree_slots, tree_takes, whole_of}
+use Rattle.sample_types.specs.contracts.tree.TreeLaid.TheImpl.{ghosts}
 
--- ---- the keys, and the label as the one member
-abbrev pub tree_keys : Keys ℤ
-tree_keys = keys_by int32_reading int32_writing 4 int_cmp (FitsSigned w32) (λ _. Unit {0})
+abbrev pub tree_laying : Laying Grown
+tree_laying = ghosts.laying
 
-abbrev pub label_shape : Shape ℤ ℤ
-label_shape = record {
-  meaning = λ v. v;
-  blank = int32_reading.blank;
-  whole = true;
-  takes = value_taken int32_reading;
-  checks = λ n w. check_wire n Varint w;
-  refuses = UnderAny (RefusesAlone int32_reading (λ v. v));
-  asks = ValueTakesMemory int32_reading;
-  need = free;
-  records = plain_records is_zero (λ v. varint (cast_unsigned w64 v));
-  slots = λ _. [];
-  levels = λ _. 0;
-  Exact = Unit {0};
-  normal = λ v. FitsSigned w32 v × Unit {0};
-  stays = λ d n w p x h. refl;
-}
+abbrev pub tree_words : Words Grown
+tree_words = told ghosts.COST tree_laying ghosts.sound
 
-abbrev pub tree_own : Layout Label Label
-tree_own = field 1 (λ (o : Label). o.0) label_shape skip
+-- ---- a tree by what its members mean
+abbrev pub Meant : Type 0
+Meant = ℤ × ((List ℤ × KnotList Own) × Unit {0})
 
-pub keys_read_back : KeysReadBack tree_keys
-keys_read_back = codec_reads_back int32_reading int32_writing 4 int_cmp (FitsSigned w32) (λ _. Unit {0}) refl refl
-    (λ d old v fits normal. (number (cast_unsigned w64 v), IsVarint-varint_encoding (cast_unsigned w64 v) (int32_below v fits), ap (λ z. Ok (z, true)) (int32_means v fits))) int_cmp_total
+abbrev pub meant_by : ℤ → Children → Meant
+meant_by l es = (l, (pairs_in es, tt))
 
--- ---- takers, and needs, that are the same at a depth
-merged_alike : {X : Type 0} (f g : Taker X) (d : ℕ) → ((v : X) (n : ℕ) (w : WireType) (p : List ℕ) → f d v n w p ≡ g d v n w p) → (v : X) (b : List ℕ) → merged_of f d v b ≡ merged_of g d v b
-unfolding merged_of
-merged_alike f g d same v b = λ i. merged_by (λ v n w bs. skip_at d n w bs >>= (λ rest. answer rest (same v n w (front_of bs rest) i))) v b
+pub keys_same : (es : Children) → keys_of es ≡ keys_in es
+keys_same [] = refl
+keys_same (e ∷ es) = ap (λ (ks : List ℤ). e.0 ∷ ks) (keys_same es)
 
-costs_alike : (f g : Need) (d : ℕ) → ((n : ℕ) (w : WireType) (bs : List ℕ) → f d n w bs ≡ g d n w bs) → (b : List ℕ) → cost_of f d b ≡ cost_of g d b
-unfolding cost_of
-costs_alike f g d same b = λ i. cost_by (λ n w bs. same n w bs i) d b
+pub rows_same : (es : Children) → row es ≡ values_in es
+rows_same [] = refl
+rows_same (e ∷ es) = ap (kid e.1) (rows_same es)
 
--- ---- what bytes make of it, where the level below means m
-abbrev Parts : Type 0
-Parts = List (ℤ × Grown) × Label
+pub out_is : (l : ℤ) (es : Children) → tree_laying.out (grown l es) ≡ meant_by l es
+out_is l es = λ i. (l, ((keys_same es i, rows_same es i), tt))
 
-one_field : (i j : Bool) → (i ≡ true → j ≡ true → ⊥) → (a : Option ℤ) (b : Option (List (ℤ × Grown))) (l : ℤ) (cs : Children) →
-    (if i then option_map (λ new. grown new cs) a else if j then option_map (λ es. grown l (kids_in es)) b else Some (grown l cs))
-    ≡ option_map map_nest_of (let o : Option Parts = if j then option_map (λ x. (x, (l, tt))) b
-    else option_map (λ (y : Label). (kid_list cs, y)) (if i then option_map (λ x. (x, tt)) a else Some (l, tt)) in o)
-one_field true true apart a b l cs = absurd (apart refl refl)
-one_field true false apart None b l cs = refl
-one_field true false apart (Some x) b l cs = ap (λ z. Some (grown x z)) (sym (kids_in-kid_list cs))
-one_field false true apart a None l cs = refl
-one_field false true apart a (Some es) l cs = refl
-one_field false false apart a b l cs = ap (λ z. Some (grown l z)) (sym (kids_in-kid_list cs))
+pub into_is : (l : ℤ) (es : Children) → tree_laying.into (meant_by l es) ≡ grown l es
+into_is l es = λ i. knot (l, (sym (keys_same es) i, tt)) (many (sym (rows_same es) i) no_slot)
 
-takes_are : (m : ChildMeaning) (d : ℕ) (t : Grown) (n : ℕ) (w : WireType) (p : List ℕ) →
-    tree_field_takes m d t n w p ≡ option_map map_nest_of (map_nest_takes tree_keys tree_own 2 32 m d (map_parts_of t) n w p)
-takes_are m d (grown l cs) n w p =
-    one_field (n == 1) (n == 2) (λ one two. omega (arith, eqb-true n 1 one, eqb-true n 2 two)) (label_take d l n w p) (kids_take m d (kid_list cs) n w p) l cs
+pub children_again : (es : Children) → child_pairs (keys_of es) (row es) ≡ es
+children_again es = (λ i. child_pairs (keys_same es i) (rows_same es i)) ∙ pairs_again es
 
-at_level : (m : ChildMeaning) (d : ℕ) (t : Grown) (b : List ℕ) → merged_of (tree_field_takes m) d t b ≡ option_map map_nest_of (merged_of (map_nest_takes tree_keys tree_own 2 32 m) d (map_parts_of t) b)
-at_level m d t b =
-    let parts : Taker Parts = map_nest_takes tree_keys tree_own 2 32 m in
-    let apart : Taker Grown = λ d t n w p. option_map map_nest_of (parts d (map_parts_of t) n w p) in
-    merged_alike (tree_field_takes m) apart d (takes_are m d) t b
-    ∙ ap (λ z. merged_of apart d z b) (sym (nest_of-parts_of t))
-    ∙ merged_apart map_nest_of map_parts_of parts_of-nest_of parts d (map_parts_of t) b
+means_same : (es : Children) → means (λ (k : ℤ). k) (λ (m : Grown). m) es ≡ es
+means_same [] = refl
+means_same (e ∷ es) = ap (λ (fs : Children). e ∷ fs) (means_same es)
 
-pub tree_merged_is : (d : ℕ) (t : Grown) (b : List ℕ) → tree_merged d t b ≡ map_nest_merged tree_keys tree_own 2 32 d t b
-tree_merged_is zero t b = at_level (λ _ _. None) zero t b
-tree_merged_is (suc d) t b =
-    (λ i. merged_of (tree_field_takes (λ s c. tree_merged_is d s c i)) (suc d) t b) ∙ at_level (map_nest_merged tree_keys tree_own 2 32 d) (suc d) t b
+-- what contracts see of a tree is its label and its children
+pub seen_is : (l : ℤ) (es : Children) → (let ps = means (λ (k : ℤ). k) (λ (m : Grown). m) es in knot (l, (keys_in ps, tt)) (many (values_in ps) no_slot)) ≡ grown l es
+seen_is l es = ap (λ (ps : Children). tree_laying.into (meant_by l ps)) (means_same es) ∙ into_is l es
 
--- ---- what they cost
-either_nothing : (b : Bool) → nothing ≡ (let z : BudgetLeft = if b then nothing else nothing in z)
-either_nothing true = refl
-either_nothing false = refl
+-- ---- written
+entries_are : (es : Children) → pair_records int32_writing (encoding_by tree_words) 2 es ≡ map (λ (e : ℤ × Grown). (2, bytes (child_entry e.0 (encoding_by tree_words e.1)))) es
+unfolding pair_records
+entries_are [] = refl
+entries_are (e ∷ es) = ap (λ (rs : List (ℕ × Datum)). (2, bytes (child_entry e.0 (encoding_by tree_words e.1))) ∷ rs) (entries_are es)
 
-needs_are : (m : ChildMeaning) (c : ChildCost) (d n : ℕ) (w : WireType) (bs : List ℕ) → tree_field_need m c d n w bs ≡ map_nest_need tree_keys tree_own 2 32 m c d n w bs
-needs_are m c d n w bs = λ i. if n == 2 then kids_cost m c d n w bs else either_nothing (n == 1) i
+pub tree_records_are : (l : ℤ) (es : Children) → tree_words.records (grown l es) ≡ tree_records (encoding_by tree_words) l es
+tree_records_are l es =
+    records_are ghosts.COST tree_laying ghosts.sound (grown l es)
+    ∙ ap (tree_laying.layout tree_words).records (out_is l es)
+    ∙ (λ i. plain_is 1 l i ++ (append-nil (pair_records int32_writing (encoding_by tree_words) 2 (child_pairs (keys_in es) (values_in es)))
+    ∙ ap (pair_records int32_writing (encoding_by tree_words) 2) (pairs_again es) ∙ entries_are es) i)
 
-pub tree_cost_is : (d : ℕ) (b : List ℕ) → tree_cost d b ≡ map_nest_cost tree_keys tree_own 2 32 d b
-tree_cost_is zero b = costs_alike (tree_field_need (λ _ _. None) (λ _. nothing)) (map_nest_need tree_keys tree_own 2 32 (λ _ _. None) (λ _. nothing)) zero (needs_are (λ _ _. None) (λ _. nothing) zero) b
-tree_cost_is (suc d) b =
-    let m = map_nest_merged tree_keys tree_own 2 32 d in
-    let c = map_nest_cost tree_keys tree_own 2 32 d in
-    (λ i. cost_of (tree_field_need (λ s c. tree_merged_is d s c i) (λ c. tree_cost_is d c i)) (suc d) b)
-    ∙ costs_alike (tree_field_need m c) (map_nest_need tree_keys tree_own 2 32 m c) (suc d) (needs_are m c (suc d)) b
+slots_in_a_row : (es : Children) → pair_slots (encoding_by tree_words) tree_words.slots es ≡ tree_slots (encoding_by tree_words) tree_words.slots es
+unfolding pair_slots
+slots_in_a_row [] = refl
+slots_in_a_row (e ∷ es) = ap (λ (ss : List ℕ). cap (length (encoding_by tree_words e.1)) ∷ tree_words.slots e.1 ++ ss) (slots_in_a_row es)
 
--- ---- what it is written as
-mutual
-  pub tree_records_are : (t : Grown) → tree_records t ≡ map_nest_records tree_keys tree_own 2 32 t
-  tree_records_are (grown l cs) = λ i. sym (flat_written l) i ++ (children_records_are cs ∙ sym (append-nil (kid_records tree_keys tree_own 2 32 cs))) i
+pub tree_slots_are : (l : ℤ) (es : Children) → tree_words.slots (grown l es) ≡ tree_slots (encoding_by tree_words) tree_words.slots es
+tree_slots_are l es =
+    slots_are ghosts.COST tree_laying ghosts.sound (grown l es)
+    ∙ ap (tree_laying.layout tree_words).slots (out_is l es)
+    ∙ append-nil (pair_slots (encoding_by tree_words) tree_words.slots (child_pairs (keys_in es) (values_in es)))
+    ∙ ap (pair_slots (encoding_by tree_words) tree_words.slots) (pairs_again es)
+    ∙ slots_in_a_row es
 
-  pub children_records_are : (cs : Children) → children_records cs ≡ kid_records tree_keys tree_own 2 32 cs
-  children_records_are no_kid = refl
-  children_records_are (kid k t cs) = λ i. (2, bytes (child_entry k (records_encoding (tree_records_are t i)))) ∷ children_records_are cs i
+levels_in_a_row : (es : Children) → pair_levels tree_words.levels es ≡ tree_levels tree_words.levels es
+levels_in_a_row [] = refl
+levels_in_a_row (e ∷ es) = ap (λ k. max (suc (tree_words.levels e.1)) k) (levels_in_a_row es)
 
-pub tree_encoding_is : (t : Grown) → tree_encoding t ≡ records_encoding (map_nest_records tree_keys tree_own 2 32 t)
-tree_encoding_is t = ap records_encoding (tree_records_are t)
+pub tree_levels_are : (l : ℤ) (es : Children) → tree_words.levels (grown l es) ≡ tree_levels tree_words.levels es
+tree_levels_are l es =
+    levels_are ghosts.COST tree_laying ghosts.sound (grown l es)
+    ∙ ap (tree_laying.layout tree_words).levels (out_is l es)
+    ∙ no_more (pair_levels tree_words.levels (child_pairs (keys_in es) (values_in es)))
+    ∙ ap (pair_levels tree_words.levels) (pairs_again es)
+    ∙ levels_in_a_row es
+  where
+    no_more : (n : ℕ) → max 0 (max n 0) ≡ n
+    no_more n = omega arith
 
-mutual
-  pub tree_slots_are : (t : Grown) → tree_slots t ≡ map_nest_slots tree_keys tree_own 2 32 t
-  tree_slots_are (grown l cs) = children_slots_are cs ∙ sym (append-nil (kid_slots tree_keys tree_own 2 32 cs))
+-- ---- read
+abbrev pub inside : Reading Grown
+inside = child_reading tree_words.merged tree_words.cost
 
-  children_slots_are : (cs : Children) → children_slots cs ≡ kid_slots tree_keys tree_own 2 32 cs
-  children_slots_are no_kid = refl
-  children_slots_are (kid k t cs) = λ i. cap (length (tree_encoding_is t i)) ∷ tree_slots_are t i ++ children_slots_are cs i
+pub reading_is : reading_by tree_words ≡ inside
+reading_is = λ i. message_reading (blank_is ghosts.COST tree_laying ghosts.sound i) tree_words.merged tree_words.cost
 
--- ---- how deep it is
-mutual
-  pub tree_levels_are : (t : Grown) → tree_levels t ≡ map_nest_levels tree_keys tree_own 2 32 t
-  tree_levels_are (grown l cs) = omega (arith, children_levels_are cs)
+abbrev content : ℕ × List ℕ → Result (Content × List ℕ) DecodeError
+content x = Ok (number x.0, x.1)
 
-  children_levels_are : (cs : Children) → children_levels cs ≡ kid_levels tree_keys tree_own 2 32 cs
-  children_levels_are no_kid = refl
-  children_levels_are (kid k t cs) = λ i. max (suc (tree_levels_are t i)) (children_levels_are cs i)
+abbrev value : Content × List ℕ → Result ((ℤ × Bool) × List ℕ) DecodeError
+value x = Ok ((int32_of (number_in x.0), true), x.1)
 
--- ---- the size pass fails only where there are slots
-pub only_with_slots : {T E : Type 0} (r : Result T E) (ss : List ℕ) → (ss ≡ [] → IsOk r) → OnErr r (ss ≢ [])
-only_with_slots (Ok x) ss always = tt
-only_with_slots (Err e) ss always = λ none. let bad = always none in cc
+abbrev int32 : ℕ × List ℕ → Result (ℤ × List ℕ) DecodeError
+int32 x = Ok (int32_of x.0, x.1)
+
+number_same : (r : Result (ℕ × List ℕ) DecodeError) → all_of ((r >>= content) >>= value) ≡ whole_of (r >>= int32)
+number_same (Ok (k, [])) = refl
+number_same (Ok (k, b ∷ bs)) = refl
+number_same (Err e) = refl
+
+label_same : (d : ℕ) (l : ℤ) (n : ℕ) (wt : WireType) (p : List ℕ) → value_taken int32_reading d l n wt p ≡ label_in wt p
+label_same d l n wt p = λ i. if same_wire Varint wt then number_same (varint_at p) i else None
+
+module _ (d : ℕ) (es : Children) where
+  abbrev put : MapEntry ℤ Grown → Children
+  put s = cond s.known (insert_entry int_cmp es s.key s.value) es
+
+  put_same : (b : List ℕ) (o : Option (MapEntry ℤ Grown)) → option_map (λ (x : List ℕ × MapEntry ℤ Grown). stepped (insert_entry int_cmp) es x.1) (option_map (λ s. (b, s)) o) ≡ option_map put o
+  put_same b None = refl
+  put_same b (Some s) = refl
+
+  whole_same : (r : Result (List ℕ × List ℕ) DecodeError) →
+      option_map (λ (x : List ℕ × MapEntry ℤ Grown). stepped (insert_entry int_cmp) es x.1) (whole_entry_in int32_reading inside d r) ≡ option_map put (entry_by tree_words.merged tree_words.cost d (whole_of r))
+  whole_same (Ok (b, [])) = put_same b (value_of (entry_of int32_reading inside d b))
+  whole_same (Ok (b, c ∷ cs)) = refl
+  whole_same (Err e) = refl
+
+  entry_same : (n : ℕ) (wt : WireType) (p : List ℕ) → pair_taken int32_reading inside (insert_entry int_cmp) d es n wt p ≡ option_map put (tree_entry_in tree_words.merged tree_words.cost d wt p)
+  unfolding entry_taken
+  entry_same n wt p = by (same_wire LengthDelimited wt)
+    where
+      by : (b : Bool) → (if b then option_map (λ (x : List ℕ × MapEntry ℤ Grown). stepped (insert_entry int_cmp) es x.1) (whole_entry_in int32_reading inside d (delimited_at p)) else None)
+          ≡ option_map put (if b then entry_by tree_words.merged tree_words.cost d (whole_of (delimited_at p)) else None)
+      by true = whole_same (delimited_at p)
+      by false = refl
+
+abbrev pub grown_of : ℤ × Children → Grown
+grown_of x = grown x.0 x.1
+
+abbrev with_label : Children → ℤ → ℤ × Children
+with_label es l = (l, es)
+
+abbrev with_children : ℤ → Children → ℤ × Children
+with_children l es = (l, es)
+
+one_field : (i j : Bool) (a : Option ℤ) (fs : Option Children) (l : ℤ) (es : Children) →
+    option_map tree_laying.into (let o : Option Meant = if i then option_map (λ (x : ℤ). (x, (pairs_in es, tt))) a
+    else option_map (λ (y : (List ℤ × KnotList Own) × Unit {0}). (l, y)) (if j then option_map (λ (x : List ℤ × KnotList Own). (x, tt)) (option_map pairs_in fs)
+    else option_map (λ (y : Unit {0}). (pairs_in es, y)) (Some tt)) in o)
+    ≡ option_map grown_of (if i then option_map (with_label es) a else if j then option_map (with_children l) fs else Some (l, es))
+one_field true j None fs l es = refl
+one_field true j (Some x) fs l es = ap (λ z. Some z) (into_is x es)
+one_field false true a None l es = refl
+one_field false true a (Some gs) l es = ap (λ z. Some z) (into_is l gs)
+one_field false false a fs l es = ap (λ z. Some z) (into_is l es)
+
+takes_are : (d : ℕ) (x : ℤ × Children) (n : ℕ) (wt : WireType) (p : List ℕ) →
+    whole_takes tree_laying tree_words d (grown_of x) n wt p ≡ option_map grown_of (tree_takes tree_words.merged tree_words.cost d x n wt p)
+takes_are d (l, es) n wt p =
+    let taken : Reading Grown → Children → Option Children = λ val ps. pair_taken int32_reading val (insert_entry int_cmp) d ps n wt p in
+    ap (λ (y : Meant). option_map tree_laying.into ((tree_laying.layout tree_words).takes d y n wt p)) (out_is l es)
+    ∙ one_field (n == 1) (n == 2) (value_taken int32_reading d l n wt p) (taken (reading_by tree_words) (child_pairs (keys_in es) (values_in es))) l es
+    ∙ (λ i. option_map grown_of (if n == 1 then option_map (with_label es) (label_same d l n wt p i)
+    else if n == 2 then option_map (with_children l) (taken (reading_is i) (pairs_again es i)) else Some (l, es)))
+    ∙ (λ i. option_map grown_of (if n == 1 then option_map (with_label es) (label_in wt p)
+    else if n == 2 then option_map (with_children l) (entry_same d es n wt p i) else Some (l, es)))
+    ∙ put_there (n == 1) (n == 2) (option_map (with_label es) (label_in wt p)) (tree_entry_in tree_words.merged tree_words.cost d wt p)
+  where
+    twice : (o : Option (MapEntry ℤ Grown)) → option_map (with_children l) (option_map (put d es) o) ≡ option_map (λ s. with_children l (put d es s)) o
+    twice None = refl
+    twice (Some s) = refl
+
+    put_there : (i j : Bool) (a : Option (ℤ × Children)) (o : Option (MapEntry ℤ Grown)) →
+        option_map grown_of (if i then a else if j then option_map (with_children l) (option_map (put d es) o) else Some (l, es))
+        ≡ option_map grown_of (if i then a else if j then option_map (λ s. with_children l (put d es s)) o else Some (l, es))
+    put_there i j a o = λ k. option_map grown_of (if i then a else if j then twice o k else Some (l, es))
+
+pub tree_merged_is : (d : ℕ) (l : ℤ) (es : Children) (b : List ℕ) → tree_words.merged d (grown l es) b ≡ option_map grown_of (merged_of (tree_takes tree_words.merged tree_words.cost) d (l, es) b)
+tree_merged_is d l es b =
+    merged_by_is ghosts.COST tree_laying ghosts.sound d (grown l es) b
+    ∙ merged_as_told grown_of (tree_takes tree_words.merged tree_words.cost) (whole_takes tree_laying tree_words) d (takes_are d) (l, es) b
+
+-- ---- what it costs
+one_need : (i j s : Bool) (a : BudgetLeft) → (i ≡ true → j ≡ true → ⊥) → (let z : BudgetLeft = if i then nothing else if j then (if s then a else nothing) else nothing in z) ≡ (if j && s then a else nothing)
+one_need true true s a apart = absurd (apart refl refl)
+one_need true false s a apart = refl
+one_need false true true a apart = refl
+one_need false true false a apart = refl
+one_need false false s a apart = refl
+
+-- what an entry costs, where a child does so much
+abbrev paid : Reading Grown → ℕ → ℕ → List ℕ → BudgetLeft
+paid val each d bs = need_by (delimited_at bs) (λ e. need_of int32_reading val d (4 + each) e.0)
+
+pub tree_cost_is : (d : ℕ) (b : List ℕ) → tree_words.cost d b ≡ cost_of (tree_need tree_words.merged tree_words.cost) d b
+unfolding entry_cost
+tree_cost_is d b =
+    cost_by_is ghosts.COST tree_laying ghosts.sound d b
+    ∙ (λ i. costs_alike (tree_laying.layout tree_words).need (tree_need tree_words.merged tree_words.cost) d needs i b)
+  where
+    needs : (tree_laying.layout tree_words).need d ≡ tree_need tree_words.merged tree_words.cost d
+    needs = (λ i n wt bs. if n == 1 then nothing else if n == 2 then (if same_wire LengthDelimited wt then paid (reading_is i) (each_is ghosts.COST tree_laying ghosts.sound i) d bs else nothing) else nothing)
+        ∙ (λ i n wt bs. one_need (n == 1) (n == 2) (same_wire LengthDelimited wt) (paid inside 32 d bs) (λ one two. omega (arith, eqb-true n 1 one, eqb-true n 2 two)) i)

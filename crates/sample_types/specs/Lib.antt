@@ -6,11 +6,7 @@ pub mod Numbers
 pub mod Count
 pub mod CountFacts
 pub mod Passed
-pub mod Grown
-pub mod TreeEncoding
-pub mod TreeMeaning
-pub mod TreeRefused
 pub mod RoundTrip
-pub mod TreeFacts
+pub mod Trees
 pub mod Pinned
 pub mod Census

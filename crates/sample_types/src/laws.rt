@@ -1,10 +1,11 @@
 //! What the definitions of the samples say together: each law is a function with nothing to do, whose contract is the
 //! law.
 
-ghost use Rattle.std.specs.Prelude.{◌≡◌, ◌↔◌, ◌<◌, ◌+◌, ◌^◌, ℕ, ℤ, FitsSigned, List, [], ◌++◌, None, Some, if◌then◌else◌, pos, string_bytes};
+ghost use Rattle.std.specs.Prelude.{Bool, true, ◌≡◌, ◌↔◌, ◌<◌, ◌+◌, ◌^◌, ℕ, ℤ, FitsSigned, List, [], ◌++◌, None, Some, if◌then◌else◌, pos, string_bytes};
 ghost use Rattle.std.specs.Hash as fed;
 ghost use Rattle.std.specs.Int.{w32};
 ghost use Rattle.std.specs.List.{AllByRecursion};
+ghost use Rattle.std.specs.Option.{option_map};
 ghost use Rattle.std.specs.Ordering.{int_cmp, int_eq};
 ghost use Rattle.buffa_bytes.specs.Pinned.{IsCopied, SameIsOne};
 ghost use Rattle.buffa_bytes.specs.Varint.{IsByte};
@@ -19,15 +20,11 @@ ghost use Rattle.buffa_wire.specs.Records.{Datum, height, records_of};
 ghost use Rattle.buffa_wire.specs.Encoding.{records_encoding};
 ghost use Rattle.sample_types.specs.Count.{IsCountRefused, count_cost, count_merged, count_records, count_encoding};
 ghost use Rattle.sample_types.specs.Fields.{number_encoding, number_records, value_encoding, value_field, value_records};
-ghost use Rattle.buffa_fields.specs.MapNests.{kids_in, no_kid};
-ghost use Rattle.sample_types.specs.Grown.{Grown, grown};
 ghost use Rattle.sample_types.specs.Letters.{lower, same_letters};
 ghost use Rattle.sample_types.specs.Numbers.{ReadsAlone, flat_takes, two_field, two_takes};
 ghost use Rattle.sample_types.specs.Passed.{proxy};
 ghost use Rattle.sample_types.specs.Pinned.{PassIsPinned, TripIsPinned};
-ghost use Rattle.sample_types.specs.TreeMeaning.{tree_cost, tree_merged};
-ghost use Rattle.sample_types.specs.TreeRefused.{IsTreeRefused};
-ghost use Rattle.sample_types.specs.TreeEncoding.{IsNormalTree, tree_encoding, tree_levels, tree_records, tree_slots};
+ghost use Rattle.sample_types.specs.Trees.{Children, Grown, HasTreeFault, IsTreeOf, grown, tree_levels, tree_need, tree_records, tree_slots, tree_takes};
 
 use crate::count::CountMsg;
 use crate::flat::FlatMsg;
@@ -39,18 +36,58 @@ use crate::two::TestMsg;
 use crate::word::Word;
 use buffa_fields::fields::Fields;
 use buffa_fields::message::members_read_back;
+use buffa_fields::self_laws;
 use buffa_map::map_codec::{MapCodec, MapStorage};
 use buffa_wire::{Blank, Enumeration, MapKey, MessageSpec, ProtoString};
 use std::collections::BTreeMap;
 use std::hash::Hash;
 
-/// What bytes make of a normal tree is normal, and so is the blank one: in every map the keys ascend, and labels and
-/// keys are int32.
-pub fn trees_stay_normal()
-    ensures merged { (d : ℕ) (t u : Grown) (bs : List ℕ) → IsNormalTree t → tree_merged d t bs ≡ Some u →
-        IsNormalTree u }
-    ensures blank { IsNormalTree ⟦<Tree as Blank>⟧.blank_is }
-{}
+/// What a tree is as a message, one level at a time: what it is written as, what bytes make of it and cost, which fault
+/// refuses a field, and which trees read back. Of its children it says what the type says of any tree. Nothing is left out.
+pub fn trees_are_these(tree: &Tree)
+    ensures encoding { (t : Grown) →
+        ⟦<Tree as MessageSpec>⟧.encoding t ≡ records_encoding (⟦<Tree as MessageSpec>⟧.records t) }
+    ensures records { (l : ℤ) (es : Children) → ⟦<Tree as MessageSpec>⟧.records (grown l es)
+        ≡ tree_records ⟦<Tree as MessageSpec>⟧.encoding l es }
+    ensures slots { (l : ℤ) (es : Children) → ⟦<Tree as MessageSpec>⟧.slots (grown l es)
+        ≡ tree_slots ⟦<Tree as MessageSpec>⟧.encoding ⟦<Tree as MessageSpec>⟧.slots es }
+    ensures levels { (l : ℤ) (es : Children) → ⟦<Tree as MessageSpec>⟧.levels (grown l es)
+        ≡ tree_levels ⟦<Tree as MessageSpec>⟧.levels es }
+    ensures merged { (d : ℕ) (l : ℤ) (es : Children) (bs : List ℕ) → ⟦<Tree as MessageSpec>⟧.merged d (grown l es) bs
+        ≡ option_map (λ t. grown t.0 t.1)
+        (merged_of (tree_takes ⟦<Tree as MessageSpec>⟧.merged ⟦<Tree as MessageSpec>⟧.cost) d (l, es) bs) }
+    ensures cost { (d : ℕ) (bs : List ℕ) → ⟦<Tree as MessageSpec>⟧.cost d bs
+        ≡ cost_of (tree_need ⟦<Tree as MessageSpec>⟧.merged ⟦<Tree as MessageSpec>⟧.cost) d bs }
+    ensures refused { (d : ℕ) (l : ℤ) (es : Children) (n : ℕ) (w : _) (bs : List ℕ) (left : _) (e : _) (m : ℤ)
+        (fs : Children) → ⟦<Tree as MessageSpec>⟧.Refused d (grown l es) n w bs left e (grown m fs)
+        ↔ ((grown m fs ≡ grown l es)
+        × HasTreeFault ⟦<Tree as MessageSpec>⟧.merged ⟦<Tree as MessageSpec>⟧.cost d n w bs left e) }
+    ensures normal { (l : ℤ) (es : Children) → ⟦<Tree as MessageSpec>⟧.normal (grown l es)
+        ↔ IsTreeOf (λ t. ⟦<Tree as MessageSpec>⟧.normal t × Fits (records_of (⟦<Tree as MessageSpec>⟧.records t))) l es }
+    ensures fits { (l : ℤ) (es : Children) → Fits (records_of (⟦<Tree as MessageSpec>⟧.records (grown l es))) →
+        (⟦<Tree as MessageSpec>⟧.normal (grown l es) ↔ IsTreeOf ⟦<Tree as MessageSpec>⟧.normal l es) }
+    ensures only { (t : Grown) → ⟦<Tree as MessageSpec>⟧.normal t → (l : ℤ) × (es : Children) × (t ≡ grown l es) }
+    ensures blank { ⟦<Tree as Blank>⟧.blank_is ≡ grown (pos 0) [] }
+    ensures costs { ⟦<Tree as MessageSpec>⟧.COST ≡ 32 }
+{
+    self_laws::members_read_back(tree);
+}
+
+/// What bytes make of a normal tree is normal, where its records fit, and so is the blank one. And what holds of each tree
+/// whose label and keys are int32, whose keys ascend, and of whose children it holds, holds of what bytes make of such a tree.
+pub fn trees_stay_normal(tree: &Tree)
+    ensures merged { (d : ℕ) (t u : Grown) (bs : List ℕ) → ⟦<Tree as MessageSpec>⟧.normal t →
+        ⟦<Tree as MessageSpec>⟧.merged d t bs ≡ Some u → Fits (records_of (⟦<Tree as MessageSpec>⟧.records u)) →
+        ⟦<Tree as MessageSpec>⟧.normal u }
+    ensures all { (p : Grown → Bool) →
+        ((l : ℤ) (es : Children) → IsTreeOf (λ t. p t ≡ true) l es → p (grown l es) ≡ true) → (d : ℕ) (l : ℤ) (es : Children)
+        (u : Grown) (bs : List ℕ) → IsTreeOf (λ t. p t ≡ true) l es →
+        ⟦<Tree as MessageSpec>⟧.merged d (grown l es) bs ≡ Some u →
+        (m : ℤ) × (fs : Children) × (u ≡ grown m fs) × IsTreeOf (λ t. p t ≡ true) m fs }
+    ensures blank { ⟦<Tree as MessageSpec>⟧.normal ⟦<Tree as Blank>⟧.blank_is }
+{
+    self_laws::members_read_back(tree);
+}
 
 /// What bytes make of a normal message that keeps its fields is normal, and so is the blank one: the numbers that are read may
 /// be a field's, and the data are in range.
@@ -61,7 +98,8 @@ pub fn kept_fields_stay_normal()
     ensures blank { ⟦<BudgetMsg as MessageSpec>⟧.normal ⟦<BudgetMsg as Blank>⟧.blank_is }
 {}
 
-/// Which message each sample is: what bytes make of it, what they cost, and its encoding. Nothing is left out.
+/// Which message each sample is: what bytes make of it, what they cost, and its encoding; of trees `trees_are_these` says it.
+/// Nothing is left out.
 pub fn messages_are_these()
     ensures flat { ⟦<FlatMsg as MessageSpec>⟧.merged ≡ merged_of flat_takes }
     ensures flat_encoding { (v : _) → ⟦<FlatMsg as MessageSpec>⟧.encoding v ≡ value_encoding v.0 }
@@ -75,24 +113,17 @@ pub fn messages_are_these()
     ensures keep { (⟦<BudgetMsg as MessageSpec>⟧.merged ≡ merged_of keep_takes)
         × (⟦<BudgetMsg as MessageSpec>⟧.cost ≡ cost_of keep_need) }
     ensures keep_encoding { ⟦<BudgetMsg as MessageSpec>⟧.encoding ≡ records_encoding }
-    ensures tree { (⟦<Tree as MessageSpec>⟧.merged ≡ tree_merged) × (⟦<Tree as MessageSpec>⟧.cost ≡ tree_cost) }
-    ensures tree_encoding { ⟦<Tree as MessageSpec>⟧.encoding ≡ tree_encoding }
-    ensures tree_slots { ⟦<Tree as MessageSpec>⟧.slots ≡ tree_slots }
     ensures numbers_slots { (⟦<FlatMsg as MessageSpec>⟧.slots ≡ (λ _. [])) × (⟦<TestMsg as MessageSpec>⟧.slots ≡ (λ _. [])) }
     ensures lists_slots { (⟦<CountMsg as MessageSpec>⟧.slots ≡ (λ _. [])) × (⟦<BudgetMsg as MessageSpec>⟧.slots ≡ (λ _. [])) }
     ensures numbers_cost { (⟦<FlatMsg as MessageSpec>⟧.COST ≡ 4) × (⟦<TestMsg as MessageSpec>⟧.COST ≡ 32) }
     ensures lists_cost { (⟦<CountMsg as MessageSpec>⟧.COST ≡ 8) × (⟦<BudgetMsg as MessageSpec>⟧.COST ≡ 24) }
-    ensures tree_costs { ⟦<Tree as MessageSpec>⟧.COST ≡ 32 }
     ensures flat_records { (v : _) → ⟦<FlatMsg as MessageSpec>⟧.records v ≡ value_records v.0 }
     ensures two_records { (v : _) → ⟦<TestMsg as MessageSpec>⟧.records v
         ≡ number_records 1 v.0 ++ number_records 2 v.1.0 }
     ensures lists_records { (⟦<CountMsg as MessageSpec>⟧.records ≡ count_records)
         × (⟦<BudgetMsg as MessageSpec>⟧.records ≡ (λ rs. rs)) }
-    ensures tree_records { ⟦<Tree as MessageSpec>⟧.records ≡ tree_records }
     ensures count_refused { (d v n : ℕ) (w : _) (bs : List ℕ) (l : _) (e : _) (u : ℕ) →
         ⟦<CountMsg as MessageSpec>⟧.Refused d v n w bs l e u ↔ IsCountRefused d v n w bs l e u }
-    ensures tree_refused { (d : ℕ) (v : _) (n : ℕ) (w : _) (bs : List ℕ) (l : _) (e : _) (u : _) →
-        ⟦<Tree as MessageSpec>⟧.Refused d v n w bs l e u ↔ IsTreeRefused d v n w bs l e u }
 {}
 
 /// What the values of the samples of numbers mean: their fields. Nothing is left out.
@@ -115,7 +146,7 @@ pub fn messages_are_what_they_mean()
 
 /// What a tree means is what its fields hold: its label, and its children by their keys. Nothing is left out.
 pub fn trees_hold_these(tree: &Tree) -> (&i32, &BTreeMap<i32, Tree>)
-    ensures { tree.now ≡ grown result.0.now (kids_in result.1.now.entries) }
+    ensures { tree.now ≡ grown result.0.now result.1.now.entries }
 {
     (&tree.label, &tree.children)
 }
@@ -138,25 +169,23 @@ pub fn levels_are_exact()
     ensures keep { (d : ℕ) (rs : List (ℕ × Datum)) → Fits (records_of (⟦<BudgetMsg as MessageSpec>⟧.records rs)) →
         ⟦<BudgetMsg as MessageSpec>⟧.normal rs → d < ⟦<BudgetMsg as MessageSpec>⟧.levels rs →
         ⟦<BudgetMsg as MessageSpec>⟧.merged d [] (⟦<BudgetMsg as MessageSpec>⟧.encoding rs) ≡ None }
-{}
+{
+    self_laws::levels_are_exact::<Tree>();
+}
 
-/// Which values of each sample are read back from their encoding, and how deep it nests. Of a tree this is said where no
-/// record of its own is too long to be read; nothing else is left out.
+/// Which values of each sample are read back from their encoding, and how deep it nests; of trees `trees_are_these` says it. Nothing
+/// is left out.
 pub fn messages_are_read_back(flat: &FlatMsg, two: &TestMsg)
     ensures flat { (v : _) → ⟦<FlatMsg as MessageSpec>⟧.normal v ↔ FitsSigned w32 v.0 }
     ensures two { (v : _) → ⟦<TestMsg as MessageSpec>⟧.normal v ↔ (FitsSigned w32 v.0 × FitsSigned w32 v.1.0) }
     ensures count { (n : ℕ) → ⟦<CountMsg as MessageSpec>⟧.normal n ↔ (n < 2 ^ 64) }
     ensures keep { (rs : List (ℕ × Datum)) → ⟦<BudgetMsg as MessageSpec>⟧.normal rs ↔ AreValid (records_of rs) }
-    ensures tree { (t : Grown) → Fits (records_of (⟦<Tree as MessageSpec>⟧.records t)) →
-        (⟦<Tree as MessageSpec>⟧.normal t ↔ IsNormalTree t) }
-    ensures tree_long { (t : Grown) → ⟦<Tree as MessageSpec>⟧.normal t → IsNormalTree t }
-    ensures deep { (⟦<BudgetMsg as MessageSpec>⟧.levels ≡ height) × (⟦<Tree as MessageSpec>⟧.levels ≡ tree_levels) }
+    ensures deep { ⟦<BudgetMsg as MessageSpec>⟧.levels ≡ height }
     ensures flat_levels { (⟦<FlatMsg as MessageSpec>⟧.levels ≡ (λ _. 0)) × (⟦<TestMsg as MessageSpec>⟧.levels ≡ (λ _. 0))
         × (⟦<CountMsg as MessageSpec>⟧.levels ≡ (λ _. 0)) }
     ensures blank { (⟦<FlatMsg as Blank>⟧.blank_is ≡ (pos 0, tt))
         × (⟦<TestMsg as Blank>⟧.blank_is ≡ (pos 0, (pos 0, tt))) }
     ensures blank_lists { (⟦<CountMsg as Blank>⟧.blank_is ≡ 0) × (⟦<BudgetMsg as Blank>⟧.blank_is ≡ []) }
-    ensures blank_tree { ⟦<Tree as Blank>⟧.blank_is ≡ grown (pos 0) no_kid }
 {
     members_read_back(flat);
     members_read_back(two);

@@ -1,30 +1,27 @@
-//! A message that holds itself: a plain struct with a map of its own type, in the form [`Held`]. The functions are those of
-//! [`Message`] in words of trees.
+//! A message that holds itself: a plain struct with a map of its own type, in the form [`SelfListed`]. The functions are those
+//! of [`Message`]; what a tree is as a message its type says, and the law `trees_are_these`.
 
 ghost use Rattle.std.specs.Prelude.{IfErr, OnErr, [], ◌≢◌};
 ghost use Rattle.std.proofs.Common.{lit<, refl};
 ghost use Rattle.buffa_bytes.specs.Gives.{FullOnlyIf};
 ghost use Rattle.buffa_wire.specs.Message.{BeginsField, IsMerged, Stands};
 ghost use Rattle.buffa_wire.specs.Passes.{IsNext, IsSized, IsWritten};
-ghost use Rattle.buffa_fields.specs.Members.{field, skip};
-ghost use Rattle.buffa_fields.specs.NamedMaps.{map_put, put_map};
-ghost use Rattle.sample_types.specs.Grown.{blank_tree};
-ghost use Rattle.sample_types.specs.TreeEncoding.{tree_encoding, tree_slots};
-ghost use Rattle.sample_types.specs.TreeFacts.{tree_means};
-ghost use Rattle.sample_types.specs.TreeMeaning.{tree_cost, tree_merged};
-ghost use Rattle.sample_types.specs.TreeRefused.{IsTreeRefused};
+ghost use Rattle.buffa_fields.specs.Open.{knotted, map_inside, member, skips};
 
-use buffa_fields::held_map::MapNestMeaning;
-use buffa_fields::holds_map::{Held, HoldingMap, HoldsMap};
+use buffa_fields::inside_maps::take_map;
 use buffa_fields::kept;
-use buffa_fields::meaning::And;
+use buffa_fields::keyed::{ByKey, Keyed};
+use buffa_fields::laid::Laid;
 use buffa_fields::member::Member;
 use buffa_fields::plain::Plain;
-use buffa_fields::visitor::Visitor;
+use buffa_fields::self_fields::SelfFields;
+use buffa_fields::self_listing::{SelfListed, SelfListing};
+use buffa_fields::self_merger::SelfMerger;
+use buffa_fields::self_visitor::SelfVisitor;
 use buffa_map::map_codec::Int32;
 use buffa_wire::{
-    Blank, Budget, DecodeContext, DecodeError, EncodeError, EncodeSink, Formed, Message, SizeCache,
-    Tag,
+    Blank, Budget, DecodeContext, DecodeError, EncodeError, EncodeSink, Formed, Message,
+    MessageSpec, SizeCache, Tag,
 };
 use std::alloc::Global;
 use std::collections::BTreeMap;
@@ -44,27 +41,68 @@ pub struct Tree {
 }
 
 impl Model for Tree {
-    ghost use Rattle.buffa_fields.specs.MapNests.{kids_in, map_nest_height, most-map_nest_heights};
-    ghost use Rattle.sample_types.specs.Grown.{Grown, grown, grown_code};
+    ghost use Rattle.std.specs.Prelude.{List, ℤ};
+    ghost use Rattle.std.specs.Coded.{coded_list, coded_ℤ, coded×};
     ghost use Rattle.std.proofs.Common.{arith};
+    ghost use Rattle.buffa_map.specs.Pairs.{means};
+    ghost use Rattle.buffa_fields.specs.Pairs.{keys_in, most-of_map, values_in};
+    ghost use Rattle.buffa_fields.specs.Knots.{Knot, coded_knot, knot, knot_height, many, no_slot};
+    ghost use base.Stored.{coded_unit};
 
-    ghost Value = { Grown };
+    ghost Value = { Knot (ℤ × (List ℤ × Unit {0})) };
 
-    ghost coded = { grown_code };
+    ghost coded = { coded_knot (coded× coded_ℤ (coded× (coded_list coded_ℤ) coded_unit)) };
 
-    ghost view = { λ t. grown t.label (kids_in t.children.entries) };
+    ghost view = { λ t. let pairs = means (λ k. k) (λ m. m) t.children.entries in
+        knot (t.label, (keys_in pairs, tt)) (many (values_in pairs) no_slot) };
 
-    ghost size = { map_nest_height };
+    ghost size = { knot_height };
 
-    ghost size_decreases = { λ t h. omega (arith, most-map_nest_heights t.children.entries) };
+    ghost size_decreases = { λ t h. omega (arith, most-of_map (λ k. k) t.children.entries) };
+}
+
+impl Laid for Tree {
+    const COST: usize = 32;
+
+    ghost COST = { 32 };
+
+    ghost positive = { lit< tt };
+
+    ghost laying = { knotted (
+        member 1 ⟦<Plain<Int32> as Member>⟧.shape (
+        map_inside 2 ⟦<ByKey<Int32> as Keyed>⟧.keys skips)) };
+
+    ghost sound = { λ w. refl };
+}
+
+impl SelfFields for Tree {
+    fn visit<V: SelfVisitor<Tree>>(&self, visitor: &mut V) {
+        visitor.visit::<Plain<Int32>>(1, &self.label);
+        visitor.visit_map::<Int32>(2, &self.children);
+    }
+
+    fn take<I: SelfMerger<Tree>>(
+        &mut self,
+        alloc: Global,
+        tag: Tag,
+        buf: &mut &[u8],
+        ctx: DecodeContext<'_>,
+        inner: &I,
+    ) -> Result<(), DecodeError> {
+        match tag.field_number() {
+            1 => Plain::<Int32>::merge(&mut self.label, alloc, tag, buf, ctx),
+            2 => take_map::<Int32, Tree, I>(&mut self.children, alloc, tag, buf, ctx, inner),
+            _ => kept::pass(tag, buf, ctx),
+        }
+    }
 }
 
 impl Blank for Tree {
-    type Meaning = MapNestMeaning<i32, And<i32, ()>>;
+    type Meaning = Tree;
 
-    ghost meaning = { λ t. t };
+    ghost meaning = { λ m. m };
 
-    ghost blank_is = { blank_tree };
+    ghost blank_is = { ⟦<Tree as Laid>⟧.laying.into ⟦<Tree as Laid>⟧.laying.blank };
 
     fn blank(alloc: Global) -> Tree {
         Tree {
@@ -74,76 +112,14 @@ impl Blank for Tree {
     }
 }
 
-impl HoldsMap for Tree {
-    type Key = i32;
-
-    type KeyCodec = Int32;
-
-    type Inside = BTreeMap<i32, Tree>;
-
-    // The label is its own meaning.
-    type Own = And<i32, ()>;
-
-    type Words = And<i32, ()>;
-
-    const COST: usize = 32;
-
-    ghost COST = { 32 };
-
-    ghost positive = { lit< tt };
-
-    const NUMBER: u32 = 2;
-
-    ghost NUMBER = { 2 };
-
-    ghost own = { field 1 (λ o. o.0) ⟦<Plain<Int32> as Member>⟧.shape skip };
-
-    ghost sound = { refl };
-
-    ghost other = { refl };
-
-    ghost nest = { λ t. t };
-
-    ghost with_inside = { put_map };
-
-    fn inside(&self) -> &BTreeMap<i32, Tree> {
-        &self.children
-    }
-
-    fn inside_mut(&mut self) -> &mut BTreeMap<i32, Tree> {
-        &mut self.children
-    }
-
-    fn front<V: Visitor>(&self, visitor: &mut V) {
-        visitor.visit::<Plain<Int32>>(1, &self.label);
-    }
-
-    fn behind<V: Visitor>(&self, _visitor: &mut V) {}
-
-    fn take(
-        &mut self,
-        alloc: Global,
-        tag: Tag,
-        buf: &mut &[u8],
-        ctx: DecodeContext<'_>,
-    ) -> Result<(), DecodeError> {
-        match tag.field_number() {
-            1 => Plain::<Int32>::merge(&mut self.label, alloc, tag, buf, ctx),
-            _ => kept::pass(tag, buf, ctx),
-        }
-    }
-}
-
-impl HoldingMap for Tree {
-    ghost means = { tree_means };
+impl SelfListing for Tree {
+    ghost means = { λ m. refl };
 
     ghost starts = { refl };
-
-    ghost puts = { map_put };
 }
 
 impl Formed for Tree {
-    type Form = Held;
+    type Form = SelfListed;
 }
 
 /// The size pass: the length of the encoding, and the slots of the children appended.
@@ -155,8 +131,9 @@ impl Formed for Tree {
 /// let size = size_tree(&tree, &mut cache)?;
 /// ```
 pub fn size_tree(tree: &Tree, cache: &mut SizeCache) -> Result<u32, EncodeError>
-    ensures sized { IsSized (tree_encoding tree.now) (tree_slots tree.now) cache.old result cache.new }
-    ensures some { OnErr result (tree_slots tree.now ≢ []) }
+    ensures sized { IsSized (⟦<Tree as MessageSpec>⟧.encoding tree.now) (⟦<Tree as MessageSpec>⟧.slots tree.now) cache.old
+        result cache.new }
+    ensures some { OnErr result (⟦<Tree as MessageSpec>⟧.slots tree.now ≢ []) }
 {
     tree.compute_size(cache)
 }
@@ -171,9 +148,9 @@ pub fn write_tree<S: EncodeSink>(
     cache: &mut SizeCache,
     sink: &mut S,
 ) -> Result<(), EncodeError>
-    requires { IsNext (tree_slots tree.now) cache.old }
-    ensures { IsWritten (tree_encoding tree.now) (tree_slots tree.now) cache.old (S.written sink.old) result cache.new
-        (S.written sink.new) }
+    requires { IsNext (⟦<Tree as MessageSpec>⟧.slots tree.now) cache.old }
+    ensures { IsWritten (⟦<Tree as MessageSpec>⟧.encoding tree.now) (⟦<Tree as MessageSpec>⟧.slots tree.now) cache.old
+        (S.written sink.old) result cache.new (S.written sink.new) }
 {
     tree.write_to(cache, sink)
 }
@@ -194,10 +171,10 @@ pub fn merge_tree(
     depth: u32,
     budget: &mut Budget,
 ) -> Result<(), DecodeError>
-    ensures merged { IsMerged (tree_merged depth tree.old bytes.now) (tree_cost depth bytes.now) budget.old result tree.new
-        budget.new }
-    ensures stands { IfErr result (λ e. Stands tree_merged tree_cost IsTreeRefused depth tree.old bytes.now budget.old e
-        tree.new) }
+    ensures merged { IsMerged (⟦<Tree as MessageSpec>⟧.merged depth tree.old bytes.now)
+        (⟦<Tree as MessageSpec>⟧.cost depth bytes.now) budget.old result tree.new budget.new }
+    ensures stands { IfErr result (λ e. Stands ⟦<Tree as MessageSpec>⟧.merged ⟦<Tree as MessageSpec>⟧.cost
+        ⟦<Tree as MessageSpec>⟧.Refused depth tree.old bytes.now budget.old e tree.new) }
     ensures full { FullOnlyIf result (BeginsField bytes.now) }
 {
     let mut rest = bytes;

@@ -1,15 +1,13 @@
 //! Messages by their fields.
 
-ghost use Rattle.std.specs.Prelude.{◌≤◌, List, ℕ};
-ghost use Rattle.buffa_fields.specs.MapNests.{map_own_of};
+ghost use Rattle.std.specs.Prelude.{◌≤◌};
 ghost use Rattle.buffa_fields.specs.Layout.{Comes};
 
-use buffa::fields::{Fields, Holds, HoldsMap, Keeping, Listing, MapNest, Member, Visitor};
+use buffa::fields::{Fields, Keeping, Listing, Member, Visitor};
 use buffa::{DecodeContext, DecodeError, EncodeError, EncodeSink, SizeCache, Tag, UnknownFields};
 use buffa_fields::sizer::Sizer;
 use buffa_fields::writer::Writer;
 use std::alloc::Global;
-use std::collections::BTreeMap;
 
 pub fn fields_visit<M: Fields, V: Visitor>(message: &M, visitor: &mut V)
     requires { V.Waits (M.layout.slots (M.layout.meaning message.now)) visitor.old }
@@ -18,70 +16,6 @@ pub fn fields_visit<M: Fields, V: Visitor>(message: &M, visitor: &mut V)
 }
 
 pub fn fields_take<M: Fields>(
-    message: &mut M,
-    alloc: Global,
-    tag: Tag,
-    buf: &mut &[u8],
-    ctx: DecodeContext<'_>,
-) -> Result<(), DecodeError> {
-    message.take(alloc, tag, buf, ctx)
-}
-
-pub fn holds_blank<O: Holds>(alloc: Global) -> O {
-    O::blank(alloc)
-}
-
-pub fn holds_front<O: Holds, V: Visitor>(own: &O, visitor: &mut V)
-    requires { (rest : List ℕ) × V.Waits (O.layout.front_slots O.NUMBER (O.layout.meaning own.now) rest) visitor.old }
-{
-    own.front::<V>(visitor)
-}
-
-pub fn holds_behind<O: Holds, V: Visitor>(own: &O, visitor: &mut V)
-    requires { V.Waits (O.layout.slots_behind O.NUMBER (O.layout.meaning own.now)) visitor.old }
-{
-    own.behind::<V>(visitor)
-}
-
-pub fn holds_take<O: Holds>(
-    own: &mut O,
-    alloc: Global,
-    tag: Tag,
-    buf: &mut &[u8],
-    ctx: DecodeContext<'_>,
-) -> Result<(), DecodeError> {
-    own.take(alloc, tag, buf, ctx)
-}
-
-pub fn map_nest_new<KC, K: Ord, O>(
-    own: O,
-    inside: BTreeMap<K, MapNest<KC, K, O>>,
-) -> MapNest<KC, K, O> {
-    MapNest::new(own, inside)
-}
-
-pub fn holds_map_inside<M: HoldsMap>(message: &M) -> &M::Inside {
-    message.inside()
-}
-
-pub fn holds_map_inside_mut<M: HoldsMap>(message: &mut M) -> &mut M::Inside {
-    message.inside_mut()
-}
-
-pub fn holds_map_front<M: HoldsMap, V: Visitor>(message: &M, visitor: &mut V)
-    requires { (rest : List ℕ)
-        × V.Waits (M.own.front_slots M.NUMBER (M.own.meaning (map_own_of (M.nest message.now))) rest) visitor.old }
-{
-    message.front::<V>(visitor)
-}
-
-pub fn holds_map_behind<M: HoldsMap, V: Visitor>(message: &M, visitor: &mut V)
-    requires { V.Waits (M.own.slots_behind M.NUMBER (M.own.meaning (map_own_of (M.nest message.now)))) visitor.old }
-{
-    message.behind::<V>(visitor)
-}
-
-pub fn holds_map_take<M: HoldsMap>(
     message: &mut M,
     alloc: Global,
     tag: Tag,

@@ -20,6 +20,7 @@ pub mod members;
 pub mod messages;
 pub mod records;
 pub mod samples;
+pub mod self_fields;
 pub mod types;
 pub mod values;
 pub mod wire;

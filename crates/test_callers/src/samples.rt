@@ -2,7 +2,6 @@
 
 ghost use Rattle.buffa_wire.specs.Passes.{IsNext};
 ghost use Rattle.sample_node.specs.NodeEncoding.{node_slots};
-ghost use Rattle.sample_node.specs.Branch.{node_means};
 
 use buffa::samples::Node;
 use buffa::{Budget, DecodeError, EncodeError, EncodeSink, SizeCache};
@@ -17,7 +16,7 @@ pub fn write_node<S: EncodeSink>(
     cache: &mut SizeCache,
     sink: &mut S,
 ) -> Result<(), EncodeError>
-    requires { IsNext (node_slots (node_means node.now)) cache.old }
+    requires { IsNext (node_slots node.now) cache.old }
 {
     buffa::samples::write_node::<S>(node, cache, sink)
 }

@@ -21,7 +21,6 @@ fn read(alloc: Global, hex: &str) -> Result<(FileDescriptorSet, Vec<u8>), Fail> 
 
 fn is_called(message: &DescriptorProto, name: &str) -> bool {
     message
-        .own
         .name
         .as_ref()
         .is_some_and(|own| own.as_str() == name)
@@ -50,8 +49,8 @@ fn descriptor_proto_is_described(rt: HostRuntime) -> Result<(), Fail> {
     let (set, _) = read(alloc, sets::DESCRIPTOR)?;
     let none = DescriptorProto::blank(alloc);
     let message = type_at(&set, 4).unwrap_or(&none);
-    assert!(rt; is_called(message, "FieldDescriptorProto") && message.own.enum_type.len() == 2);
-    for field in &message.own.field {
+    assert!(rt; is_called(message, "FieldDescriptorProto") && message.enum_type.len() == 2);
+    for field in &message.field {
         if field.number == Some(4) {
             assert!(rt; field.type_ == Some(FieldDescriptorProtoType::Enum));
             assert!(rt; field.label == Some(FieldDescriptorProtoLabel::Optional));
@@ -66,10 +65,10 @@ fn options_are_extensions(rt: HostRuntime) -> Result<(), Fail> {
     let (set, _) = read(alloc, sets::SHOP)?;
     let none = DescriptorProto::blank(alloc);
     let order = type_at(&set, 1).unwrap_or(&none);
-    assert!(rt; is_called(order, "Order") && order.own.field.len() == 7);
+    assert!(rt; is_called(order, "Order") && order.field.len() == 7);
     let least = Extension::<Sint64>::new(50002, FieldOptions::PROTO_FQN);
     let deprecated = Extension::<Bool>::new(3, FieldOptions::PROTO_FQN);
-    for field in &order.own.field {
+    for field in &order.field {
         if let Some(options) = &field.options {
             assert!(rt; field.number != Some(3) || options.extension(alloc, &least)? == Some(-50));
             assert!(rt;
@@ -86,9 +85,9 @@ fn nested_types_are_read_to_any_depth(rt: HostRuntime) -> Result<(), Fail> {
     let (set, _) = read(alloc, sets::SHOP)?;
     let none = DescriptorProto::blank(alloc);
     let order = type_at(&set, 1).unwrap_or(&none);
-    assert!(rt; order.inside.len() == 2);
-    for found in &order.inside {
-        assert!(rt; found.inside.len() == 1 || is_called(found, "LabelsEntry"));
+    assert!(rt; order.nested_type.len() == 2);
+    for found in &order.nested_type {
+        assert!(rt; found.nested_type.len() == 1 || is_called(found, "LabelsEntry"));
     }
     Ok(())
 }

@@ -1,6 +1,5 @@
 //! Failures and what caused them. The bytes are worked out by hand, from the protobuf encoding guide.
 
-use buffa::laws::held_ones::members_are_parts;
 use buffa::{Blank, Budget, DecodeContext, DecodeError, Message, SizeCache};
 use sample_failure::failure::Failure;
 use std::string::String;
@@ -19,7 +18,7 @@ fn causes_are_passed_on(rt: HostRuntime) -> Result<(), Fail> {
         0x20, 0x07, // field 4 isn't declared
     ];
     failure.merge_from_slice(alloc, &bytes)?;
-    assert!(rt; failure.own.reason.as_str() == "vw" && failure.own.rest.len() == 1);
+    assert!(rt; failure.reason.as_str() == "vw" && failure.rest.len() == 1);
     let again: [u8; 19] = [
         0x0A, 0x02, 0x76, 0x77, // the reason,
         0x12, 0x09, 0x12, 0x03, 0x0A, 0x01, 0x78, 0x18, 0x07, 0x18, 0x08, // the cause,
@@ -56,10 +55,9 @@ fn a_second_cause_is_merged_into_the_first(rt: HostRuntime) -> Result<(), Fail> 
 fn an_empty_cause_is_there(rt: HostRuntime) -> Result<(), Fail> {
     let alloc = rt.alloc();
     let mut failure: Failure = Blank::blank(alloc);
-    assert!(rt; failure.inside.is_none());
+    assert!(rt; failure.cause.is_none());
     failure.merge_from_slice(alloc, &[0x12, 0x00])?;
-    let (own, inside) = members_are_parts(&failure);
-    assert!(rt; own.lines.len() == 0 && inside.is_some());
+    assert!(rt; failure.lines.len() == 0 && failure.cause.is_some());
     let encoding = failure.try_encode_to_vec(alloc)?;
     assert!(rt; encoding.as_slice() == [0x12, 0x00].as_slice());
     Ok(())
@@ -74,7 +72,7 @@ fn a_cause_too_deep_is_refused(rt: HostRuntime) -> Result<(), Fail> {
     let mut buf: &[u8] = &bytes;
     let answer = failure.merge(alloc, &mut buf, DecodeContext::new(1, &mut budget));
     assert!(rt; answer == Err(DecodeError::RecursionLimitExceeded));
-    assert!(rt; failure.inside.is_none());
+    assert!(rt; failure.cause.is_none());
     Ok(())
 }
 
@@ -88,7 +86,7 @@ fn a_cause_stands_where_a_second_is_refused(rt: HostRuntime) -> Result<(), Fail>
     ];
     let answer = failure.merge_from_slice(alloc, &bytes);
     assert!(rt; answer == Err(DecodeError::UnexpectedEof));
-    assert!(rt; failure.inside.is_some());
+    assert!(rt; failure.cause.is_some());
     Ok(())
 }
 
@@ -97,8 +95,8 @@ fn a_cause_is_set(rt: HostRuntime) -> Result<(), Fail> {
     let alloc = rt.alloc();
     let mut failure: Failure = Blank::blank(alloc);
     let mut cause: Failure = Blank::blank(alloc);
-    cause.own.reason = String::from_str(alloc, "x")?;
-    failure.inside = Some(Box::new(alloc, cause)?);
+    cause.reason = String::from_str(alloc, "x")?;
+    failure.cause = Some(Box::new(alloc, cause)?);
     let encoding = failure.try_encode_to_vec(alloc)?;
     assert!(rt; encoding.as_slice() == [0x12, 0x03, 0x0A, 0x01, 0x78].as_slice());
     Ok(())

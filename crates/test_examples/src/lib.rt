@@ -10,8 +10,6 @@ mod examples;
 #[cfg(test)]
 mod failure;
 #[cfg(test)]
-mod folder;
-#[cfg(test)]
 mod held;
 #[cfg(test)]
 mod node;

@@ -1,10 +1,7 @@
 //! Settings in settings. The bytes are worked out by hand, from the protobuf encoding guide.
 
-use buffa::fields::Holds;
-use buffa::laws::held_maps::members_are_parts;
 use buffa::{Blank, Budget, DecodeContext, DecodeError, Message, SizeCache};
-use sample_settings::settings::{Settings, SettingsOwn};
-use std::collections::BTreeMap;
+use sample_settings::settings::Settings;
 use std::string::String;
 use std::test::Fail;
 
@@ -23,9 +20,9 @@ fn sections_are_passed_on(rt: HostRuntime) -> Result<(), Fail> {
     ];
     settings.merge_from_slice(alloc, &bytes)?;
     assert!(rt;
-        settings.inside.len() == 2 && settings.own.ports.len() == 1 && settings.own.rest.len() == 1
+        settings.sections.len() == 2 && settings.ports.len() == 1 && settings.rest.len() == 1
     );
-    assert!(rt; settings.own.value.as_str() == "vw");
+    assert!(rt; settings.value.as_str() == "vw");
     let again: [u8; 34] = [
         0x0A, 0x02, 0x76, 0x77, // the value,
         0x12, 0x0C, 0x0A, 0x02, 0x61, 0x61, // the sections, in the order of their keys' bytes,
@@ -69,7 +66,7 @@ fn a_section_too_deep_is_refused(rt: HostRuntime) -> Result<(), Fail> {
     let mut buf: &[u8] = &bytes;
     let answer = settings.merge(alloc, &mut buf, DecodeContext::new(1, &mut budget));
     assert!(rt; answer == Err(DecodeError::RecursionLimitExceeded));
-    assert!(rt; settings.inside.len() == 0);
+    assert!(rt; settings.sections.len() == 0);
     Ok(())
 }
 
@@ -79,21 +76,19 @@ fn a_section_whose_name_is_no_text_is_refused(rt: HostRuntime) -> Result<(), Fai
     let mut settings: Settings = Blank::blank(alloc);
     let answer = settings.merge_from_slice(alloc, &[0x12, 0x05, 0x0A, 0x01, 0xFF, 0x12, 0x00]);
     assert!(rt; answer == Err(DecodeError::InvalidUtf8));
-    assert!(rt; settings.inside.len() == 0);
+    assert!(rt; settings.sections.len() == 0);
     Ok(())
 }
 
 #[test]
-fn settings_are_made_of_their_members(rt: HostRuntime) -> Result<(), Fail> {
+fn a_section_is_put_into_settings(rt: HostRuntime) -> Result<(), Fail> {
     let alloc = rt.alloc();
-    let mut own = SettingsOwn::blank(alloc);
-    own.value = String::from_str(alloc, "x")?;
-    let settings = Settings::new(own, BTreeMap::new(alloc));
-    let (own, inside) = members_are_parts(&settings);
-    assert!(rt; own.value.as_str() == "x" && inside.len() == 0);
-    let mut sections = BTreeMap::new(alloc);
-    sections.insert(String::from_str(alloc, "a")?, settings)?;
-    let outer = Settings::new(SettingsOwn::blank(alloc), sections);
+    let mut outer = Settings::blank(alloc);
+    let mut section = Settings::blank(alloc);
+    section.value = String::from_str(alloc, "x")?;
+    outer
+        .sections
+        .insert(String::from_str(alloc, "a")?, section)?;
     let bytes: [u8; 10] = [
         0x12, 0x08, 0x0A, 0x01, 0x61, 0x12, 0x03, 0x0A, 0x01, 0x78, // the section "a" has the value "x"
     ];

@@ -95,9 +95,9 @@ fn places_are_gone_through(rt: HostRuntime) -> Result<(), Fail> {
     let alloc = rt.alloc();
     let mut house = place(alloc, "house")?;
     let mut cellar = place(alloc, "cellar")?;
-    cellar.inside.push(place(alloc, "shelf")?)?;
-    house.inside.push(cellar)?;
-    house.inside.push(place(alloc, "roof")?)?;
+    cellar.places.push(place(alloc, "shelf")?)?;
+    house.places.push(cellar)?;
+    house.places.push(place(alloc, "roof")?)?;
     let encoding = house.try_encode_to_vec(alloc)?;
     let mut read = Place::blank(alloc);
     read.merge_from_slice(alloc, encoding.as_slice())?;

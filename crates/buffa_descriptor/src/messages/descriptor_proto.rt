@@ -1,7 +1,7 @@
 //! google.protobuf.DescriptorProto, made of descriptor.proto by protoc-gen-buffa.
 
 ghost use Rattle.std.proofs.Common.{lit<, refl};
-ghost use Rattle.buffa_fields.specs.Members.{field, keep};
+ghost use Rattle.buffa_fields.specs.Open.{keeps, knotted, list_inside, member};
 
 use crate::messages::descriptor_proto_extension_range::DescriptorProtoExtensionRange;
 use crate::messages::descriptor_proto_reserved_range::DescriptorProtoReservedRange;
@@ -9,16 +9,20 @@ use crate::messages::enum_descriptor_proto::EnumDescriptorProto;
 use crate::messages::field_descriptor_proto::FieldDescriptorProto;
 use crate::messages::message_options::MessageOptions;
 use crate::messages::oneof_descriptor_proto::OneofDescriptorProto;
-use buffa_fields::held::{Holds, Nest};
+use buffa_fields::inside_takes::take_list;
 use buffa_fields::kept;
+use buffa_fields::laid::Laid;
 use buffa_fields::member::Member;
 use buffa_fields::nested::Nested;
 use buffa_fields::optional::Optional;
 use buffa_fields::repeated::Repeated;
 use buffa_fields::repeated_nested::RepeatedNested;
-use buffa_fields::visitor::Visitor;
+use buffa_fields::self_fields::SelfFields;
+use buffa_fields::self_listing::{SelfListed, SelfListing};
+use buffa_fields::self_merger::SelfMerger;
+use buffa_fields::self_visitor::SelfVisitor;
 use buffa_map::map_codec::Str;
-use buffa_wire::{DecodeContext, DecodeError, Tag, UnknownFields};
+use buffa_wire::{Blank, DecodeContext, DecodeError, Formed, Tag, UnknownFields};
 use std::alloc::Global;
 use std::marker::Model;
 use std::string::String;
@@ -37,19 +41,14 @@ use std::string::String;
 ///     repeated ReservedRange reserved_range = 9;
 ///     repeated string reserved_name = 10;
 /// }
-///
-/// Its `nested_type` are `inside`. Its other members are in `own`.
-///
-/// The message types that stand in it. Those of maps' entries, and of groups, are among them.
-pub type DescriptorProto = Nest<DescriptorProtoOwn>;
-
-/// What `DescriptorProto` has beside `nested_type`.
 #[derive(Drop)]
-pub struct DescriptorProtoOwn {
+pub struct DescriptorProto {
     /// Its name, without the package and the messages around it.
     pub name: Option<String>,
     /// Its fields, in the order of the text.
     pub field: Vec<FieldDescriptorProto>,
+    /// The message types that stand in it. Those of maps' entries, and of groups, are among them.
+    pub nested_type: Vec<DescriptorProto>,
     /// The enums that stand in it.
     pub enum_type: Vec<EnumDescriptorProto>,
     /// The ranges of numbers that are for extensions.
@@ -68,84 +67,72 @@ pub struct DescriptorProtoOwn {
     pub rest: UnknownFields,
 }
 
-/// What the members of `DescriptorProtoOwn` mean, one after the other. It is never made.
-#[derive(Drop)]
-pub struct DescriptorProtoMeaning {
-    never: (),
-}
-
-impl Model for DescriptorProtoMeaning {
+impl Model for DescriptorProto {
     ghost use Rattle.std.specs.Coded.{codes};
-    ghost use Rattle.std.specs.Prelude.{List, None, [], ℕ};
+    ghost use Rattle.std.specs.Prelude.{List, Option, ℕ};
+    ghost use Rattle.std.proofs.Common.{arith};
     ghost use Rattle.buffa_wire.specs.Code.{coded_datum};
     ghost use Rattle.buffa_wire.specs.Records.{Datum};
+    ghost use Rattle.buffa_fields.specs.Knots.{Knot, coded_knot, knot_height, knot_of, most-of_list};
+    ghost use Rattle.buffa_fields.specs.Viewed.{MeaningOf, has, has_kept, has_list};
 
-    ghost Value = { let Means : (P X : Type 0) → (P → X) → Type 0 = λ P X f. X in
-        Means _ _ ⟦<Optional<Str> as Member>⟧.shape.meaning × (
-        Means _ _ ⟦<RepeatedNested<FieldDescriptorProto> as Member>⟧.shape.meaning × (
-        Means _ _ ⟦<RepeatedNested<EnumDescriptorProto> as Member>⟧.shape.meaning × (
-        Means _ _ ⟦<RepeatedNested<DescriptorProtoExtensionRange> as Member>⟧.shape.meaning × (
-        Means _ _ ⟦<RepeatedNested<FieldDescriptorProto> as Member>⟧.shape.meaning × (
-        Means _ _ ⟦<Nested<MessageOptions> as Member>⟧.shape.meaning × (
-        Means _ _ ⟦<RepeatedNested<OneofDescriptorProto> as Member>⟧.shape.meaning × (
-        Means _ _ ⟦<RepeatedNested<DescriptorProtoReservedRange> as Member>⟧.shape.meaning × (
-        Means _ _ ⟦<Repeated<Str> as Member>⟧.shape.meaning × (
-        List (ℕ × Datum)))))))))) };
+    ghost Value = { Knot (
+        Option (List ℕ) × (
+        MeaningOf ⟦<RepeatedNested<FieldDescriptorProto> as Member>⟧.shape × (
+        MeaningOf ⟦<RepeatedNested<EnumDescriptorProto> as Member>⟧.shape × (
+        MeaningOf ⟦<RepeatedNested<DescriptorProtoExtensionRange> as Member>⟧.shape × (
+        MeaningOf ⟦<RepeatedNested<FieldDescriptorProto> as Member>⟧.shape × (
+        MeaningOf ⟦<Nested<MessageOptions> as Member>⟧.shape × (
+        MeaningOf ⟦<RepeatedNested<OneofDescriptorProto> as Member>⟧.shape × (
+        MeaningOf ⟦<RepeatedNested<DescriptorProtoReservedRange> as Member>⟧.shape × (
+        List (List ℕ) × List (ℕ × Datum)))))))))) };
 
-    ghost coded = { Prim.hlevel (codes, coded_datum) };
+    ghost coded = { Prim.hlevel (codes, coded_datum, coded_knot) };
 
-    ghost view = { λ m. (None, ([], ([], ([], ([], (None, ([], ([], ([], []))))))))) };
+    ghost view = { λ m. knot_of (
+        has (⟦<Optional<Str> as Member>⟧.shape.meaning m.name) (
+        has (⟦<RepeatedNested<FieldDescriptorProto> as Member>⟧.shape.meaning m.field) (
+        has_list m.nested_type.items (
+        has (⟦<RepeatedNested<EnumDescriptorProto> as Member>⟧.shape.meaning m.enum_type) (
+        has (⟦<RepeatedNested<DescriptorProtoExtensionRange> as Member>⟧.shape.meaning m.extension_range) (
+        has (⟦<RepeatedNested<FieldDescriptorProto> as Member>⟧.shape.meaning m.extension) (
+        has (⟦<Nested<MessageOptions> as Member>⟧.shape.meaning m.options) (
+        has (⟦<RepeatedNested<OneofDescriptorProto> as Member>⟧.shape.meaning m.oneof_decl) (
+        has (⟦<RepeatedNested<DescriptorProtoReservedRange> as Member>⟧.shape.meaning m.reserved_range) (
+        has (⟦<Repeated<Str> as Member>⟧.shape.meaning m.reserved_name) (has_kept m.rest.records))))))))))) };
+
+    ghost size = { knot_height };
+
+    ghost size_decreases = { λ m h. Prim.grind (arith, most-of_list m.nested_type.items) };
 }
 
-impl Holds for DescriptorProtoOwn {
-    type Meaning = DescriptorProtoMeaning;
-
+impl Laid for DescriptorProto {
     const COST: usize = 280;
 
     ghost COST = { 280 };
 
     ghost positive = { lit< tt };
 
-    const NUMBER: u32 = 3;
+    ghost laying = { knotted (
+        member 1 ⟦<Optional<Str> as Member>⟧.shape (
+        member 2 ⟦<RepeatedNested<FieldDescriptorProto> as Member>⟧.shape (
+        list_inside 3 (
+        member 4 ⟦<RepeatedNested<EnumDescriptorProto> as Member>⟧.shape (
+        member 5 ⟦<RepeatedNested<DescriptorProtoExtensionRange> as Member>⟧.shape (
+        member 6 ⟦<RepeatedNested<FieldDescriptorProto> as Member>⟧.shape (
+        member 7 ⟦<Nested<MessageOptions> as Member>⟧.shape (
+        member 8 ⟦<RepeatedNested<OneofDescriptorProto> as Member>⟧.shape (
+        member 9 ⟦<RepeatedNested<DescriptorProtoReservedRange> as Member>⟧.shape (
+        member 10 ⟦<Repeated<Str> as Member>⟧.shape keeps)))))))))) };
 
-    ghost NUMBER = { 3 };
+    ghost sound = { λ w. refl };
+}
 
-    ghost layout = { field 1 (λ m. m.name) ⟦<Optional<Str> as Member>⟧.shape (
-        field 2 (λ m. m.field) ⟦<RepeatedNested<FieldDescriptorProto> as Member>⟧.shape (
-        field 4 (λ m. m.enum_type) ⟦<RepeatedNested<EnumDescriptorProto> as Member>⟧.shape (
-        field 5 (λ m. m.extension_range) ⟦<RepeatedNested<DescriptorProtoExtensionRange> as Member>⟧.shape (
-        field 6 (λ m. m.extension) ⟦<RepeatedNested<FieldDescriptorProto> as Member>⟧.shape (
-        field 7 (λ m. m.options) ⟦<Nested<MessageOptions> as Member>⟧.shape (
-        field 8 (λ m. m.oneof_decl) ⟦<RepeatedNested<OneofDescriptorProto> as Member>⟧.shape (
-        field 9 (λ m. m.reserved_range) ⟦<RepeatedNested<DescriptorProtoReservedRange> as Member>⟧.shape (
-        field 10 (λ m. m.reserved_name) ⟦<Repeated<Str> as Member>⟧.shape (
-        keep (λ m. m.rest.records)))))))))) };
-
-    ghost sound = { refl };
-
-    ghost other = { refl };
-
-    fn blank(alloc: Global) -> DescriptorProtoOwn {
-        DescriptorProtoOwn {
-            name: None,
-            field: Vec::new(alloc),
-            enum_type: Vec::new(alloc),
-            extension_range: Vec::new(alloc),
-            extension: Vec::new(alloc),
-            options: None,
-            oneof_decl: Vec::new(alloc),
-            reserved_range: Vec::new(alloc),
-            reserved_name: Vec::new(alloc),
-            rest: UnknownFields::new(alloc),
-        }
-    }
-
-    fn front<V: Visitor>(&self, visitor: &mut V) {
+impl SelfFields for DescriptorProto {
+    fn visit<V: SelfVisitor<DescriptorProto>>(&self, visitor: &mut V) {
         visitor.visit::<Optional<Str>>(1, &self.name);
         visitor.visit::<RepeatedNested<FieldDescriptorProto>>(2, &self.field);
-    }
-
-    fn behind<V: Visitor>(&self, visitor: &mut V) {
+        visitor.visit_list(3, &self.nested_type);
         visitor.visit::<RepeatedNested<EnumDescriptorProto>>(4, &self.enum_type);
         visitor.visit::<RepeatedNested<DescriptorProtoExtensionRange>>(5, &self.extension_range);
         visitor.visit::<RepeatedNested<FieldDescriptorProto>>(6, &self.extension);
@@ -156,12 +143,13 @@ impl Holds for DescriptorProtoOwn {
         visitor.visit_kept(&self.rest);
     }
 
-    fn take(
+    fn take<I: SelfMerger<DescriptorProto>>(
         &mut self,
         alloc: Global,
         tag: Tag,
         buf: &mut &[u8],
         ctx: DecodeContext<'_>,
+        inner: &I,
     ) -> Result<(), DecodeError> {
         match tag.field_number() {
             1 => Optional::<Str>::merge(&mut self.name, alloc, tag, buf, ctx),
@@ -172,6 +160,7 @@ impl Holds for DescriptorProtoOwn {
                 buf,
                 ctx,
             ),
+            3 => take_list(&mut self.nested_type, alloc, tag, buf, ctx, inner),
             4 => RepeatedNested::<EnumDescriptorProto>::merge(
                 &mut self.enum_type,
                 alloc,
@@ -212,4 +201,38 @@ impl Holds for DescriptorProtoOwn {
             _ => kept::keep(alloc, &mut self.rest, tag, buf, ctx),
         }
     }
+}
+
+impl Blank for DescriptorProto {
+    type Meaning = DescriptorProto;
+
+    ghost meaning = { λ m. m };
+
+    ghost blank_is = { ⟦<DescriptorProto as Laid>⟧.laying.into ⟦<DescriptorProto as Laid>⟧.laying.blank };
+
+    fn blank(alloc: Global) -> DescriptorProto {
+        DescriptorProto {
+            name: None,
+            field: Vec::new(alloc),
+            nested_type: Vec::new(alloc),
+            enum_type: Vec::new(alloc),
+            extension_range: Vec::new(alloc),
+            extension: Vec::new(alloc),
+            options: None,
+            oneof_decl: Vec::new(alloc),
+            reserved_range: Vec::new(alloc),
+            reserved_name: Vec::new(alloc),
+            rest: UnknownFields::new(alloc),
+        }
+    }
+}
+
+impl SelfListing for DescriptorProto {
+    ghost means = { λ m. refl };
+
+    ghost starts = { refl };
+}
+
+impl Formed for DescriptorProto {
+    type Form = SelfListed;
 }

@@ -20,13 +20,13 @@ fn branch_word(alloc: Global, branch: &Branch, levels: u32) -> Result<String, Fa
         return copied(alloc, "..");
     }
     let mut branches = String::new(alloc);
-    for one in branch.inside.iter() {
+    for one in branch.branches.iter() {
         let word = branch_word(alloc, one, levels - 1)?;
         branches = with_word(alloc, branches.as_str(), word.as_str())?;
     }
-    let name = text_word(alloc, branch.own.name.as_str())?;
-    let leaves = numbers_word(alloc, branch.own.leaves.as_slice())?;
-    let rest = records_word(alloc, &branch.own.rest)?;
+    let name = text_word(alloc, branch.name.as_str())?;
+    let leaves = numbers_word(alloc, branch.leaves.as_slice())?;
+    let rest = records_word(alloc, &branch.rest)?;
     Ok(format!(in alloc; "({name}|[{leaves}]|[{branches}]|{rest})")?)
 }
 
@@ -42,9 +42,9 @@ impl<T> Worded<Branches<T>> for Branch {
 
 impl<T> Parted<Branches<T>> for Branch {
     fn parts(&self, parts: &mut Parts<Branches<T>>) {
-        parts.value(1, &self.own.name);
-        parts.list(2, self.own.leaves.as_slice());
-        parts.list(3, self.inside.as_slice());
-        parts.kept(&self.own.rest);
+        parts.value(1, &self.name);
+        parts.list(2, self.leaves.as_slice());
+        parts.list(3, self.branches.as_slice());
+        parts.kept(&self.rest);
     }
 }

@@ -18,13 +18,13 @@ fn failure_word(alloc: Global, failure: &Failure, levels: u32) -> Result<String,
     if levels == 0 {
         return copied(alloc, "..");
     }
-    let cause = match &failure.inside {
+    let cause = match &failure.cause {
         Some(cause) => failure_word(alloc, &**cause, levels - 1)?,
         None => copied(alloc, "none")?,
     };
-    let reason = text_word(alloc, failure.own.reason.as_str())?;
-    let lines = numbers_word(alloc, failure.own.lines.as_slice())?;
-    let rest = records_word(alloc, &failure.own.rest)?;
+    let reason = text_word(alloc, failure.reason.as_str())?;
+    let lines = numbers_word(alloc, failure.lines.as_slice())?;
+    let rest = records_word(alloc, &failure.rest)?;
     Ok(format!(in alloc; "({reason}|{cause}|[{lines}]|{rest})")?)
 }
 
@@ -40,12 +40,12 @@ impl<T> Worded<Failures<T>> for Failure {
 
 impl<T> Parted<Failures<T>> for Failure {
     fn parts(&self, parts: &mut Parts<Failures<T>>) {
-        parts.value(1, &self.own.reason);
-        match &self.inside {
+        parts.value(1, &self.reason);
+        match &self.cause {
             Some(cause) => parts.value(2, &**cause),
             None => parts.maybe::<Failure>(2, &None),
         }
-        parts.list(3, self.own.lines.as_slice());
-        parts.kept(&self.own.rest);
+        parts.list(3, self.lines.as_slice());
+        parts.kept(&self.rest);
     }
 }

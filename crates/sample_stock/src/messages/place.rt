@@ -1,12 +1,16 @@
 //! shop.Place, made of stock.proto by protoc-gen-buffa.
 
 ghost use Rattle.std.proofs.Common.{lit<, refl};
-ghost use Rattle.buffa.specs.Members.{field, keep};
+ghost use Rattle.buffa.specs.Knots.{keeps, knotted, list_inside, member};
 
-use buffa::fields::{And, Holds, KeptFields, Member, Nest, Plain, Visitor, kept};
+use buffa::fields::{
+    Formed, Laid, Member, Plain, SelfFields, SelfListed, SelfListing, SelfMerger, SelfVisitor,
+    kept, take_list,
+};
 use buffa::map_codec::Str;
-use buffa::{DecodeContext, DecodeError, Tag, UnknownFields};
+use buffa::{Blank, DecodeContext, DecodeError, Tag, UnknownFields};
 use std::alloc::Global;
+use std::marker::Model;
 use std::string::String;
 
 /// A place where goods lie, with the places in it.
@@ -15,63 +19,92 @@ use std::string::String;
 ///     string name = 1;
 ///     repeated Place places = 2;
 /// }
-///
-/// Its `places` are `inside`. Its other members are in `own`.
-pub type Place = Nest<PlaceOwn>;
-
-/// What `Place` has beside `places`.
 #[derive(Drop)]
-pub struct PlaceOwn {
+pub struct Place {
     pub name: String,
+    pub places: Vec<Place>,
     /// The fields that aren't declared, in order.
     pub rest: UnknownFields,
 }
 
-impl Holds for PlaceOwn {
-    type Meaning = And<[u8; 0], KeptFields>;
+impl Model for Place {
+    ghost use Rattle.std.specs.Coded.{codes};
+    ghost use Rattle.std.specs.Prelude.{List, ℕ};
+    ghost use Rattle.std.proofs.Common.{arith};
+    ghost use Rattle.buffa.specs.Knots.{Datum, Knot, coded_datum, coded_knot, has, has_kept, has_list, knot_height, knot_of, most-of_list};
 
+    ghost Value = { Knot (List ℕ × List (ℕ × Datum)) };
+
+    ghost coded = { Prim.hlevel (codes, coded_datum, coded_knot) };
+
+    ghost view = { λ m. knot_of (
+        has (⟦<Plain<Str> as Member>⟧.shape.meaning m.name) (
+        has_list m.places.items (has_kept m.rest.records))) };
+
+    ghost size = { knot_height };
+
+    ghost size_decreases = { λ m h. Prim.grind (arith, most-of_list m.places.items) };
+}
+
+impl Laid for Place {
     const COST: usize = 72;
 
     ghost COST = { 72 };
 
     ghost positive = { lit< tt };
 
-    const NUMBER: u32 = 2;
+    ghost laying = { knotted (
+        member 1 ⟦<Plain<Str> as Member>⟧.shape (
+        list_inside 2 keeps)) };
 
-    ghost NUMBER = { 2 };
+    ghost sound = { λ w. refl };
+}
 
-    ghost layout = { field 1 (λ m. m.name) ⟦<Plain<Str> as Member>⟧.shape (
-        keep (λ m. m.rest.records)) };
-
-    ghost sound = { refl };
-
-    ghost other = { refl };
-
-    fn blank(alloc: Global) -> PlaceOwn {
-        PlaceOwn {
-            name: String::new(alloc),
-            rest: UnknownFields::new(alloc),
-        }
-    }
-
-    fn front<V: Visitor>(&self, visitor: &mut V) {
+impl SelfFields for Place {
+    fn visit<V: SelfVisitor<Place>>(&self, visitor: &mut V) {
         visitor.visit::<Plain<Str>>(1, &self.name);
-    }
-
-    fn behind<V: Visitor>(&self, visitor: &mut V) {
+        visitor.visit_list(2, &self.places);
         visitor.visit_kept(&self.rest);
     }
 
-    fn take(
+    fn take<I: SelfMerger<Place>>(
         &mut self,
         alloc: Global,
         tag: Tag,
         buf: &mut &[u8],
         ctx: DecodeContext<'_>,
+        inner: &I,
     ) -> Result<(), DecodeError> {
         match tag.field_number() {
             1 => Plain::<Str>::merge(&mut self.name, alloc, tag, buf, ctx),
+            2 => take_list(&mut self.places, alloc, tag, buf, ctx, inner),
             _ => kept::keep(alloc, &mut self.rest, tag, buf, ctx),
         }
     }
+}
+
+impl Blank for Place {
+    type Meaning = Place;
+
+    ghost meaning = { λ m. m };
+
+    ghost blank_is = { ⟦<Place as Laid>⟧.laying.into ⟦<Place as Laid>⟧.laying.blank };
+
+    fn blank(alloc: Global) -> Place {
+        Place {
+            name: String::new(alloc),
+            places: Vec::new(alloc),
+            rest: UnknownFields::new(alloc),
+        }
+    }
+}
+
+impl SelfListing for Place {
+    ghost means = { λ m. refl };
+
+    ghost starts = { refl };
+}
+
+impl Formed for Place {
+    type Form = SelfListed;
 }

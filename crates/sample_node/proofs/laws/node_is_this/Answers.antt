@@ -1,19 +1,18 @@
 use Rattle.std.proofs.Common.{refl}
-use Rattle.sample_node.proofs.NodeBackLemmas.{normal_is}
-use Rattle.sample_node.proofs.NodeReadLemmas.{cost_is, merged_is}
+use Rattle.sample_node.proofs.NodeBackLemmas.{node_normal_is}
+use Rattle.sample_node.proofs.NodeReadLemmas.{node_cost_is, node_merged_is}
 use Rattle.sample_node.proofs.NodeRefusedLemmas.{node_refused}
-use Rattle.sample_node.proofs.NodeSaysLemmas.{members, members_say}
-use Rattle.sample_node.proofs.NodeWrittenLemmas.{encoding_is, levels_are, records_are, slots_are}
+use Rattle.sample_node.proofs.NodeWrittenLemmas.{encoding_same, levels_same, records_same, slots_same}
 use Rattle.sample_node.proofs.laws.node_is_this.Goals as goal
 
 pub returns : goal.returns
 returns c = record {
-  merged = (merged_is members members_say, cost_is members members_say);
-  encoding = (encoding_is members members_say, records_are members members_say);
-  slots = (slots_are members members_say, refl);
-  levels = levels_are members members_say;
-  normal = λ v fits. normal_is members members_say v fits;
-  refused = λ d v n w bs l e u h. node_refused d v n w bs l e u h;
+  merged = (node_merged_is, node_cost_is);
+  encoding = ((λ i t. encoding_same t i), (λ i t. records_same t i));
+  slots = ((λ i t. slots_same t i), refl);
+  levels = λ i t. levels_same t i;
+  normal = node_normal_is;
+  refused = λ d v n w bs l e u was is h. node_refused d v n w bs l e u was is h;
   blank = refl;
-  meaning = refl;
+  meaning = λ v. refl;
 }

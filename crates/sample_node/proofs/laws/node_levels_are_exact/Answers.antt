@@ -1,7 +1,6 @@
-use Rattle.buffa_fields.specs.HeldMapFacts.{map_nests_exact}
-use Rattle.sample_node.proofs.NodeOwnLemmas.{node_keys}
-use Rattle.sample_node.proofs.NodeSaysLemmas.{members, members_say, node_keys_back}
+use Rattle.buffa_fields.specs.ExactFacts.{told_exact}
+use Rattle.sample_node.proofs.NodeLaidLemmas.{members, members_exact, members_sound}
 use Rattle.sample_node.proofs.laws.node_levels_are_exact.Goals as goal
 
 pub returns : goal.returns
-returns c = map_nests_exact node_keys members 2 96 node_keys_back members_say.sound members_say.exact
+returns c = told_exact 96 members members_sound members_exact

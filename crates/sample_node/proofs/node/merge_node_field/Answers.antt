@@ -1,15 +1,14 @@
-use Rattle.sample_node.proofs.NodePassLemmas.{node_field_merged, node_field_refused}
-use Rattle.sample_node.specs.Branch.{node_means}
+use Rattle.buffa_wire.specs.Message.{IsFieldMerged}
+use Rattle.sample_node.proofs.NodeReadLemmas.{in_node_words}
+use Rattle.sample_node.proofs.NodeRefusedLemmas.{refused_if}
 use Rattle.sample_node.proofs.node.merge_node_field.Goals as goal
 
 pub returns : goal.returns
 returns c =
-    let call = c.merge_field in
-    let old = node_means c.args.node.now in
-    let new = node_means call.new.self in
+    let call = c.merge_field-merged in
     let tag = c.args.tag in
     record {
-      merged = node_field_merged c.args.depth old new tag.number tag.wire_type c.args.buf.now.now call.new.buf.now c.args.budget.now call.new.ctx.1.0 call.result call.ensures.merged;
+      merged = in_node_words (λ m k. IsFieldMerged m k c.args.depth c.args.node.now tag.number tag.wire_type c.args.buf.now.now c.args.budget.now call.result call.new.self call.new.ctx.1.0 call.new.buf.now) call.ensures.merged;
       full = call.ensures.full;
-      refused = node_field_refused c.args.depth old new tag.number tag.wire_type c.args.buf.now.now call.new.buf.now c.args.budget.now call.new.ctx.1.0 call.result call.ensures.refused;
+      refused = refused_if _ _ _ _ _ _ _ c.is_node.ensures c.is_node-2.ensures call.result call.ensures.refused;
     }

@@ -3,9 +3,6 @@ use Rattle.sample_types.proofs.NumberLemmas.{flat_free, flat_written, two_free, 
 use Rattle.sample_types.specs.FieldsFacts.{both_records, number_encoding_records}
 use Rattle.sample_types.specs.Fields.{number_encoding, number_records}
 use Rattle.buffa_wire.specs.Encoding.{records_encoding}
-use Rattle.sample_types.proofs.TreeLemmas.{tree_cost_is, tree_encoding_is, tree_merged_is, tree_records_are, tree_slots_are}
-use Rattle.sample_types.proofs.TreeRefusedLemmas.{tree_refused}
-use Rattle.sample_types.proofs.TreeToldLemmas.{tree_told}
 use Rattle.sample_types.proofs.laws.messages_are_these.Goals as goal
 
 pub returns-clause-flat_cost : goal.returns-clause-flat_cost
@@ -26,18 +23,3 @@ returns-clause-flat_encoding c = λ v. ap records_encoding (flat_written v.0) �
 pub returns-clause-two_encoding : goal.returns-clause-two_encoding
 returns-clause-two_encoding c = λ v. ap records_encoding (two_written v.0 v.1.0)
     ∙ sym (both_records (number_encoding 1 v.0) (number_encoding 2 v.1.0) (number_records 1 v.0) (number_records 2 v.1.0) (number_encoding_records 1 v.0) (number_encoding_records 2 v.1.0))
-
-pub returns-clause-tree : goal.returns-clause-tree
-returns-clause-tree c = ((λ i d t b. sym (tree_merged_is d t b) i), λ i d b. sym (tree_cost_is d b) i)
-
-pub returns-clause-tree_encoding : goal.returns-clause-tree_encoding
-returns-clause-tree_encoding c = λ i t. sym (tree_encoding_is t) i
-
-pub returns-clause-tree_slots : goal.returns-clause-tree_slots
-returns-clause-tree_slots c = λ i t. sym (tree_slots_are t) i
-
-pub returns-clause-tree_records : goal.returns-clause-tree_records
-returns-clause-tree_records c = λ i t. sym (tree_records_are t) i
-
-pub returns-clause-tree_refused : goal.returns-clause-tree_refused
-returns-clause-tree_refused c = λ d t n w bs left e u. (tree_refused d n w bs left e t u, tree_told d n w bs left e t u)

@@ -1,17 +1,9 @@
-use Rattle.std.proofs.Common.{rules, IsOk}
-use Rattle.buffa_wire.specs.Encoding.{records_encoding}
-use Rattle.buffa_fields.specs.LayoutFacts.{came, follow_on}
+use Rattle.buffa_fields.specs.Layout.{Follow}
+use Rattle.buffa_fields.specs.VisitFacts.{comes_to}
 use Rattle.buffa_fields.proofs.writer.WriterVisitor.visit.Goals as goal
 
-pub returns-then-is_ok-clause-waits : goal.returns-then-is_ok-clause-waits
-returns-then-is_ok-clause-waits g c = λ rest h.
-    let s = g.M.Member.shape in
-    let v = s.meaning c.args.part.now in
+pub member_put-self-requires-clause-comes : goal.member_put-self-requires-clause-comes
+member_put-self-requires-clause-comes g c =
     let w = c.args.self.now in
-    let ok : IsOk w.result = search rules in
-    follow_on (records_encoding (s.records c.args.number v)) (s.slots v) rest (g.S.EncodeSink.written w.sink.now) (g.S.EncodeSink.written c.write_to-self.new.sink) w.cache.now c.write_to-self.new.cache w.result c.write_to-self.result ok c.write_to-self.ensures h
-
-pub write_to-self-requires-clause-next : goal.write_to-self-requires-clause-next
-write_to-self-requires-clause-next g c =
-    let ok : IsOk c.args.self.now.result = search rules in
-    came (λ w. w.result) (λ w. w.cache.now) (g.M.Member.shape.slots (g.M.Member.shape.meaning c.args.part.now)) c.args.self.now ok c.requires.comes
+    let s = g.M.Member.shape in
+    comes_to (λ ss v. Follow ss v.result v.cache.now) (λ ss k. Follow ss w.result k) w w.cache.now (λ ss h. h) (s.slots (s.meaning c.args.part.now)) c.requires.comes

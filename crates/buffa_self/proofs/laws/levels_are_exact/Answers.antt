@@ -1,5 +1,0 @@
-use Rattle.buffa_self.specs.ExactFacts.{told_exact}
-use Rattle.buffa_self.proofs.laws.levels_are_exact.Goals as goal
-
-pub returns : goal.returns
-returns g c = told_exact g.M.Laid.COST g.M.Laid.laying g.M.Laid.sound

@@ -1,8 +1,0 @@
-use Rattle.std.proofs.Common.{rules}
-use Rattle.sample_folder.proofs.folder.FolderHoldsMap.take.Goals as goal
-
-pub returns-in-1-clause-own : goal.returns-in-1-clause-own
-returns-in-1-clause-own c = rw (← c.self.view_is) (search rules)
-
-pub returns-in-3-clause-own : goal.returns-in-3-clause-own
-returns-in-3-clause-own c = rw (← c.self.view_is) (search rules)

@@ -1,0 +1,84 @@
+//! The oneof buffa.sample.Outline.source, made of outline.proto by protoc-gen-buffa.
+
+ghost use Rattle.buffa.specs.Members.{Other, This, case, enum_of, no_case};
+ghost use Rattle.sample_outline.specs.declared.outline_source.OutlineSource.TheVariants.{Book, Page, Spot as SpotCase};
+
+use crate::spot::Spot;
+use buffa::fields::{Case, Nested, OneOf, Optional, Or, Set, Visitor, case_reads_back};
+use buffa::map_codec::{Int32, Str};
+use buffa::{Blank, DecodeContext, DecodeError, Tag};
+use std::alloc::Global;
+use std::string::String;
+
+/// Where it is from.
+///
+/// oneof source {
+///     string book = 7;
+///     int32 page = 8;
+///     Spot spot = 9;
+/// }
+#[derive(Drop)]
+pub enum OutlineSource {
+    Book(String),
+    Page(i32),
+    Spot(Spot),
+}
+
+impl OneOf for OutlineSource {
+    type Meaning = Or<[u8; 0], Or<i32, Or<<Spot as Blank>::Meaning, ()>>>;
+
+    ghost cases = { enum_of (case 7 ⟦<Optional<Str> as Case>⟧.words (
+        case 8 ⟦<Optional<Int32> as Case>⟧.words (
+        case 9 ⟦<Nested<Spot> as Case>⟧.words (
+        no_case)))) (λ m. elim m [
+          | Book x ↦ This x
+          | Page x ↦ Other (This x)
+          | SpotCase x ↦ Other (Other (This x))
+        ]) };
+
+    fn visit<V: Visitor>(&self, visitor: &mut V) {
+        match self {
+            OutlineSource::Book(it) => visitor.visit::<Set<Optional<Str>>>(7, it),
+            OutlineSource::Page(it) => visitor.visit::<Set<Optional<Int32>>>(8, it),
+            OutlineSource::Spot(it) => visitor.visit::<Set<Nested<Spot>>>(9, it),
+        }
+    }
+
+    fn take(
+        slot: &mut Option<OutlineSource>,
+        alloc: Global,
+        tag: Tag,
+        buf: &mut &[u8],
+        ctx: DecodeContext<'_>,
+    ) -> Result<(), DecodeError> {
+        match tag.field_number() {
+            7 => {
+                let it = Optional::<Str>::read_value(alloc, tag, buf, ctx)?;
+                *slot = Some(OutlineSource::Book(it));
+                Ok(())
+            }
+            8 => {
+                let it = Optional::<Int32>::read_value(alloc, tag, buf, ctx)?;
+                *slot = Some(OutlineSource::Page(it));
+                Ok(())
+            }
+            9 => match slot {
+                Some(OutlineSource::Spot(it)) => {
+                    Nested::<Spot>::merge_value(it, alloc, tag, buf, ctx)
+                }
+                _ => {
+                    let it = Nested::<Spot>::read_value(alloc, tag, buf, ctx)?;
+                    *slot = Some(OutlineSource::Spot(it));
+                    Ok(())
+                }
+            },
+            _ => Ok(()),
+        }
+    }
+
+    fn reads_back() {
+        case_reads_back::<Optional<Str>>();
+        case_reads_back::<Optional<Int32>>();
+        case_reads_back::<Nested<Spot>>();
+    }
+}

@@ -1,0 +1,81 @@
+//! buffa.sample.Spot, made of outline.proto by protoc-gen-buffa.
+
+ghost use Rattle.std.proofs.Common.{lit<, refl};
+ghost use Rattle.buffa.specs.Members.{field, keep};
+
+use buffa::fields::{
+    And, Fields, Formed, KeptFields, Listed, Listing, Member, Optional, Visitor, kept,
+};
+use buffa::map_codec::Int32;
+use buffa::{Blank, DecodeContext, DecodeError, Tag, UnknownFields};
+use std::alloc::Global;
+
+/// Where a part stands in a book.
+///
+/// message Spot {
+///     optional int32 line = 1;
+/// }
+#[derive(Drop)]
+pub struct Spot {
+    pub line: Option<i32>,
+    /// The fields that aren't declared, in order.
+    pub rest: UnknownFields,
+}
+
+impl Fields for Spot {
+    type Meaning = And<Option<i32>, KeptFields>;
+
+    const COST: usize = 40;
+
+    ghost COST = { 40 };
+
+    ghost positive = { lit< tt };
+
+    ghost layout = { field 1 (λ m. m.line) ⟦<Optional<Int32> as Member>⟧.shape (
+        keep (λ m. m.rest.records)) };
+
+    ghost sound = { refl };
+
+    fn visit<V: Visitor>(&self, visitor: &mut V) {
+        visitor.visit::<Optional<Int32>>(1, &self.line);
+        visitor.visit_kept(&self.rest);
+    }
+
+    fn take(
+        &mut self,
+        alloc: Global,
+        tag: Tag,
+        buf: &mut &[u8],
+        ctx: DecodeContext<'_>,
+    ) -> Result<(), DecodeError> {
+        match tag.field_number() {
+            1 => Optional::<Int32>::merge(&mut self.line, alloc, tag, buf, ctx),
+            _ => kept::keep(alloc, &mut self.rest, tag, buf, ctx),
+        }
+    }
+}
+
+impl Blank for Spot {
+    type Meaning = <Spot as Fields>::Meaning;
+
+    ghost meaning = { ⟦<Spot as Fields>⟧.layout.meaning };
+
+    ghost blank_is = { ⟦<Spot as Fields>⟧.layout.blank };
+
+    fn blank(alloc: Global) -> Spot {
+        Spot {
+            line: None,
+            rest: UnknownFields::new(alloc),
+        }
+    }
+}
+
+impl Listing for Spot {
+    ghost means = { λ m. refl };
+
+    ghost starts = { refl };
+}
+
+impl Formed for Spot {
+    type Form = Listed;
+}
