@@ -11,7 +11,6 @@ ghost use Rattle.buffa_map.specs.Message.{message_reading};
 ghost use Rattle.buffa_fields.specs.Laying.{children_shape, map_shape, maybe_shape};
 ghost use Rattle.buffa_fields.specs.Levels.{AreExactLevels};
 ghost use Rattle.buffa_fields.specs.MapFields.{PairTakesMemory, pair_cost, pair_taken};
-ghost use Rattle.buffa_fields.specs.MapKeys.{keys_by};
 ghost use Rattle.buffa_fields.specs.Nested.{FitsInside, message_cost, message_levels, message_merged, message_records, message_slots, taken_there};
 ghost use Rattle.buffa_fields.specs.NestedMaps.{pair_levels, pair_records, pair_slots};
 ghost use Rattle.buffa_fields.specs.OrderedMaps.{KeysAscend};
@@ -22,6 +21,7 @@ ghost use Rattle.buffa_fields.specs.Stands.{IsMemberRefused};
 ghost use Rattle.buffa_fields.specs.Told.{told, told_layout};
 ghost use Rattle.buffa_fields.specs.Values.{IfThere};
 
+use crate::keyed::{ByKey, Keyed};
 use crate::ordered_key::OrderedKey;
 use crate::self_fields::SelfFields;
 use crate::self_listing::{SelfListed, SelfListing};
@@ -100,41 +100,41 @@ pub fn maps_inside_are_these<M: SelfListing, KC: MapCodec>()
 where
     KC::Value: OrderedKey,
     ensures again { (v : List (KC.Value.Meaning × M)) → M.laying.pairs_from (M.laying.of_pairs v) ≡ v }
-    ensures blank { let keys = keys_by KC.reading KC.writing KC.COST KC.Value.order KC.fits KC.normal in
+    ensures blank { let keys = ⟦<ByKey<KC> as Keyed>⟧.keys in
         M.laying.pairs_from (map_shape M.laying keys (told M.Laid.COST M.laying M.sound)).blank ≡ [] }
-    ensures takes { let s = map_shape M.laying (keys_by KC.reading KC.writing KC.COST KC.Value.order KC.fits KC.normal) (told M.Laid.COST M.laying M.sound) in
+    ensures takes { let s = map_shape M.laying ⟦<ByKey<KC> as Keyed>⟧.keys (told M.Laid.COST M.laying M.sound) in
         (d n : ℕ) (w : _) (p : List ℕ) (v : _) → option_map M.laying.pairs_from (s.takes d v n w p)
         ≡ pair_taken KC.reading (message_reading M.blank_is ⟦<M as MessageSpec>⟧.merged
         ⟦<M as MessageSpec>⟧.cost) (insert_entry KC.Value.order) d (M.laying.pairs_from v) n w p }
-    ensures checks { let s = map_shape M.laying (keys_by KC.reading KC.writing KC.COST KC.Value.order KC.fits KC.normal) (told M.Laid.COST M.laying M.sound) in
+    ensures checks { let s = map_shape M.laying ⟦<ByKey<KC> as Keyed>⟧.keys (told M.Laid.COST M.laying M.sound) in
         (n : ℕ) (w : _) → s.checks n w ≡ check_wire n WireType.LengthDelimited w }
-    ensures asks { let s = map_shape M.laying (keys_by KC.reading KC.writing KC.COST KC.Value.order KC.fits KC.normal) (told M.Laid.COST M.laying M.sound) in
+    ensures asks { let s = map_shape M.laying ⟦<ByKey<KC> as Keyed>⟧.keys (told M.Laid.COST M.laying M.sound) in
         (d n : ℕ) (w : _) (bs : List ℕ) → s.asks d n w bs
         ↔ PairTakesMemory KC.reading (message_reading M.blank_is ⟦<M as MessageSpec>⟧.merged
         ⟦<M as MessageSpec>⟧.cost) d n w bs }
-    ensures refuses { let s = map_shape M.laying (keys_by KC.reading KC.writing KC.COST KC.Value.order KC.fits KC.normal) (told M.Laid.COST M.laying M.sound) in
+    ensures refuses { let s = map_shape M.laying ⟦<ByKey<KC> as Keyed>⟧.keys (told M.Laid.COST M.laying M.sound) in
         (d : ℕ) (v : _) (n : ℕ) (w : _) (bs : List ℕ) (l : _) (e : _) (u : _) → s.refuses d v n w bs l e u
         ↔ RefusesPair KC.reading (message_reading M.blank_is ⟦<M as MessageSpec>⟧.merged
         ⟦<M as MessageSpec>⟧.cost) (KC.COST + M.Laid.COST) d (M.laying.pairs_from v) n w bs l e
         (M.laying.pairs_from u) }
-    ensures need { let s = map_shape M.laying (keys_by KC.reading KC.writing KC.COST KC.Value.order KC.fits KC.normal) (told M.Laid.COST M.laying M.sound) in
+    ensures need { let s = map_shape M.laying ⟦<ByKey<KC> as Keyed>⟧.keys (told M.Laid.COST M.laying M.sound) in
         (d n : ℕ) (w : _) (bs : List ℕ) → s.need d n w bs
         ≡ pair_cost KC.reading (message_reading M.blank_is ⟦<M as MessageSpec>⟧.merged
         ⟦<M as MessageSpec>⟧.cost) (KC.COST + M.Laid.COST) d n w bs }
-    ensures records { let s = map_shape M.laying (keys_by KC.reading KC.writing KC.COST KC.Value.order KC.fits KC.normal) (told M.Laid.COST M.laying M.sound) in
+    ensures records { let s = map_shape M.laying ⟦<ByKey<KC> as Keyed>⟧.keys (told M.Laid.COST M.laying M.sound) in
         (n : ℕ) (v : _) → s.records n v
         ≡ pair_records KC.writing ⟦<M as MessageSpec>⟧.encoding n (M.laying.pairs_from v) }
-    ensures slots { let s = map_shape M.laying (keys_by KC.reading KC.writing KC.COST KC.Value.order KC.fits KC.normal) (told M.Laid.COST M.laying M.sound) in
+    ensures slots { let s = map_shape M.laying ⟦<ByKey<KC> as Keyed>⟧.keys (told M.Laid.COST M.laying M.sound) in
         (v : _) → s.slots v ≡ pair_slots ⟦<M as MessageSpec>⟧.encoding
         ⟦<M as MessageSpec>⟧.slots (M.laying.pairs_from v) }
-    ensures levels { let s = map_shape M.laying (keys_by KC.reading KC.writing KC.COST KC.Value.order KC.fits KC.normal) (told M.Laid.COST M.laying M.sound) in
+    ensures levels { let s = map_shape M.laying ⟦<ByKey<KC> as Keyed>⟧.keys (told M.Laid.COST M.laying M.sound) in
         (v : _) → s.levels v ≡ pair_levels ⟦<M as MessageSpec>⟧.levels (M.laying.pairs_from v) }
-    ensures normal { let s = map_shape M.laying (keys_by KC.reading KC.writing KC.COST KC.Value.order KC.fits KC.normal) (told M.Laid.COST M.laying M.sound) in
+    ensures normal { let s = map_shape M.laying ⟦<ByKey<KC> as Keyed>⟧.keys (told M.Laid.COST M.laying M.sound) in
         (v : _) → s.normal v ↔ ((M.laying.of_pairs (M.laying.pairs_from v) ≡ v)
         × AllHold (λ k. KC.fits k × KC.normal k) (FitsInside ⟦<M as MessageSpec>⟧.normal
         ⟦<M as MessageSpec>⟧.records) (M.laying.pairs_from v)
         × KeysAscend KC.Value.order (M.laying.pairs_from v)) }
-    ensures whole { let keys = keys_by KC.reading KC.writing KC.COST KC.Value.order KC.fits KC.normal in
+    ensures whole { let keys = ⟦<ByKey<KC> as Keyed>⟧.keys in
         (map_shape M.laying keys (told M.Laid.COST M.laying M.sound)).whole ≡ true }
 {}
 

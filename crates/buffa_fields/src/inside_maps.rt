@@ -7,12 +7,12 @@ ghost use Rattle.buffa_wire.specs.Message.{MergesBytes};
 ghost use Rattle.buffa_wire.specs.Passes.{IsNext};
 ghost use Rattle.buffa_map.specs.Calls.{SizesMessages, WritesMessages};
 ghost use Rattle.buffa_map.specs.Pairs.{means};
-ghost use Rattle.buffa_fields.specs.MapKeys.{keys_by};
 ghost use Rattle.buffa_fields.specs.Layout.{Follow, IsCounted, IsPut, Seen, Took, visited};
 ghost use Rattle.buffa_fields.specs.Laying.{map_shape};
 ghost use Rattle.buffa_fields.specs.Told.{told};
 ghost use Rattle.buffa_fields.specs.Words.{encoding_by};
 
+use crate::keyed::{ByKey, Keyed};
 use crate::ordered_key::OrderedKey;
 use crate::pairs_by::{pairs_len_by, take_pair_by, write_pairs_by};
 use crate::self_listing::SelfListing;
@@ -40,7 +40,7 @@ where
         let w = told M.Laid.COST M.laying M.sound in
         SizesMessages (F.post size) (λ v. M.laying.height v ≤ M.laying.pairs_height (M.laying.of_pairs ps)) (λ m. m)
         (encoding_by w) w.slots }
-    ensures { let s = map_shape M.laying (keys_by KC.reading KC.writing KC.COST KC.Value.order KC.fits KC.normal) (told M.Laid.COST M.laying M.sound) in
+    ensures { let s = map_shape M.laying ⟦<ByKey<KC> as Keyed>⟧.keys (told M.Laid.COST M.laying M.sound) in
         (name : ℕ) (z : Seen) → IsCounted name (Ok total) cache.old z →
         IsCounted name result cache.new (visited s number (M.laying.of_pairs (means KC.Value.meaning M.meaning map.now.entries)) z) }
 {
@@ -60,7 +60,7 @@ where
     KC::Value: OrderedKey + 'a,
     F: Fn(&M, &mut SizeCache, &mut S) -> Result<(), EncodeError>,
     requires number { IsNumber number }
-    requires next { let s = map_shape M.laying (keys_by KC.reading KC.writing KC.COST KC.Value.order KC.fits KC.normal) (told M.Laid.COST M.laying M.sound) in
+    requires next { let s = map_shape M.laying ⟦<ByKey<KC> as Keyed>⟧.keys (told M.Laid.COST M.laying M.sound) in
         IsNext (s.slots (M.laying.of_pairs (means KC.Value.meaning M.meaning map.now.entries))) cache.old }
     requires may { let ps = means KC.Value.meaning M.meaning map.now.entries in
         let w = told M.Laid.COST M.laying M.sound in
@@ -70,11 +70,11 @@ where
         let w = told M.Laid.COST M.laying M.sound in
         WritesMessages (F.post write) (λ v. M.laying.height v ≤ M.laying.pairs_height (M.laying.of_pairs ps)) (λ m. m)
         (encoding_by w) w.slots S.written }
-    ensures seen { let s = map_shape M.laying (keys_by KC.reading KC.writing KC.COST KC.Value.order KC.fits KC.normal) (told M.Laid.COST M.laying M.sound) in
+    ensures seen { let s = map_shape M.laying ⟦<ByKey<KC> as Keyed>⟧.keys (told M.Laid.COST M.laying M.sound) in
         (name of : ℕ) (z : Seen) → IsPut name of (S.written sink.old) cache.old (Ok tt) z →
         IsPut name of (S.written sink.new) cache.new result
         (visited s number (M.laying.of_pairs (means KC.Value.meaning M.meaning map.now.entries)) z) }
-    ensures waits { let s = map_shape M.laying (keys_by KC.reading KC.writing KC.COST KC.Value.order KC.fits KC.normal) (told M.Laid.COST M.laying M.sound) in
+    ensures waits { let s = map_shape M.laying ⟦<ByKey<KC> as Keyed>⟧.keys (told M.Laid.COST M.laying M.sound) in
         (rest : List ℕ) → Follow (s.slots (M.laying.of_pairs (means KC.Value.meaning M.meaning map.now.entries)) ++ rest) (Ok tt) cache.old →
         Follow rest result cache.new }
 {
@@ -101,7 +101,7 @@ pub fn take_map<KC: MapCodec, M: SelfListing, I: SelfMerger<M>>(
 where
     KC::Value: OrderedKey,
     requires { (d : ℕ) → d + 1 ≡ ctx.depth → I.may inner.now d }
-    ensures { let s = map_shape M.laying (keys_by KC.reading KC.writing KC.COST KC.Value.order KC.fits KC.normal) (told M.Laid.COST M.laying M.sound) in
+    ensures { let s = map_shape M.laying ⟦<ByKey<KC> as Keyed>⟧.keys (told M.Laid.COST M.laying M.sound) in
         Took s ctx.entry.depth (M.laying.of_pairs (means KC.Value.meaning M.meaning map.old.entries)) tag.number
         tag.wire_type buf.old.now ctx.entry.budget.now result
         (M.laying.of_pairs (means KC.Value.meaning M.meaning map.new.entries)) (budget_left ctx.exit) buf.new.now }

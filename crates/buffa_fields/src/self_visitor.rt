@@ -6,13 +6,14 @@ ghost use Rattle.buffa_bytes.specs.Number.{IsNumber};
 ghost use Rattle.buffa_fields.specs.Aside.{ReadsBackBeside};
 ghost use Rattle.buffa_fields.specs.Layout.{Comes, ReadsBackTo, Seen, more, visited};
 ghost use Rattle.buffa_map.specs.Pairs.{means};
-ghost use Rattle.buffa_fields.specs.MapKeys.{KeysReadBack, keys_by};
+ghost use Rattle.buffa_fields.specs.MapKeys.{KeysReadBack};
 ghost use Rattle.buffa_fields.specs.Laying.{children_shape, map_shape, maybe_shape};
 ghost use Rattle.buffa_fields.specs.OneOfParts.{case_means, case_seen, case_slots};
 ghost use Rattle.buffa_fields.specs.PartsBy.{meant_enum};
 ghost use Rattle.buffa_fields.specs.Told.{told};
 
 use crate::keeping::Keeping;
+use crate::keyed::{ByKey, Keyed};
 use crate::member::Member;
 use crate::one_of::OneOf;
 use crate::ordered_key::OrderedKey;
@@ -124,20 +125,20 @@ pub trait SelfVisitor<M: SelfListing> {
     where
         KC::Value: OrderedKey,
         requires number { IsNumber number }
-        requires comes { let s = map_shape M.laying (keys_by KC.reading KC.writing KC.COST KC.Value.order KC.fits KC.normal) (told M.Laid.COST M.laying M.sound) in
+        requires comes { let s = map_shape M.laying ⟦<ByKey<KC> as Keyed>⟧.keys (told M.Laid.COST M.laying M.sound) in
             Comes Waits (s.slots (M.laying.of_pairs (means KC.Value.meaning M.meaning part.now.entries))) self.old }
         requires low { (h : ℕ)
             × (M.laying.pairs_height (M.laying.of_pairs (means KC.Value.meaning M.meaning part.now.entries)) < h)
             × Reaches h self.old }
-        ensures seen { let s = map_shape M.laying (keys_by KC.reading KC.writing KC.COST KC.Value.order KC.fits KC.normal) (told M.Laid.COST M.laying M.sound) in
+        ensures seen { let s = map_shape M.laying ⟦<ByKey<KC> as Keyed>⟧.keys (told M.Laid.COST M.laying M.sound) in
             (z : Seen) → IsAt z self.old →
             IsAt (visited s number (M.laying.of_pairs (means KC.Value.meaning M.meaning part.now.entries)) z) self.new }
-        ensures waits { let s = map_shape M.laying (keys_by KC.reading KC.writing KC.COST KC.Value.order KC.fits KC.normal) (told M.Laid.COST M.laying M.sound) in
+        ensures waits { let s = map_shape M.laying ⟦<ByKey<KC> as Keyed>⟧.keys (told M.Laid.COST M.laying M.sound) in
             (rest : List ℕ) →
             Waits (s.slots (M.laying.of_pairs (means KC.Value.meaning M.meaning part.now.entries)) ++ rest) self.old →
             Waits rest self.new }
         ensures reaches { (h : ℕ) → Reaches h self.old → Reaches h self.new }
-        ensures back { KeysReadBack (keys_by KC.reading KC.writing KC.COST KC.Value.order KC.fits KC.normal) };
+        ensures back { KeysReadBack ⟦<ByKey<KC> as Keyed>⟧.keys };
 
     /// The fields that were kept.
     ///

@@ -5,12 +5,12 @@ ghost use Rattle.std.specs.Option.{option_map};
 ghost use Rattle.buffa_map.specs.Pairs.{means};
 ghost use Rattle.buffa_fields.specs.Laying.{children_shape, map_shape, maybe_shape};
 ghost use Rattle.buffa_fields.specs.Layout.{Comes};
-ghost use Rattle.buffa_fields.specs.MapKeys.{keys_by};
 ghost use Rattle.buffa_fields.specs.OneOfParts.{case_slots};
 ghost use Rattle.buffa_fields.specs.Told.{told, told_layout};
 
 use buffa::fields::{
-    Keeping, Laid, Member, OneOf, OrderedKey, SelfFields, SelfListing, SelfMerger, SelfVisitor,
+    ByKey, Keeping, Keyed, Laid, Member, OneOf, OrderedKey, SelfFields, SelfListing, SelfMerger,
+    SelfVisitor,
 };
 use buffa::map_codec::MapCodec;
 use buffa::{Budget, DecodeContext, DecodeError, Tag, UnknownFields};
@@ -161,7 +161,7 @@ pub fn self_visitor_visit_map<M: SelfListing, V: SelfVisitor<M>, KC: MapCodec>(
 where
     KC::Value: OrderedKey,
     requires number { (1 ≤ number) × (number ≤ 536870911) }
-    requires comes { let s = map_shape M.laying (keys_by KC.reading KC.writing KC.COST KC.Value.order KC.fits KC.normal) (told M.Laid.COST M.laying M.sound) in
+    requires comes { let s = map_shape M.laying ⟦<ByKey<KC> as Keyed>⟧.keys (told M.Laid.COST M.laying M.sound) in
         Comes V.Waits (s.slots (M.laying.of_pairs (means KC.Value.meaning M.meaning part.now.entries))) visitor.old }
     requires low { (h : ℕ)
         × (M.laying.pairs_height (M.laying.of_pairs (means KC.Value.meaning M.meaning part.now.entries)) < h)
