@@ -14,6 +14,7 @@ class Edge:
         entry = world.entries.get(self.it.type_name)
         value = entry.field[1] if entry else self.it
         self.is_case = self.it.HasField("oneof_index") and not self.it.proto3_optional
+        self.is_map = bool(entry)
         is_told = self.field.full in world.left | world.fields["encoded"]
         self.to = None if is_told or value.type not in MESSAGES else world.target(self.it)
         self.is_group = not entry and (self.it.type == Field.TYPE_GROUP or self.field.full in world.fields["delimited"])
@@ -46,7 +47,7 @@ def hold_as_encodings(world):
                 continue
             can_be = [it for it in around if not it.is_group]
             alone = [it for it in can_be if not it.is_case]
-            encode(world, (alone or can_be)[-1:])
+            encode(world, (alone or can_be)[-1:], above[above.index(edge.to) :])
         done.add(full)
 
     for message in messages:
@@ -54,12 +55,15 @@ def hold_as_encodings(world):
             walk(message.full, [])
 
 
-def encode(world, edges):
-    """Holds what is behind these fields as encodings."""
+def encode(world, edges, around=()):
+    """Holds what is behind these fields as encodings. The messages around hold one another."""
     for edge in edges:
         world.encoded.add(edge.field.full)
         if not world.is_mapped(edge.to):
-            world.tell(f"{edge.field.at()}: it is held as encodings, since {edge.to} would hold itself otherwise")
+            held = "a Vec<u8>, its encoding," if edge.is_case else f"a {'map' if edge.is_map else 'list'} of encodings, each a Vec<u8>,"
+            others = " and ".join(it for it in around if it != edge.to)
+            through = f" through {others}" if others else " in a oneof" if edge.is_case else ""
+            world.tell(f"{edge.field.at()}: it is {held} which merge_from_slice reads, since {edge.to} would hold itself{through} otherwise")
 
 
 def see_no_cycle(world, messages):
