@@ -56,7 +56,9 @@ class Member:
         self.is_own = world.target(self.it) == message.full
         self.is_list = self.it.label == Field.LABEL_REPEATED
         self.is_case = is_case(self.it)
-        self.is_opened = self.is_case and self.it.type == Field.TYPE_ENUM and world.found[self.it.type_name.lstrip(".")].file.is_closed
+        # A closed enum that is read as an open one.
+        enum = world.found.get(self.it.type_name.lstrip("."))
+        self.is_opened = bool(self.is_case and self.it.type == Field.TYPE_ENUM and enum and enum.file.is_closed)
         self.see_told(entry)
         self.is_required = self.it.label == Field.LABEL_REQUIRED and "optional" not in self.told
         self.is_encoded = "encoded" in self.told or field.full in world.encoded
