@@ -32,12 +32,12 @@ def hold_as_encodings(world):
         own = [e for e in out if e.to == full]
         edges[full] = [e for e in out if e.to and e.to != full]
         encode(world, [e for e in own if e.is_case and not e.is_group])
-    done = set()
+    done, found = set(), None
 
     def walk(full, way):
         """Goes on from a message, to which these fields led, each with the message that has it."""
         above = [it for it, _ in way] + [full]
-        for edge in edges[full]:
+        for edge in (it for it in edges[full] if it.field.full not in world.encoded):
             if edge.to not in above:
                 if edge.to not in done:
                     walk(edge.to, way + [(full, edge)])
@@ -50,9 +50,13 @@ def hold_as_encodings(world):
             encode(world, (alone or can_be)[-1:], above[above.index(edge.to) :])
         done.add(full)
 
-    for message in messages:
-        if message.full not in done:
-            walk(message.full, [])
+    # A way around may lead through a message that was left already when another one was cut: so until nothing more is found.
+    while found != len(world.encoded):
+        found = len(world.encoded)
+        done.clear()
+        for message in messages:
+            if message.full not in done:
+                walk(message.full, [])
 
 
 def encode(world, edges, around=()):

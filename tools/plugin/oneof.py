@@ -12,10 +12,12 @@ class OneOf:
     is_required = is_list = is_encoded = is_bytes = keeps = has_getter = False
     itself = None
 
-    def __init__(self, world, field, name, cases):
+    def __init__(self, world, field, name, cases, others):
         self.world, self.field, self.it, self.name = world, field, field.it, name
         self.cases = sorted(cases, key=lambda k: k.number)
-        self.number, self.last = self.cases[0].number, self.cases[-1].number
+        self.number = self.cases[0].number
+        # Cases that another field's number is before, and that are written before it, since the first is.
+        self.parted = [k for k in self.cases if any(self.number < it.number < k.number for it in others)]
         self.enum, self.told, self.imports = world.types[field.full], set(), [field.full]
         self.in_contract, self.needs = name, {"OneOf", "visit_one_of"}
         self.inside = [it for k in self.cases for it in k.inside]

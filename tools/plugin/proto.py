@@ -1,6 +1,7 @@
 """What a .proto says, and what of it messages from their fields can say: all else is refused, by name."""
 import re
 
+from google.protobuf.descriptor_pb2 import DescriptorProto as Descriptor
 from google.protobuf.descriptor_pb2 import FieldDescriptorProto as Field
 
 from depths import own_depth
@@ -55,6 +56,9 @@ class Member:
         self.is_own = world.target(self.it) == message.full
         self.is_list = self.it.label == Field.LABEL_REPEATED
         self.is_case = is_case(self.it)
+        # A closed enum that is read as an open one.
+        enum = world.found.get(self.it.type_name.lstrip("."))
+        self.is_opened = bool(self.is_case and self.it.type == Field.TYPE_ENUM and enum and enum.file.is_closed)
         self.see_told(entry)
         self.is_required = self.it.label == Field.LABEL_REQUIRED and "optional" not in self.told
         self.is_encoded = "encoded" in self.told or field.full in world.encoded
@@ -135,7 +139,10 @@ class Member:
                 self.field.refuse(f"it is {others[key]}, and {key}= is for these alone", f"take {key}= away")
 
     def codec(self, it, is_text=False):
-        """The codec of a field, its Rust type, what it means, its bytes and its default; of a closed enum also that it is one."""
+        """The codec of a field, its Rust type, what it means, its bytes and its default; of a closed enum also that it is one.
+
+        No case of a oneof puts aside what a closed enum doesn't declare, so there it is read as an open one.
+        """
         if it.type == Field.TYPE_STRING and self.is_bytes and not is_text:
             self.needs |= {"BytesVec"}
             return SCALARS[Field.TYPE_BYTES] + (False,)
@@ -148,7 +155,7 @@ class Member:
             return made + (False,)
         name = self.world.type_of(self.field, it.type_name)
         self.inside.append(it.type_name.lstrip("."))
-        if self.world.found[it.type_name.lstrip(".")].file.is_closed:
+        if self.world.found[it.type_name.lstrip(".")].file.is_closed and not self.is_opened:
             self.needs.add("ClosedEnum")
             return f"ClosedEnum<{name}>", name, "i32", 8, None, True
         self.needs |= {"OpenEnum", "EnumValue"}
@@ -174,8 +181,6 @@ class Member:
             packed = can_be and (self.it.options.packed if self.it.options.HasField("packed") else not self.field.file.is_closed)
             self.be("Packed" if packed else "Repeated", codec, f"Vec<{rust}>", f"[{means}; 0]", 24, "Vec::new(alloc)")
         elif self.is_case:
-            if is_closed:
-                self.field.refuse("its enum is closed, and no case of a oneof keeps what that doesn't declare")
             self.be_case("Optional", codec, rust, means, cost)
         elif "implicit" in self.told:
             if is_closed:
@@ -291,8 +296,10 @@ class Message:
 
     def __init__(self, world, name):
         self.world, self.name, self.rust, self.it = world, name, world.types[name.full], name.it
-        if self.it.options.message_set_wire_format:
-            name.refuse("it is a MessageSet, which is written by hand, as SetMsg is")
+        self.is_set = self.it.options.message_set_wire_format
+        if self.is_set:
+            # An Item is a group of number 1, so no extension is under its own number.
+            self.it = Descriptor(name=self.it.name)
         fields = [Name(name.file, name.path + (2, at), f"{name.full}.{f.name}", f) for at, f in enumerate(self.it.field)]
         self.left = sorted((f for f in fields if f.full in world.left), key=lambda f: f.it.number)
         self.listed = [world.tries(Member, world, f, name) for f in fields if f.full not in world.left]
@@ -306,22 +313,17 @@ class Message:
             world.tries(see)
 
     def one_of(self, field):
-        """The member of a oneof: its cases have to stand together, and their enum's file cites the crate."""
+        """The member of a oneof, which stands where its first case does; its enum's file cites the crate."""
         cases = [k for k in self.listed if k.field.full in field.cases]
         if not cases:
             return None
         leave = [k.field.full for k in cases]
         way = "leave out its cases by --buffa_opt=" + ",".join(f"leave={it}" for it in leave)
-        first, last = min(k.number for k in cases), max(k.number for k in cases)
-        between = [k for k in self.listed if first < k.number < last and k not in cases]
-        if between:
-            why = f"{between[0].field.full} has a number between those of its cases, which are written together"
-            raise Refused(f"{field.at()}: {why}: {way}", leave)
         if len(cases) > MOST_CASES:
             raise Refused(f"{field.at()}: it has {len(cases)} cases, of which {MOST_CASES} are written: {way}", leave)
         if not self.world.crate and not self.world.is_mapped(self.name.full):
             field.refuse("the file of its enum cites the crate that it stands in", "say crate=NAME")
-        return OneOf(self.world, field, member(field.it.name), cases)
+        return OneOf(self.world, field, member(field.it.name), cases, [k for k in self.listed if k not in cases])
 
     def see_names(self):
         """Refuses two members of one name."""
@@ -364,7 +366,7 @@ class Message:
     def see_kept(self):
         """Refuses what would drop more than fields that aren't declared."""
         way = f"take drop={self.name.full} away"
-        if not self.is_keeping and self.it.extension_range:
+        if not self.is_keeping and self.name.it.extension_range:
             self.name.refuse("its extensions are among the fields that aren't declared, which drop= leaves out", way)
         for member in self.members:
             if not self.is_keeping and member.keeps:

@@ -13,7 +13,7 @@ class Asked:
         for one in message.oneofs:
             one.asked = [k for k in one.cases if needing & set(k.inside) and "optional" not in k.told and not is_held(k, messages)]
         inner = [k for k in message.members if "optional" not in k.told and needing & set(k.inside) and not message.holds_itself]
-        self.there = [k for k in message.members if k.is_required and k.rust.startswith("Option<")]
+        self.there = [k for k in message.members if k.is_required and k.rust.startswith("Option<") and not k.itself]
         self.looked = [k for k in inner if (k.asked if isinstance(k, OneOf) else not is_held(k, messages))]
         self.passed = [k for k in message.fields if k.is_encoded or needing & set(k.inside) and is_held(k, messages)]
         self.passed += [k for k in message.members if k.itself or message.holds_itself and needing & set(k.inside)]

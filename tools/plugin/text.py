@@ -83,11 +83,13 @@ def docs(lines, indent=""):
 def message_docs(message):
     made = list(message.name.said) + ([""] if message.name.said else [])
     made += [f"message {message.it.name} {{"] + [f"    {line}" for k in message.members for line in lines_of(k.declared())]
+    made += ["    option message_set_wire_format = true;"] * message.is_set
     made += [f"    {r};" for r in ranges(message)] + ["}"]
     for said, fields in remarks(message):
         if fields:
             made += ["", f"{said}: " + ", ".join(f"{f.name} = {f.number}" for f in fields) + "."]
     made += ["", "Its extensions are those of its `rest`."] * bool(message.rest)
+    made += ["", "A MessageSet: its Items are among the fields that aren't declared, each a group of number 1."] * message.is_set
     return docs(made + [] if message.is_keeping else made + ["", "The fields that aren't declared are passed over."])
 
 
@@ -116,6 +118,8 @@ def remarks(message):
     cases = [k.it for k in message.fields if k.is_encoded and k.is_case]
     yield "Held as the encoding of its last record, which merge_from_slice reads", cases
     yield "Held as bytes, which needn't be UTF-8", [k.it for k in message.fields if k.is_bytes]
+    yield "Held as an open enum, though it is a closed one", [k.it for k in message.fields if k.is_opened]
+    yield "Written at the first case of the `oneof`, before lower numbers", [k.it for one in message.oneofs for k in one.parted]
     yield "Written as groups", told("delimited")
     yield "Written in the order of their keys", [k.it for k in message.fields if k.member_type.startswith("Ordered") or k.itself == "map"]
     yield "Not written where it is the default", told("implicit")
