@@ -12,12 +12,16 @@ use Rattle.buffa_bytes.specs.WireType.{wire_number}
 use Rattle.buffa_bytes.specs.declared.error.DecodeError.{DecodeError}
 use Rattle.buffa_bytes.specs.declared.error.DecodeError.TheVariants.{WireTypeMismatch}
 use Rattle.buffa_bytes.specs.declared.wire_type.WireType.{WireType}
+use Rattle.buffa_bytes.specs.declared.error.EncodeError.{EncodeError}
 use Rattle.buffa_wire.specs.BudgetLeft.{BudgetLeft}
+use Rattle.buffa_wire.specs.Records.{Datum}
 use Rattle.buffa_map.specs.Codec.{HoldsNothing, IsWhole, Reading, ReadingTakesMemory, RefusesValue, ValueFault, Writing}
 use Rattle.buffa_map.specs.Encoding.{entry_encoding}
 use Rattle.buffa_map.specs.Entry.{EntryFieldFault, FaultOf, IsEntry}
 use Rattle.buffa_map.specs.Fields.{EntryFieldsTakeMemory}
+use Rattle.buffa_map.specs.Merge.{ReadsRun, Rules, kept_of_run, state}
 use Rattle.buffa_map.specs.Message.{message_reading}
+use Rattle.buffa_map.specs.Rewrite.{RefusesEncoding, RewritesRun}
 use Rattle.buffa_map.specs.declared.map_entry.MapEntry.{MapEntry}
 use Rattle.buffa_bytes.proofs.FieldLemmas.{wire_small}
 use Rattle.buffa_bytes.proofs.ShortestLemmas.{varint_encoding-last}
@@ -77,11 +81,11 @@ module _ {K V : Type 0} (key : Reading K) (val : Reading V) (d : ℕ) where
 -- ---- where messages take memory
 
 content_there : (r : Result (List ℕ × List ℕ) DecodeError) → IsOk (r >>= (λ p. let x : Content × List ℕ = (bytes p.0, p.1) in Ok x)) → IsOk r
-content_there (Ok p) h = tt
+content_there (Ok p) h = refl
 content_there (Err e) h = h
 
 there_content : (r : Result (List ℕ × List ℕ) DecodeError) → IsOk r → IsOk (r >>= (λ p. let x : Content × List ℕ = (bytes p.0, p.1) in Ok x))
-there_content (Ok p) h = tt
+there_content (Ok p) h = refl
 there_content (Err e) h = h
 
 module _ {V : Type 0} (blank : V) (merged : ℕ → V → List ℕ → Option V) (cost : ℕ → List ℕ → BudgetLeft) where
@@ -105,3 +109,15 @@ module _ {V : Type 0} (blank : V) (merged : ℕ → V → List ℕ → Option V)
   pub is_empty : (d : ℕ) (bs rest : List ℕ) → 0 < d → delimited_at bs ≡ Ok ([], rest) → HoldsNothing (message_reading blank merged cost) d bs
   is_empty zero bs rest some h = absurd (omega (arith, some))
   is_empty (suc d) bs rest some h = (refl, refl, rest, rw h refl)
+
+-- ---- what a rewrite reads
+module _ {K V : Type 0} (r : Rules K V) (key : Writing K) (val : Writing V) (KeyFits : K → Type 0) (ValFits : V → Type 0) (Walks : List (K × V) → Type 0)
+    (left over : BudgetLeft) (bs rest old written : List ℕ) (new : List (K × V)) (room : ℕ) where
+  abbrev IsRead : Type 0
+  IsRead = (kept : List (ℕ × Datum)) × ReadsRun r (state [] [] left) bs (state new kept over) rest
+
+  pub rewritten_is : (after : ℕ) → RewritesRun r key val KeyFits ValFits Walks left bs new over rest old written room after → IsRead
+  rewritten_is after h = (kept_of_run r h.entries, record { entries = h.entries; run = h.run; folded = h.folded; order = h.order; keeps = refl; paid = h.paid; whole = h.whole })
+
+  pub refused_is : (e : EncodeError) → RefusesEncoding r key val Walks left bs new over rest old written room e → IsRead
+  refused_is e h = (kept_of_run r h.entries, record { entries = h.entries; run = h.run; folded = h.folded; order = h.order; keeps = refl; paid = h.paid; whole = h.whole })
