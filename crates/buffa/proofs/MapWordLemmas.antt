@@ -1,6 +1,6 @@
 -- What the words of entries, runs and rewrites come to.
 use Rattle.std.proofs.Common.{arith, ◌≡◌, ◌≢◌, ◌⊎◌, inl, inr, ℕ, zero, suc, ◌+◌, ◌*◌, ◌<◌, Bool, true, false, List, [], ◌∷◌, ◌++◌, Option, Result, Ok, Err, refl, sym, ap, subst, ◌∙◌, append-nil}
-use Rattle.std.specs.Prelude.{IsOk}
+use Rattle.std.specs.Prelude.{IsOk, cond, if◌then◌else◌, length}
 use Rattle.buffa_bytes.specs.Gives.{◌>>=◌}
 use Rattle.buffa_bytes.specs.Content.{Content}
 use Rattle.buffa_bytes.specs.Content.Content.{bytes}
@@ -13,13 +13,16 @@ use Rattle.buffa_bytes.specs.declared.error.DecodeError.{DecodeError}
 use Rattle.buffa_bytes.specs.declared.error.DecodeError.TheVariants.{WireTypeMismatch}
 use Rattle.buffa_bytes.specs.declared.wire_type.WireType.{WireType}
 use Rattle.buffa_bytes.specs.declared.error.EncodeError.{EncodeError}
-use Rattle.buffa_wire.specs.BudgetLeft.{BudgetLeft}
+use Rattle.buffa_bytes.specs.Varint.{IsVarint}
+use Rattle.buffa_wire.specs.BudgetLeft.{BudgetLeft, Pays, plus, unknown_fields}
+use Rattle.buffa_wire.specs.Records as datum
 use Rattle.buffa_wire.specs.Records.{Datum}
+use Rattle.buffa_map.specs.Pairs.{SamePairs, put}
 use Rattle.buffa_map.specs.Codec.{HoldsNothing, IsWhole, Reading, ReadingTakesMemory, RefusesValue, ValueFault, Writing}
 use Rattle.buffa_map.specs.Encoding.{entry_encoding}
-use Rattle.buffa_map.specs.Entry.{EntryFieldFault, FaultOf, IsEntry}
+use Rattle.buffa_map.specs.Entry.{EntryFieldFault, FaultOf, IsEntry, need_of}
 use Rattle.buffa_map.specs.Fields.{EntryFieldsTakeMemory}
-use Rattle.buffa_map.specs.Merge.{ReadsRun, Rules, kept_of_run, state}
+use Rattle.buffa_map.specs.Merge.{MergesEntry, ReadsRun, Rules, State, kept_of_run, state}
 use Rattle.buffa_map.specs.Message.{message_reading}
 use Rattle.buffa_map.specs.Rewrite.{RefusesEncoding, RewritesRun}
 use Rattle.buffa_map.specs.declared.map_entry.MapEntry.{MapEntry}
@@ -121,3 +124,12 @@ module _ {K V : Type 0} (r : Rules K V) (key : Writing K) (val : Writing V) (Key
 
   pub refused_is : (e : EncodeError) → RefusesEncoding r key val Walks left bs new over rest old written room e → IsRead
   refused_is e h = (kept_of_run r h.entries, record { entries = h.entries; run = h.run; folded = h.folded; order = h.order; keeps = refl; paid = h.paid; whole = h.whole })
+
+-- ---- what a merged entry is
+pub merged_is : {K V : Type 0} (r : Rules K V) (old new : State K V) (bs rest : List ℕ) → MergesEntry r old bs new rest →
+    (e : List ℕ) × (s : MapEntry K V) × ((t : List ℕ) × IsVarint t (length e) × (bs ≡ t ++ (e ++ rest)) × IsEntry r.key r.val r.depth e s)
+    × Pays old.left (plus (need_of r.key r.val r.depth r.cost e) (unknown_fields (cond s.known 0 (if r.keeps_undeclared then 1 else 0)))) new.left
+    × SamePairs r.same (cond s.known (put r.same old.pairs s.key s.value) old.pairs) new.pairs
+    × (r.keeps_order ≡ true → new.pairs ≡ cond s.known (put r.same old.pairs s.key s.value) old.pairs)
+    × (new.records ≡ old.records ++ (if r.keeps_undeclared then cond s.known [] ((r.number, datum.bytes e) ∷ []) else []))
+merged_is r old new bs rest h = (h.entry, h.says, h.read, h.pays, h.put, h.order, h.keeps)
