@@ -1,14 +1,13 @@
 -- Items field by field, from the front.
-use Rattle.std.proofs.Common.{◌≡◌, ◌≢◌, inl, inr, ℕ, List, [], ◌++◌, length, Option, None, Some, refl, sym, subst, ◌∙◌, append-nil, append_assoc}
+use Rattle.std.proofs.Common.{◌≡◌, ◌≢◌, inl, inr, ℕ, List, [], ◌++◌, length, Option, None, Some, refl, sym, subst, ◌∙◌, append-nil}
 use Rattle.buffa_bytes.specs.Field.{Field, IsTag}
-use Rattle.buffa_bytes.specs.Sequence.{ParsesTo}
 use Rattle.buffa_bytes.specs.Varint.{IsVarint}
 use Rattle.buffa_bytes.specs.declared.wire_type.WireType.{WireType}
 use Rattle.buffa_bytes.specs.declared.wire_type.WireType.TheVariants.{Varint, LengthDelimited, EndGroup}
 use Rattle.buffa_bytes.specs.declared.error.DecodeError.TheVariants.{InvalidMessageSet}
 use Rattle.buffa_bytes.specs.declared.error.MessageSetFault.TheVariants.{MissingTypeId}
 use Rattle.buffa_bytes.proofs.SequenceLemmas.{ParsesTo-more}
-use Rattle.buffa_message_set.specs.Item.{IsItemField, IsTypeId, Item, ItemFault, Reaches, Said, said, says, unsaid}
+use Rattle.buffa_message_set.specs.Item.{IsItemField, IsTypeId, Item, ItemFault, Reaches, Said, said, unsaid}
 
 module _ (d : ℕ) where
   -- fields that say s, and whatever follows them

@@ -1,12 +1,12 @@
 -- What the words of entries, runs and rewrites come to.
-use Rattle.std.proofs.Common.{arith, ◌≡◌, ◌≢◌, ◌⊎◌, inl, inr, ℕ, zero, suc, ◌+◌, ◌*◌, ◌<◌, Bool, true, false, List, [], ◌∷◌, ◌++◌, Option, Result, Ok, Err, refl, sym, ap, subst, ◌∙◌, append-nil}
+use Rattle.std.proofs.Common.{arith, ◌≡◌, ◌≢◌, ◌⊎◌, inl, inr, ℕ, zero, suc, ◌+◌, ◌*◌, ◌<◌, Bool, true, false, List, [], ◌∷◌, ◌++◌, Option, Result, Ok, Err, refl, sym, ap, ◌∙◌, append-nil}
 use Rattle.std.specs.Prelude.{IsOk, cond, if◌then◌else◌, length}
 use Rattle.buffa_bytes.specs.Gives.{◌>>=◌}
 use Rattle.buffa_bytes.specs.Content.{Content}
 use Rattle.buffa_bytes.specs.Content.Content.{bytes}
 use Rattle.buffa_bytes.specs.Front.{delimited_at, tag_at}
 use Rattle.buffa_bytes.specs.Field.{PayloadFault, TagFault, TakesTag}
-use Rattle.buffa_bytes.specs.Sequence.{ParsesEach, ParsesTo, join}
+use Rattle.buffa_bytes.specs.Sequence.{join}
 use Rattle.buffa_bytes.specs.Values.{tag_encoding}
 use Rattle.buffa_bytes.specs.WireType.{wire_number}
 use Rattle.buffa_bytes.specs.declared.error.DecodeError.{DecodeError}

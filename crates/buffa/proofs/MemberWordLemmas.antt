@@ -1,5 +1,5 @@
 -- What groups and numbers that are put aside cost, of which some are malformed.
-use Rattle.std.proofs.Common.{arith, ◌≡◌, ◌≢◌, ℕ, ℤ, suc, ◌-◌, List, [], ◌++◌, Option, Some, None, Ok, Err, refl, ap, subst, ◌∙◌}
+use Rattle.std.proofs.Common.{arith, ◌≡◌, ◌≢◌, ℕ, ℤ, suc, ◌-◌, List, [], ◌++◌, Option, Some, None, Ok, Err, refl, ap, ◌∙◌}
 use Rattle.std.specs.Option.{option_map}
 use Rattle.buffa_bytes.specs.Field.{IsTag, Payload, PayloadFault, SomeField, TagFault}
 use Rattle.buffa_bytes.specs.Join.{Join}
