@@ -27,6 +27,12 @@ use std::hash::{BuildHasher, Hash};
 
 /// Laws of the names of this crate: limits, codecs, and the usual map.
 pub use crate::name_laws as names;
+/// What the words of map fields mean: rules, entries, runs and rewrites.
+pub use crate::map_word_laws as map_words;
+/// What the words of some members mean: groups, maps of messages, and numbers that are put aside.
+pub use crate::member_word_laws as member_words;
+/// How Items of a MessageSet are read from the front.
+pub use crate::item_word_laws as item_words;
 /// Laws of bytes: varints, tags, fields, scalars and texts.
 pub use buffa_wire::laws::wire;
 /// Laws of codecs of extensions: scalars, texts, enums and lists.
