@@ -61,6 +61,7 @@ module _ {keeps : Bool} {M P Q A B C : Type 0} (f : M → P) (g : M → Q) (p : 
     normal = λ v. (λ h. (h.0.0, (h.0.1, h.1, h.2.1), h.2.0), λ h. ((h.0, h.1.0), h.1.1, (h.2, h.1.2)));
     declares = λ n. any_of (p.part.mine n) (q.part.mine n) (l.declares n);
     sound = refl;
+    exact = (λ h. (h.0.0, (h.0.1, h.1)), λ h. ((h.0, h.1.0), h.1.1));
   }
 
 -- ---- a block of one
@@ -78,6 +79,7 @@ module _ {M P A B : Type 0} (k : ℕ) (get : M → P) (s : Shape P A) (l : Layou
     normal = λ v. (λ h. h, λ h. h);
     declares = λ n. refl;
     sound = refl;
+    exact = (λ h. h, λ h. h);
   }
 
   given : (v : Option (A × B)) → v ≡ option_map (λ x. x) (option_map (λ x. (x.0, l.adds x.1 [])) v)
@@ -103,6 +105,7 @@ module _ {M P A B : Type 0} (k : ℕ) (get : M → P) (s : Shape P A) (l : Layou
     normal = λ v. (λ h. h, λ h. h);
     declares = λ n. refl;
     sound = refl;
+    exact = (λ h. h, λ h. h);
   }
 
   pub kept_is : (a : Aside A) → SaysTheSame (λ v. v) (block (block_of get (one_kept k s a)) l) (field_kept k get s a l)
@@ -118,6 +121,7 @@ module _ {M P A B : Type 0} (k : ℕ) (get : M → P) (s : Shape P A) (l : Layou
     normal = λ v. (λ h. h, λ h. h);
     declares = λ n. refl;
     sound = refl;
+    exact = (λ h. h, λ h. h);
   }
 
 module _ {M O X B : Type 0} (get : M → Option O) (e : OneOf O X) (l : Layout M B) where
@@ -134,4 +138,5 @@ module _ {M O X B : Type 0} (get : M → Option O) (e : OneOf O X) (l : Layout M
     normal = λ v. (λ h. h, λ h. h);
     declares = λ n. refl;
     sound = refl;
+    exact = (λ h. h, λ h. h);
   }

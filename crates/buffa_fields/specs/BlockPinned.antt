@@ -19,6 +19,7 @@ pub record SaysTheSame {M X Y : Type 0} (turn : X → Y) (a : Layout M X) (b : L
   pub normal : (v : X) → a.normal v ↔ b.normal (turn v)
   pub declares : (n : ℕ) → a.declares n ≡ b.declares n
   pub sound : a.sound ≡ b.sound
+  pub exact : a.Exact ↔ b.Exact
 
 -- a block, among those of which a field may give records to keep just where one of its own may
 abbrev pub as_keeping : {k j : Bool} {P A : Type 0} → k ≡ j → Block k P A → Block j P A

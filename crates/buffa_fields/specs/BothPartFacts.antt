@@ -109,10 +109,6 @@ module _ {P Q A B : Type 0} (p : Part P A) (q : Part Q B) (keeps : Bool) (laws :
     either_taken true is mine h left = by_first is h left
     either_taken false off mine h left = by_second off mine h left
 
-    either_asks : (t : Bool) → p.mine n ≡ t → both.mine n ≡ true → Choice t First Second → FullOnlyIf r (Choice t (p.asks before.unknown d n w bs) (q.asks before.unknown d n w bs))
-    either_asks true is mine h = laws.asks_is kept keeping d old.0 n w bs before r new.0 after rest is h.0
-    either_asks false off mine h = others.asks_is kept keeping d old.1 n w bs before r new.1 after rest (second_mine (p.mine n) (q.mine n) off mine) h.1
-
   both_asks : (kept keeping : Kept) (d : ℕ) (old : P × Q) (n : ℕ) (w : WireType) (bs : List ℕ) (before : BudgetLeft) (r : answer) (new : P × Q) (after : BudgetLeft) (rest : List ℕ) →
       both.mine n ≡ true → both.Took d old kept n w bs before r new keeping after rest → FullOnlyIf r (both.asks before.unknown d n w bs)
   both_asks kept keeping d old n w bs before r new after rest mine h = at (p.mine n) refl h

@@ -1,6 +1,6 @@
 //! What a block of members is: its members, one after the other, as a message has them that names each by `field`.
 
-ghost use Rattle.std.specs.Prelude.{◌≡◌, ℕ, Option};
+ghost use Rattle.std.specs.Prelude.{◌≡◌, ◌↔◌, ℕ, List, Option, false, true};
 ghost use Rattle.buffa_fields.specs.BlockPinned.{SaysTheSame, as_keeping};
 ghost use Rattle.buffa_fields.specs.Blocks.{aloof, block, block_of, both_blocks, one, one_case, one_kept};
 ghost use Rattle.buffa_fields.specs.BothParts.{inward};
@@ -31,4 +31,23 @@ pub fn blocks_are_their_members<F: Fields, B: MemberBlock<Message = F>, C: Membe
         (block (block_of (λ m. (B.members.get m, C.members.get m))
             (both_blocks B.members.block (as_keeping same C.members.block))) F.layout)
         (block B.members (block C.members F.layout)) }
+{}
+
+/// Two blocks in one: a value is normal, and its levels are exact, where this is so of each of the two; and a field may ask for memory
+/// where the one may that has its number.
+pub fn blocks_in_two_are_these<B: MemberBlock, C: MemberBlock>()
+    ensures normal { (same : C.members.keeps ≡ B.members.keeps) (v : _) →
+        (both_blocks B.members.block (as_keeping same C.members.block)).part.normal v
+        ↔ (B.members.block.part.normal v.0 × C.members.block.part.normal v.1) }
+    ensures exact { (same : C.members.keeps ≡ B.members.keeps) →
+        (both_blocks B.members.block (as_keeping same C.members.block)).part.Exact
+        ↔ (B.members.block.part.Exact × C.members.block.part.Exact) }
+    ensures asks { (same : C.members.keeps ≡ B.members.keeps) (s d n : ℕ) (w : _) (bs : List ℕ) →
+        B.members.block.part.mine n ≡ true →
+        (both_blocks B.members.block (as_keeping same C.members.block)).part.asks s d n w bs
+        ↔ B.members.block.part.asks s d n w bs }
+    ensures other_asks { (same : C.members.keeps ≡ B.members.keeps) (s d n : ℕ) (w : _) (bs : List ℕ) →
+        B.members.block.part.mine n ≡ false →
+        (both_blocks B.members.block (as_keeping same C.members.block)).part.asks s d n w bs
+        ↔ C.members.block.part.asks s d n w bs }
 {}
