@@ -1,4 +1,5 @@
 """The answers where the checker finds no proof by itself: of `visit` behind several messages, and of `take` of a oneof's numbers."""
+from blocks import Block, blocks, holds_messages, lends, pieces
 from names import snake
 from oneof import OneOf
 
@@ -8,10 +9,13 @@ IN_ALL = 3
 
 
 def to_answer(message):
-    """The places of the members whose call of `visit` is answered: behind two that hold messages by the same member type, or three in all."""
-    seen, found = {}, []
-    for at, member in enumerate(message.members):
-        if not any(it in message.world.found and hasattr(message.world.found[it].it, "field") for it in member.inside):
+    """The places of the members whose call of `visit` is answered: behind two that hold messages by the same member type, or three in all; and all behind a block."""
+    seen, found, is_behind = {}, [], False
+    for at, member in enumerate(pieces(message)):
+        if is_behind and lends(message, member):
+            found.append(at)
+        is_behind = is_behind or isinstance(member, Block)
+        if is_behind or not holds_messages(message, member):
             continue
         kind = "OneOf" if isinstance(member, OneOf) else member.member_type.split("<")[0]
         seen[kind] = seen.get(kind, 0) + 1
@@ -20,11 +24,12 @@ def to_answer(message):
     return found
 
 
-def calls(message):
+def calls(members):
     """Of each member the word of its call, and which of these calls it is."""
     counts, made = {}, []
-    for member in message.members:
-        word = "visit_one_of" if isinstance(member, OneOf) else "visit_keeping" if member.keeps else "visit"
+    for member in members:
+        word = "visit_one_of" if isinstance(member, OneOf) else "visit"
+        word = "visit_keeping" if member.keeps and not isinstance(member, Block) else word
         counts[word] = counts.get(word, 0) + 1
         made.append((word, counts[word]))
     return made
@@ -35,20 +40,54 @@ def numbered(word, count, behind=""):
     return f"{word}{behind}" if count == 1 else f"{word}{behind}-{count}"
 
 
+def goal(member, word, count):
+    """What the call of a member owes."""
+    return numbered(word, count, "-requires") + "-clause-comes" * (not isinstance(member, (Block, OneOf)))
+
+
+def answers_of_blocks(world, message):
+    """The files of the answers of `visit` of its blocks, where members of these hold messages."""
+    return [answers_of_block(world, message, it) for it in blocks(message) if it.lends]
+
+
+def answers_of_block(world, message, block):
+    """Sizes that come next come in turn; and once all members were visited, those behind the block do."""
+    facts = "buffa.specs.Members" if world.over == "buffa" else "buffa_fields.specs.BlockFacts"
+    head = ".".join(it for it in ("Rattle", world.crate, "proofs", world.module, snake(message.rust)) if it)
+    made = [f"use Rattle.{facts}.{{both_waited, first_comes, second_comes}}"]
+    made += [f"use {head}.{block.name}MemberBlock.visit.Goals as goal"]
+    order, last, comes = calls(block.members), len(block.members) - 1, "c.requires"
+    waits = [f"c.{numbered(word, count)}.ensures.waits" for word, count in order]
+    slots = ["_" if lends(message, k) else "[]" for k in block.members]
+    for at, member in enumerate(block.members):
+        if slots[at] == "_":
+            name = goal(member, *order[at])
+            term = f"first_comes g.V.Visitor.Waits g.V.Visitor.begins _ _ _ ({comes})" if at < last else comes
+            made += ["", f"pub {name} : goal.{name}", f"{name} g c = {term}"]
+        comes = f"second_comes g.V.Visitor.Waits {slots[at]} _ _ _ {waits[at]} ({comes})"
+    term = waits[last]
+    for at in reversed(range(last)):
+        term = f"both_waited g.V.Visitor.Waits {slots[at]} _ _ _ _ {waits[at]} ({term})"
+    made += ["", "pub returns-clause-waits : goal.returns-clause-waits", f"returns-clause-waits g c = {term}"]
+    if "[]" in slots:
+        made.insert(0, "use Rattle.std.proofs.Common.{[]}")
+    folder = "/".join(it for it in ("../proofs", world.module, snake(message.rust)) if it)
+    return f"{folder}/{block.name}MemberBlock/visit/Answers.antt", "\n".join(made) + "\n"
+
+
 def answers(world, message):
     """The file of the answers, by its name beside `src`, where one is needed."""
     places = to_answer(message)
     if not places:
         return None
-    order = calls(message)
+    order = calls(pieces(message))
     head = ".".join(it for it in ("Rattle", world.crate, "proofs", world.module, snake(message.rust)) if it)
     made = [f"use {head}.{message.rust}Fields.visit.Goals as goal"]
     for at in places:
         waits = "c.requires"
         for word, count in order[:at]:
             waits = f"c.{numbered(word, count)}.ensures.waits _ {f'({waits})' if ' ' in waits else waits}"
-        word, count = order[at]
-        name = numbered(word, count, "-requires") + "-clause-comes"
+        name = goal(pieces(message)[at], *order[at])
         made += ["", f"pub {name} : goal.{name}", f"{name} g c = g.V.Visitor.begins _ _ _ ({waits})"]
     folder = "/".join(it for it in ("../proofs", world.module, snake(message.rust)) if it)
     return f"{folder}/{message.rust}Fields/visit/Answers.antt", "\n".join(made) + "\n"
@@ -74,3 +113,41 @@ def answers_of_oneof(world, one):
         made += [f"    let is = sym c.field_number.ensures ∙ c.in-{case.number}.is in", f"    {term}"]
     folder = "/".join(it for it in ("../proofs", world.module, snake(one.enum)) if it)
     return f"{folder}/{one.enum}OneOf/take/Answers.antt", "\n".join(made) + "\n"
+
+
+def answers_of_take(world, message):
+    """The file of the answers of `take` of a message in blocks: of each block that it took the field, and that none before it did."""
+    found = blocks(message)
+    if not found:
+        return None
+    names = [it for it in (world.module, snake(message.rust)) if it]
+    facts = "buffa.specs.Members" if world.over == "buffa" else "buffa_fields.specs.BlockFacts"
+    made = ["use Rattle.std.proofs.Common.{refl}", f"use Rattle.{facts}.{{here, past}}"]
+    made.append(f"use {'.'.join(['Rattle', world.crate, 'proofs', *names])}.{message.rust}Fields.take.Goals as goal")
+    for at in range(len(found) + 1):
+        is_last = at == len(found)
+        name = f"returns-else-{place('has', at)}" if is_last else f"returns-then-{place('has', at + 1)}"
+        took = f"c.{'keep' if message.is_keeping else 'pass'}.ensures" if is_last else took_by(message, found, at)
+        for before in reversed(range(at)):
+            took = f"past (rw number at {asked(before)}) c.if-{place('has', before + 1)}.false (refl, {took})"
+        made += ["", f"pub {name} : goal.{name}", f"{name} g c =", "    let number = c.field_number.ensures in", f"    {took}"]
+    return f"{'/'.join(['../proofs', *names])}/{message.rust}Fields/take/Answers.antt", "\n".join(made) + "\n"
+
+
+def place(word, count):
+    """A word, with which of its places it is, but for the first."""
+    return word if count == 1 else f"{word}-{count}"
+
+
+def asked(at):
+    """What is known of the answer whether a block has the number."""
+    return f"c.has{'-else-' * (at > 0)}{place('has', at) if at else ''}.ensures"
+
+
+def took_by(message, found, at):
+    """That a block took the field, and those behind it stay."""
+    left = len(found) - at - 1
+    stays = "refl" if message.is_keeping and not found[at].keeps else "tt"
+    call = "take" if at == 0 else f"take-then-{place('has', at + 1)}"
+    behind = "(refl, " * left + stays + ")" * left
+    return f"here (rw number at {asked(at)}) c.if-{place('has', at + 1)}.true (c.{call}.ensures, {behind})"

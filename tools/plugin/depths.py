@@ -16,7 +16,9 @@ def own_depth(means):
 
 def depth(message, depths):
     """How deep the pairs of what the members mean are, with those of messages inside that have no name of their own."""
-    inside = [k.own_depth + max([depths.get(it, 0) for it in k.inside], default=0) for k in message.members]
+    from blocks import pieces
+
+    inside = [k.own_depth + max([depths.get(it, 0) for it in k.inside], default=0) for k in pieces(message)]
     return max((at + 1 + it for at, it in enumerate(inside)), default=0) + message.is_keeping
 
 

@@ -4,6 +4,7 @@ import re
 from google.protobuf.descriptor_pb2 import DescriptorProto as Descriptor
 from google.protobuf.descriptor_pb2 import FieldDescriptorProto as Field
 
+from blocks import blocks
 from depths import own_depth
 from files import Name, Refused, clean, quoted
 from names import ESCAPED, TAKEN, member, snake, variant
@@ -34,7 +35,7 @@ CALLS = set(
     "blank clear compute_size extendee_name is_initialized merge merge_field merge_from_slice merge_length_delimited take the_row try_encode_to_vec "
     "unknown_fields unknown_fields_mut visit write_to TheLaws".split()
 )
-# As many members of one message are proved.
+# As many members of a message that holds itself are proved.
 MOST = 60
 
 
@@ -345,10 +346,10 @@ class Message:
 
     def see_count(self):
         """Refuses more members than are proved."""
-        over = [it.field.full for k in self.members[MOST:] for it in getattr(k, "cases", [k])]
+        over = [it.field.full for k in self.members[MOST:] for it in getattr(k, "cases", [k])] if self.holds_itself else []
         if over:
             way = f"leave out those behind the {MOST}th, by --buffa_opt=" + ",".join(f"leave={name}" for name in over)
-            raise Refused(f"{self.name.at()}: it has {len(self.members)} members, of which {MOST} are proved in one message: {way}", over)
+            raise Refused(f"{self.name.at()}: it has {len(self.members)} members, of which {MOST} are proved in a message that holds itself: {way}", over)
 
     def see_rest(self):
         """Names what its fields that aren't declared are in, where it holds itself and has extensions; another type may have the name."""
@@ -358,10 +359,13 @@ class Message:
             self.name.refuse(f"what it keeps its extensions in is to be called {self.rest}, as another type is", way)
 
     def see_meaning(self):
-        """Refuses a name of a meaning that another type has."""
+        """Refuses a name of a meaning or of a block that another type has."""
         way = f"give it another name by --buffa_opt=rename={self.name.full}:NAME"
         if self.is_opaque and f"{self.rust}Meaning" in set(self.world.types.values()) | TAKEN:
             self.name.refuse(f"what it means is to be called {self.rust}Meaning, as another type is", way)
+        for block in blocks(self):
+            if block.name in set(self.world.types.values()) | TAKEN:
+                self.name.refuse(f"a block of its members is to be called {block.name}, as another type is", way)
 
     def see_kept(self):
         """Refuses what would drop more than fields that aren't declared."""

@@ -1,6 +1,7 @@
 """The text of a file: a message from its fields, or an enum, laid out as rt fmt has it."""
 import re
 
+import blocks
 import knots
 import oneof
 import required
@@ -133,6 +134,9 @@ def ranges(message):
 def layout(members, is_keeping):
     made = []
     for member in members:
+        if isinstance(member, blocks.Block):
+            made.append(f"block {member.members_in} (")
+            continue
         if isinstance(member, oneof.OneOf):
             made.append(f"one_of (λ m. m.{member.in_contract}) ⟦<{member.enum} as OneOf>⟧.cases (")
             continue
@@ -146,19 +150,22 @@ def layout(members, is_keeping):
     return ["    ghost layout = { " + made[0]] + ["        " + it for it in made[1:]]
 
 
-def visits(members, is_keeping):
+def visits(members, is_keeping, argument="&self", of="self"):
     """The function that visits the members, one after the other, and then the fields that are kept."""
     made = []
     for member in members:
+        if isinstance(member, blocks.Block):
+            made.append(f"        {member.name}::visit(self, visitor);")
+            continue
         if isinstance(member, oneof.OneOf):
-            made.append(f"        visit_one_of(&self.{member.name}, visitor);")
+            made.append(f"        visit_one_of(&{of}.{member.name}, visitor);")
             continue
         word = "visit_keeping" if member.keeps else "visit"
-        made += called("        ", f"visitor.{word}::<{member.member_type}>", [str(member.number), f"&self.{member.name}"], ";")
+        made += called("        ", f"visitor.{word}::<{member.member_type}>", [str(member.number), f"&{of}.{member.name}"], ";")
     made += ["        visitor.visit_kept(&self.rest);"] * is_keeping
     if not made:
         return ["    fn visit<V: Visitor>(&self, _visitor: &mut V) {}"]
-    return ["    fn visit<V: Visitor>(&self, visitor: &mut V) {"] + made + ["    }"]
+    return [f"    fn visit<V: Visitor>({argument}, visitor: &mut V) {{"] + made + ["    }"]
 
 
 def take(message):
@@ -170,6 +177,8 @@ def take(message):
     other = "kept::keep(alloc, &mut self.rest, tag, buf, ctx)" if message.is_keeping else "kept::pass(tag, buf, ctx)"
     if not members:
         return made + [f"        {other}", "    }"]
+    if blocks.blocks(message):
+        return made + blocks.take(message, other, called)
     made += ["        match tag.field_number() {"]
     for member in members:
         if isinstance(member, oneof.OneOf):
@@ -230,15 +239,20 @@ def names_of(message, fields):
         names |= {"take_one_of"} if message.oneofs else set()
         return (names - {"And", "visit_one_of"}) | knots.names_of(message)
     names |= {"Blank", "Fields", "Formed", "Listed", "Listing", "Visitor"} | ({"KeptFields"} if message.is_keeping else set())
-    if members:
-        names.add("And" if len(members) == 1 else f"And{min(len(members) + 1, 16)}")
-        over = len(members) + 1 - 15
-        while len(members) >= 16 and over > 1:
-            names.add("And" if over == 2 else f"And{min(over, 16)}")
-            over -= 15
+    of_blocks = set().union(*[ands(len(it.members)) for it in blocks.blocks(message)])
+    names |= {"MemberBlock"} if of_blocks else set()
     if message.is_opaque:
-        names = {it for it in names if it != "KeptFields" and not re.fullmatch(r"And\d*", it)} | {"Model"}
-    return names
+        return {it for it in names if it != "KeptFields" and not re.fullmatch(r"And\d*", it)} | {"Model"} | of_blocks
+    return names | ands(len(blocks.pieces(message)) + 1) | of_blocks
+
+
+def ands(count):
+    """The names of the pairs of so many parts."""
+    made = set()
+    while count > 1:
+        made.add("And" if count == 2 else f"And{min(count, 16)}")
+        count = count - 15 if count > 16 else 0
+    return made
 
 
 def head_of_message(world, message, enums):
@@ -254,11 +268,16 @@ def head_of_message(world, message, enums):
 
 def layers(message, fields):
     """The words of its members in contracts."""
-    over, has_one = message.world.over, bool(message.oneofs)
+    pieces, made = blocks.pieces(message), blocks.blocks(message)
+    over, has_one = message.world.over, any(isinstance(k, oneof.OneOf) for k in pieces)
+    fields = [k for k in fields if k in pieces]
     found = ["field"] * any(not k.keeps for k in fields) + ["field_kept"] * any(k.keeps for k in fields)
+    more = sorted(set().union(*[blocks.words(it) for it in made]))
+    found += more if over == "buffa" else []
     found += ["keep"] if message.is_keeping else ["skip"]
     found += ["one_of"] * (has_one and over == "buffa")
     made = [f"ghost use Rattle.{over}.specs.Members.{{{', '.join(found)}}};"]
+    made += [f"ghost use Rattle.buffa_fields.specs.Blocks.{{{', '.join(more)}}};"] * (bool(more) and over != "buffa")
     return made + ["ghost use Rattle.buffa_fields.specs.OneOf.{one_of};"] * (has_one and over != "buffa")
 
 
@@ -333,7 +352,8 @@ def codes_used(message, codes):
 def opaque_meaning(message, messages):
     """What the members of a message mean, as a struct that has none of their types in it."""
     codes = ["coded_knot"] * has_knots(message, messages)
-    values = [some_value(k.means) for k in message.members] + [("[]", {"[]"}) if message.is_keeping else ("tt", set())]
+    pieces = blocks.pieces(message)
+    values = [value_of(k) for k in pieces] + [("[]", {"[]"}) if message.is_keeping else ("tt", set())]
     words = set().union(*[w for _, w in values]) | ({"List", "ℕ"} if message.is_keeping else set())
     name = f"{message.rust}Meaning"
     made = docs([f"What the members of `{message.rust}` mean, one after the other. It is never made."])
@@ -342,14 +362,24 @@ def opaque_meaning(message, messages):
     made += [f"    ghost use Rattle.std.specs.Prelude.{{{', '.join(sorted(words))}}};"] * bool(words)
     made += codes_used(message, codes)
     made += ["    ghost Value = { let Means : (P X : Type 0) → (P → X) → Type 0 = λ P X f. X in"]
-    made += [f"        Means _ _ {meaning_of(k)} × (" for k in message.members]
-    made += [f"        {'List (ℕ × Datum)' if message.is_keeping else 'Unit {0}'}{')' * len(message.members)} }};", ""]
+    made += [f"        Means _ _ {meaning_of(k)} × (" for k in pieces]
+    made += [f"        {'List (ℕ × Datum)' if message.is_keeping else 'Unit {0}'}{')' * len(pieces)} }};", ""]
     made += [f"    ghost coded = {{ Prim.hlevel ({', '.join(['codes', 'coded_datum'] + codes)}) }};", ""]
     return made + pairs("    ghost view = { λ m. ", [v for v, _ in values]) + ["}", ""]
 
 
+def value_of(member):
+    """A value of what a member means, or a block of them, and the words in it."""
+    if not isinstance(member, blocks.Block):
+        return some_value(member.means)
+    values = [some_value(k.means) for k in member.members]
+    return blocks.pair([v for v, _ in values]), set().union(*[w for _, w in values])
+
+
 def meaning_of(member):
     """The function by which contracts say what a member means."""
+    if isinstance(member, blocks.Block):
+        return f"{member.members_in}.block.part.meaning"
     if isinstance(member, oneof.OneOf):
         return f"⟦<{member.enum} as OneOf>⟧.cases.all.cases.meaning"
     return f"⟦<{member.member_type} as Member>⟧.shape.meaning"
@@ -370,13 +400,16 @@ def pairs(head, parts):
 def listed_form(message, messages):
     """All that makes a struct a message."""
     name, cost = message.rust, message.cost(messages)
-    made = opaque_meaning(message, messages) if message.is_opaque else []
+    pieces, made = blocks.pieces(message), []
+    for block in blocks.blocks(message):
+        made += blocks.text(block, called, meaning, visits)
+    made += opaque_meaning(message, messages) if message.is_opaque else []
     made += [f"impl Fields for {name} {{"]
-    means = meaning([k.means for k in message.members] + ["KeptFields" if message.is_keeping else "()"])
+    means = meaning([k.means for k in pieces] + ["KeptFields" if message.is_keeping else "()"])
     made += ([f"    type Meaning = {name}Meaning;"] if message.is_opaque else means) + [""]
     made += [f"    const COST: usize = {cost};", "", f"    ghost COST = {{ {cost} }};", "", "    ghost positive = { lit< tt };", ""]
-    made += layout(message.members, message.is_keeping) + ["", "    ghost sound = { refl };", ""]
-    made += visits(message.members, message.is_keeping) + [""] + take(message) + ["}", ""]
+    made += layout(pieces, message.is_keeping) + ["", "    ghost sound = { refl };", ""]
+    made += visits(pieces, message.is_keeping) + [""] + take(message) + ["}", ""]
     made += [f"impl Blank for {name} {{", f"    type Meaning = <{name} as Fields>::Meaning;", ""]
     made += [f"    ghost {a} = {{ ⟦<{name} as Fields>⟧.layout.{b} }};\n" for a, b in (("meaning", "meaning"), ("blank_is", "blank"))]
     made += blank(message) + ["}", "", f"impl Listing for {name} {{"]

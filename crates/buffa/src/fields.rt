@@ -26,6 +26,7 @@ pub use buffa_fields::meaning::{
     Or,
 };
 pub use buffa_fields::member::Member;
+pub use buffa_fields::member_block::MemberBlock;
 pub use buffa_fields::message::{Listed, Listing};
 pub use buffa_fields::nested::Nested;
 pub use buffa_fields::one_of::{OneOf, visit_one_of};

@@ -47,6 +47,8 @@ pub use buffa_fields::inside_laws as inside;
 pub use buffa_fields::self_laws as selves;
 /// Laws of oneofs and of their cases.
 pub use buffa_fields::one_of_laws as oneofs;
+/// Laws of blocks of members, which messages of many members have.
+pub use buffa_fields::block_laws as blocks;
 /// Laws of map fields: codecs, entries, runs, sizes, encodings and rewrites.
 pub use buffa_map::laws as map_fields;
 /// Laws of Items of a MessageSet.

@@ -25,3 +25,4 @@ pub mod InsideTookLemmas
 pub mod InsidePassLemmas
 pub mod InsideMergeLemmas
 pub mod InsideLawLemmas
+mod BlockLemmas

@@ -16,11 +16,16 @@ pub mod PartFacts
 pub mod MemberParts
 pub mod MemberPartFacts
 pub mod Members
+pub mod BothParts
+pub mod BothPartFacts
 pub mod Cases
 pub mod CasesFacts
 pub mod OneOfParts
 pub mod OneOfFacts
 pub mod OneOf
+pub mod Blocks
+pub mod BlockFacts
+pub mod BlockPinned
 pub mod OneOfPinned
 pub mod MemberRecords
 pub mod Stands

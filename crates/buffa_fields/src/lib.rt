@@ -2,6 +2,7 @@
 #![tactic(auto)]
 
 pub mod aside_laws;
+pub mod block_laws;
 pub mod case;
 pub mod fields;
 pub mod framing;
@@ -27,6 +28,7 @@ pub mod map_member;
 pub mod map_nested;
 pub mod meaning;
 pub mod member;
+pub mod member_block;
 pub mod merge;
 mod merge_self;
 pub mod message;

@@ -1,0 +1,53 @@
+//! What a block of members is: its members, one after the other, as a message has them that names each by `field`.
+
+ghost use Rattle.std.specs.Prelude.{◌≡◌, ◌↔◌, ℕ, List, Option, false, true};
+ghost use Rattle.buffa_fields.specs.BlockPinned.{SaysTheSame, as_keeping};
+ghost use Rattle.buffa_fields.specs.Blocks.{aloof, block, block_of, both_blocks, one, one_case, one_kept};
+ghost use Rattle.buffa_fields.specs.BothParts.{inward};
+ghost use Rattle.buffa_fields.specs.Members.{field, field_kept};
+ghost use Rattle.buffa_fields.specs.OneOf.{one_of};
+
+use crate::fields::Fields;
+use crate::keeping::Keeping;
+use crate::member_block::MemberBlock;
+use crate::one_of::OneOf;
+
+/// A block of one member is the member: a message means the same, and is read and written in the same way, whether it has the one or
+/// the other. So it is of a oneof, and of a member that stands aside among members that may give records to keep.
+pub fn blocks_of_one_are_their_member<F: Fields, N: Keeping, E: OneOf>()
+    ensures one { (k : ℕ) (get : F → N.Part) →
+        SaysTheSame (λ v. v) (block (block_of get (one k N.shape)) F.layout) (field k get N.shape F.layout) }
+    ensures aloof { (k : ℕ) (get : F → N.Part) →
+        SaysTheSame (λ v. v) (block (block_of get (aloof (one k N.shape))) F.layout) (field k get N.shape F.layout) }
+    ensures kept { (k : ℕ) (get : F → N.Part) → SaysTheSame (λ v. v)
+        (block (block_of get (one_kept k N.shape N.aside)) F.layout) (field_kept k get N.shape N.aside F.layout) }
+    ensures case { (get : F → Option E) →
+        SaysTheSame (λ v. v) (block (block_of get (one_case E.cases)) F.layout) (one_of get E.cases F.layout) }
+{}
+
+/// Two blocks in one are the first, and then the second. So a block of members is these, one after the other.
+pub fn blocks_are_their_members<F: Fields, B: MemberBlock<Message = F>, C: MemberBlock<Message = F>>()
+    ensures { (same : C.members.keeps ≡ B.members.keeps) → SaysTheSame inward
+        (block (block_of (λ m. (B.members.get m, C.members.get m))
+            (both_blocks B.members.block (as_keeping same C.members.block))) F.layout)
+        (block B.members (block C.members F.layout)) }
+{}
+
+/// Two blocks in one: a value is normal, and its levels are exact, where this is so of each of the two; and a field may ask for memory
+/// where the one may that has its number.
+pub fn blocks_in_two_are_these<B: MemberBlock, C: MemberBlock>()
+    ensures normal { (same : C.members.keeps ≡ B.members.keeps) (v : _) →
+        (both_blocks B.members.block (as_keeping same C.members.block)).part.normal v
+        ↔ (B.members.block.part.normal v.0 × C.members.block.part.normal v.1) }
+    ensures exact { (same : C.members.keeps ≡ B.members.keeps) →
+        (both_blocks B.members.block (as_keeping same C.members.block)).part.Exact
+        ↔ (B.members.block.part.Exact × C.members.block.part.Exact) }
+    ensures asks { (same : C.members.keeps ≡ B.members.keeps) (s d n : ℕ) (w : _) (bs : List ℕ) →
+        B.members.block.part.mine n ≡ true →
+        (both_blocks B.members.block (as_keeping same C.members.block)).part.asks s d n w bs
+        ↔ B.members.block.part.asks s d n w bs }
+    ensures other_asks { (same : C.members.keeps ≡ B.members.keeps) (s d n : ℕ) (w : _) (bs : List ℕ) →
+        B.members.block.part.mine n ≡ false →
+        (both_blocks B.members.block (as_keeping same C.members.block)).part.asks s d n w bs
+        ↔ C.members.block.part.asks s d n w bs }
+{}
