@@ -129,8 +129,8 @@ def answers_of_take(world, message):
         name = f"returns-else-{place('has', at)}" if is_last else f"returns-then-{place('has', at + 1)}"
         took = f"c.{'keep' if message.is_keeping else 'pass'}.ensures" if is_last else took_by(message, found, at)
         for before in reversed(range(at)):
-            took = f"past (rw number at {asked(before)}) c.if-{place('has', before + 1)}.false (refl, {took})"
-        made += ["", f"pub {name} : goal.{name}", f"{name} g c =", "    let number = c.field_number.ensures in", f"    {took}"]
+            took = f"past _ (rw number at {asked(before)}) c.if-{place('has', before + 1)}.false (refl, {took})"
+        made += ["", f"pub {name} : goal.{name}", f"{name} c =", "    let number = c.field_number.ensures in", f"    {took}"]
     return f"{'/'.join(['../proofs', *names])}/{message.rust}Fields/take/Answers.antt", "\n".join(made) + "\n"
 
 
@@ -150,4 +150,4 @@ def took_by(message, found, at):
     stays = "refl" if message.is_keeping and not found[at].keeps else "tt"
     call = "take" if at == 0 else f"take-then-{place('has', at + 1)}"
     behind = "(refl, " * left + stays + ")" * left
-    return f"here (rw number at {asked(at)}) c.if-{place('has', at + 1)}.true (c.{call}.ensures, {behind})"
+    return f"here _ (rw number at {asked(at)}) c.if-{place('has', at + 1)}.true (c.{call}.ensures, {behind})"

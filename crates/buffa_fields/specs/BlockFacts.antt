@@ -3,11 +3,11 @@ use Rattle.std.proofs.Common.{◌≡◌, ◌∙◌, ℕ, Bool, false, true, List
 use Rattle.buffa_fields.specs.Layout.{Choice, Comes}
 
 -- a block has the number, or hasn't, as it answered
-pub here : {A B : Type 0} {mine said : Bool} → said ≡ mine → said ≡ true → A → Choice mine A B
-here is on a = rw (sym is ∙ on) a
+pub here : {A : Type 0} (B : Type 0) {mine said : Bool} → said ≡ mine → said ≡ true → A → Choice mine A B
+here B is on a = rw (sym is ∙ on) a
 
-pub past : {A B : Type 0} {mine said : Bool} → said ≡ mine → said ≡ false → B → Choice mine A B
-past is off b = rw (sym is ∙ off) b
+pub past : (A : Type 0) {B : Type 0} {mine said : Bool} → said ≡ mine → said ≡ false → B → Choice mine A B
+past A is off b = rw (sym is ∙ off) b
 
 module _ {V : Type 0} (W : List ℕ → V → Type 0) where
   -- those of the first of two come

@@ -1,5 +1,5 @@
 -- What is proved of two parts that are one.
-use Rattle.std.proofs.Common.{◌≡◌, ℕ, ◌≤◌, Bool, true, false, not, ◌||◌, List, [], ◌∷◌, ◌++◌, Option, Some, Result, Err, refl, sym, ap, subst, ◌∙◌, arith, append-nil}
+use Rattle.std.proofs.Common.{◌≡◌, ℕ, Bool, true, false, not, ◌||◌, List, [], ◌∷◌, ◌++◌, Option, Some, Result, Err, refl, sym, ap, subst, ◌∙◌, arith, append-nil}
 use Rattle.std.proofs.lemmas.Bool.{or_left, or_right}
 use Rattle.std.specs.List.{AllByRecursion}
 use Rattle.std.specs.Option.{option_map}
@@ -8,11 +8,11 @@ use Rattle.buffa_bytes.specs.declared.error.DecodeError.{DecodeError}
 use Rattle.buffa_bytes.specs.declared.wire_type.WireType.{WireType}
 use Rattle.buffa_wire.specs.BudgetLeft.{BudgetLeft}
 use Rattle.buffa_wire.specs.Encoding.{payload_encoding, records_encoding, wire_of}
-use Rattle.buffa_wire.specs.ReadableFacts.{Readable, valid_joined}
-use Rattle.buffa_wire.specs.Records.{Datum, records_of}
-use Rattle.buffa_wire.specs.Takes.{IsTaken, Leads, Piece, ReadsBack, Taker}
+use Rattle.buffa_wire.specs.ReadableFacts.{valid_joined}
+use Rattle.buffa_wire.specs.Records.{Datum}
+use Rattle.buffa_wire.specs.Takes.{IsTaken, Leads, Piece, ReadsBack}
 use Rattle.buffa_fields.specs.Aside.{Kept}
-use Rattle.buffa_fields.specs.BothParts.{adds_beside, aloof_part, both_mine, both_part, both_takes, inward, none_given, outward, part_within, second_put}
+use Rattle.buffa_fields.specs.BothParts.{adds_beside, aloof_part, both_part, inward, none_given, outward, part_within, second_put}
 use Rattle.buffa_fields.specs.BlankFacts.{same_false_only}
 use Rattle.buffa_fields.specs.Keep.{AllNumbers}
 use Rattle.buffa_fields.specs.Layout.{Choice, IsPutBehind}
@@ -21,7 +21,7 @@ use Rattle.buffa_fields.specs.LevelFacts.{all_turn, back_holds, both_numbers, fr
 use Rattle.buffa_fields.specs.Levels.{IsTakenWritten}
 use Rattle.buffa_fields.specs.MemberPartFacts.{none_mine}
 use Rattle.buffa_fields.specs.PairFacts.{either_stays, joined_back, part_taken, readable_both}
-use Rattle.buffa_fields.specs.Parts.{Part, PartLaws, part_need}
+use Rattle.buffa_fields.specs.Parts.{Part, PartLaws}
 
 abbrev answer : Type 0
 answer = Result (Unit {0}) DecodeError

@@ -1,10 +1,9 @@
 -- Lists of members. A message names its members by these, one after the other.
-use Rattle.std.specs.Prelude.{◌≡◌, ℕ, ◌||◌, true, false, nat_lt, List, [], ◌++◌, refl, if◌then◌else◌}
+use Rattle.std.specs.Prelude.{◌≡◌, ℕ, ◌||◌, true, false, List, [], ◌++◌, refl}
 use Rattle.std.proofs.Common.{sym, ap, ◌∙◌, arith, append_assoc, append-nil}
 use Rattle.buffa_wire.specs.Parse.{AreValid}
 use Rattle.buffa_wire.specs.ReadableFacts.{valid_joined}
 use Rattle.buffa_wire.specs.Records.{Datum, height, records_of}
-use Rattle.buffa_wire.specs.Encoding.{records_encoding}
 use Rattle.buffa_wire.specs.Kept.{keep_need}
 use Rattle.buffa_wire.proofs.KeepLemmas.{keep_stays}
 use Rattle.buffa_wire.specs.Takes.{Taker, costs_nothing}
@@ -18,7 +17,7 @@ use Rattle.buffa_fields.specs.LevelFacts.{both_numbers, others_low}
 use Rattle.buffa_fields.specs.MemberPartFacts.{keeping_laws, member_laws}
 use Rattle.buffa_fields.specs.MemberParts.{keeping_part, member_part}
 use Rattle.buffa_fields.specs.PairFacts.{either_stays, readable_both}
-use Rattle.buffa_fields.specs.PartFacts.{mine_front, mine_kept, part_again, part_apart, part_asks, part_back, part_is_taken, theirs_back}
+use Rattle.buffa_fields.specs.PartFacts.{mine_front, mine_kept, part_again, part_apart, part_asks, part_back, part_is_taken}
 use Rattle.buffa_fields.specs.Parts.{Part, PartLaws, part_need, part_take}
 
 -- a part, and the others
