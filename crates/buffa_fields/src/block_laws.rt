@@ -26,10 +26,14 @@ pub fn blocks_of_one_are_their_member<F: Fields, N: Keeping, E: OneOf>()
 {}
 
 /// Two blocks in one are the first, and then the second. So a block of members is these, one after the other.
-pub fn blocks_are_their_members<F: Fields, B: MemberBlock<Message = F>, C: MemberBlock<Message = F>>()
+pub fn blocks_are_their_members<
+    F: Fields,
+    B: MemberBlock<Message = F>,
+    C: MemberBlock<Message = F>,
+>()
     ensures { (same : C.members.keeps ≡ B.members.keeps) → SaysTheSame inward
         (block (block_of (λ m. (B.members.get m, C.members.get m))
-            (both_blocks B.members.block (as_keeping same C.members.block))) F.layout)
+        (both_blocks B.members.block (as_keeping same C.members.block))) F.layout)
         (block B.members (block C.members F.layout)) }
 {}
 
