@@ -130,7 +130,7 @@ def answers_of_take(world, message):
         took = f"c.{'keep' if message.is_keeping else 'pass'}.ensures" if is_last else took_by(message, found, at)
         for before in reversed(range(at)):
             took = f"not_here _ (rw number at {asked(before)}) c.if-{place('has', before + 1)}.false (refl, {took})"
-        made += ["", f"pub {name} : goal.{name}", f"{name} c =", "    let number = c.field_number.ensures in", f"    {took}"]
+        made += ["", f"pub {name} : goal.{name}", f"{name} c =", "    let number = c.field_number-number.ensures in", f"    {took}"]
     return f"{'/'.join(['../proofs', *names])}/{message.rust}Fields/take/Answers.antt", "\n".join(made) + "\n"
 
 

@@ -108,14 +108,14 @@ def clause(block):
     made = f"ensures {{ {word} tag ctx.entry ctx.exit {block.members_in}"
     for when in ("old", "new"):
         made += f" ({listed([f'{in_contract(k)}.{when}' for k in block.members])})"
-    made += " rest.old.records rest.new.records" * block.keeps + " buf.old buf.new result }"
+    made += " rest.old.records rest.new.records" * block.keeps + " buf.old buf.new result"
     lines, row = [], "       "
     for part in made.split(" "):
         if len(row) + len(part) + 1 > LONGEST:
             lines.append(row)
             row = "           "
         row += f" {part}"
-    return lines + [row]
+    return lines + [f"{row} }}"]
 
 
 def call(block, member, called, at):

@@ -1,5 +1,5 @@
 -- What is proved of merging a length and so many bytes into a message.
-use Rattle.std.proofs.Common.{◌≡◌, ◌≢◌, inr, ℕ, zero, suc, ◌-◌, List, length, Option, Result, Ok, Err, IfErr, OnErr, OnOk, refl, arith}
+use Rattle.std.proofs.Common.{◌≡◌, ◌≢◌, inr, ℕ, zero, suc, ◌-◌, List, Option, Result, Ok, Err, IfErr, OnErr, OnOk, refl, arith}
 use Rattle.buffa_bytes.specs.Front.{delimited_at}
 use Rattle.buffa_bytes.specs.declared.error.DecodeError.{DecodeError}
 use Rattle.buffa_bytes.specs.declared.error.DecodeError.TheVariants.{OutOfMemory}

@@ -1,6 +1,6 @@
 -- A map of the message's own type, by its pairs, as what is told of the messages inside says.
 -- Source: the protobuf encoding guide, "Maps" and "Submessages".
-use Rattle.std.specs.Prelude.{◌≡◌, ◌+◌, ℕ, true, List, []}
+use Rattle.std.specs.Prelude.{◌+◌, true, List, []}
 use Rattle.std.specs.BTreeMap.{insert_entry}
 use Rattle.buffa_bytes.specs.Front.{check_wire}
 use Rattle.buffa_bytes.specs.declared.wire_type.WireType.TheVariants.{LengthDelimited}

@@ -1,5 +1,4 @@
-use Rattle.std.proofs.Common.{◌∙◌, ◌≡◌, List, ℕ, ap, subst, sym}
-use Rattle.std.specs.Option.{option_map}
+use Rattle.std.proofs.Common.{◌∙◌, ap, sym}
 use Rattle.buffa_wire.specs.Takes.{merged_of}
 use Rattle.buffa_fields.specs.ApartFacts.{knot_merged_apart}
 use Rattle.buffa_fields.specs.Laying.{whole_takes}
