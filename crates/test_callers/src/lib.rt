@@ -2,7 +2,8 @@
 //! name of the call. A caller has no `requires` but what the call is documented to ask for: a number that a field may have,
 //! bytes that are there, a slot that was reserved. So a condition that is added to a call isn't met here, and this crate is no
 //! longer proved. What the calls do is said by their contracts, and is no matter of this crate. Not called are
-//! those of `Case`, `OneOf`, `Required`, `FloatBits` and `DoubleBits`, and `visit_one_of` and `case_reads_back`.
+//! those of `Case`, `MemberBlock`, `OneOf`, `Required`, `FloatBits` and `DoubleBits`, and `visit_one_of`, `take_one_of` and
+//! `case_reads_back`.
 //!
 //! The caller of `TYPE::call` is `type_call`, that of a function has its name. A trait is called through a type parameter, and
 //! so for every type that has it. No crate depends on this one.
