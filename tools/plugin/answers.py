@@ -122,14 +122,14 @@ def answers_of_take(world, message):
         return None
     names = [it for it in (world.module, snake(message.rust)) if it]
     facts = "buffa.specs.Members" if world.over == "buffa" else "buffa_fields.specs.BlockFacts"
-    made = ["use Rattle.std.proofs.Common.{refl}", f"use Rattle.{facts}.{{here, past}}"]
+    made = ["use Rattle.std.proofs.Common.{refl}", f"use Rattle.{facts}.{{elsewhere, here}}"]
     made.append(f"use {'.'.join(['Rattle', world.crate, 'proofs', *names])}.{message.rust}Fields.take.Goals as goal")
     for at in range(len(found) + 1):
         is_last = at == len(found)
         name = f"returns-else-{place('has', at)}" if is_last else f"returns-then-{place('has', at + 1)}"
         took = f"c.{'keep' if message.is_keeping else 'pass'}.ensures" if is_last else took_by(message, found, at)
         for before in reversed(range(at)):
-            took = f"past _ (rw number at {asked(before)}) c.if-{place('has', before + 1)}.false (refl, {took})"
+            took = f"elsewhere _ (rw number at {asked(before)}) c.if-{place('has', before + 1)}.false (refl, {took})"
         made += ["", f"pub {name} : goal.{name}", f"{name} c =", "    let number = c.field_number-number.ensures in", f"    {took}"]
     return f"{'/'.join(['../proofs', *names])}/{message.rust}Fields/take/Answers.antt", "\n".join(made) + "\n"
 

@@ -1,7 +1,7 @@
 -- Words that messages by their fields cite, under one name.
 unfoldable pub use Rattle.buffa_fields.specs.Aside.{TookBeside}
 unfoldable pub use Rattle.buffa_fields.specs.Layout.{Took}
-pub use Rattle.buffa_fields.specs.BlockFacts.{both_waited, first_comes, here, past, second_comes}
+pub use Rattle.buffa_fields.specs.BlockFacts.{both_waited, elsewhere, first_comes, here, second_comes}
 pub use Rattle.buffa_fields.specs.Blocks.{TakesBlock, TakesKeeping, aloof, block, block_of, both_blocks, eight, five, four, one, one_case, one_kept, seven, six, three, two}
 pub use Rattle.buffa_fields.specs.Levels.{AreExactLevels}
 pub use Rattle.buffa_fields.specs.Members.{field, field_kept, keep, skip}

@@ -6,8 +6,8 @@ use Rattle.buffa_fields.specs.Layout.{Choice, Comes}
 pub here : {A : Type 0} (B : Type 0) {mine said : Bool} → said ≡ mine → said ≡ true → A → Choice mine A B
 here B is on a = rw (sym is ∙ on) a
 
-pub past : (A : Type 0) {B : Type 0} {mine said : Bool} → said ≡ mine → said ≡ false → B → Choice mine A B
-past A is off b = rw (sym is ∙ off) b
+pub elsewhere : (A : Type 0) {B : Type 0} {mine said : Bool} → said ≡ mine → said ≡ false → B → Choice mine A B
+elsewhere A is off b = rw (sym is ∙ off) b
 
 module _ {V : Type 0} (W : List ℕ → V → Type 0) where
   -- those of the first of two come

@@ -10,20 +10,20 @@ use crate::visitor::Visitor;
 /// is short.
 ///
 /// ```ignore
-/// impl MemberBlock for InventoryBlock1 { .. }
+/// impl MemberBlock for StationBlock1 { .. }
 /// ```
 pub trait MemberBlock {
     /// The message.
     ///
     /// ```ignore
-    /// type Message = Inventory;
+    /// type Message = Station;
     /// ```
     type Message;
 
     /// What the members mean, one after the other ([`And`](crate::meaning::And)).
     ///
     /// ```ignore
-    /// type Meaning = And<And<i32, [u8; 0]>, Option<bool>>;
+    /// type Meaning = And7<Option<[u8; 0]>, .., Option<bool>>;
     /// ```
     type Meaning;
 
@@ -33,7 +33,7 @@ pub trait MemberBlock {
     /// Visits each of the members.
     ///
     /// ```ignore
-    /// visitor.visit::<Plain<Int32>>(1, &message.total);
+    /// visitor.visit::<Optional<Int32>>(3, &message.height);
     /// ```
     fn visit<V: Visitor>(message: &Self::Message, visitor: &mut V)
         requires { Comes V.Waits (block_slots members message.now) visitor.old }
@@ -45,7 +45,7 @@ pub trait MemberBlock {
     /// Whether a number is that of one of the members.
     ///
     /// ```ignore
-    /// matches!(number, 1 | 2 | 7)
+    /// matches!(number, 1 | 2 | 3 | 4 | 5 | 6 | 7)
     /// ```
     fn has(number: u32) -> bool
         ensures { result ≡ members.block.part.mine number };
