@@ -1,0 +1,18 @@
+use Rattle.std.proofs.Common.{[]}
+use Rattle.buffa.specs.Members.{both_waited, first_comes, second_comes}
+use Rattle.sample_wide.proofs.station.StationBlock9MemberBlock.visit.Goals as goal
+
+pub visit-requires-clause-comes : goal.visit-requires-clause-comes
+visit-requires-clause-comes g c = first_comes g.V.Visitor.Waits g.V.Visitor.begins _ _ _ (c.requires)
+
+pub visit-requires-2-clause-comes : goal.visit-requires-2-clause-comes
+visit-requires-2-clause-comes g c = first_comes g.V.Visitor.Waits g.V.Visitor.begins _ _ _ (second_comes g.V.Visitor.Waits _ _ _ _ c.visit.ensures.waits (c.requires))
+
+pub visit-requires-3-clause-comes : goal.visit-requires-3-clause-comes
+visit-requires-3-clause-comes g c = first_comes g.V.Visitor.Waits g.V.Visitor.begins _ _ _ (second_comes g.V.Visitor.Waits _ _ _ _ c.visit-2.ensures.waits (second_comes g.V.Visitor.Waits _ _ _ _ c.visit.ensures.waits (c.requires)))
+
+pub visit_one_of-requires : goal.visit_one_of-requires
+visit_one_of-requires g c = second_comes g.V.Visitor.Waits [] _ _ _ c.visit-7.ensures.waits (second_comes g.V.Visitor.Waits [] _ _ _ c.visit-6.ensures.waits (second_comes g.V.Visitor.Waits [] _ _ _ c.visit-5.ensures.waits (second_comes g.V.Visitor.Waits [] _ _ _ c.visit-4.ensures.waits (second_comes g.V.Visitor.Waits _ _ _ _ c.visit-3.ensures.waits (second_comes g.V.Visitor.Waits _ _ _ _ c.visit-2.ensures.waits (second_comes g.V.Visitor.Waits _ _ _ _ c.visit.ensures.waits (c.requires)))))))
+
+pub returns-clause-waits : goal.returns-clause-waits
+returns-clause-waits g c = both_waited g.V.Visitor.Waits _ _ _ _ _ c.visit.ensures.waits (both_waited g.V.Visitor.Waits _ _ _ _ _ c.visit-2.ensures.waits (both_waited g.V.Visitor.Waits _ _ _ _ _ c.visit-3.ensures.waits (both_waited g.V.Visitor.Waits [] _ _ _ _ c.visit-4.ensures.waits (both_waited g.V.Visitor.Waits [] _ _ _ _ c.visit-5.ensures.waits (both_waited g.V.Visitor.Waits [] _ _ _ _ c.visit-6.ensures.waits (both_waited g.V.Visitor.Waits [] _ _ _ _ c.visit-7.ensures.waits (c.visit_one_of.ensures.waits)))))))
