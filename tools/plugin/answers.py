@@ -67,7 +67,8 @@ def answers_of_block(world, message, block):
         comes = f"second_comes g.V.Visitor.Waits {slots[at]} _ _ _ {waits[at]} ({comes})"
     term = waits[last]
     for at in reversed(range(last)):
-        term = f"both_waited g.V.Visitor.Waits {slots[at]} _ _ _ _ {waits[at]} ({term})"
+        behind = "_" if "_" in slots[at + 1:] else "[]"
+        term = f"both_waited g.V.Visitor.Waits {slots[at]} {behind} _ _ _ {waits[at]} ({term})"
     made += ["", "pub returns-clause-waits : goal.returns-clause-waits", f"returns-clause-waits g c = {term}"]
     if "[]" in slots:
         made.insert(0, "use Rattle.std.proofs.Common.{[]}")
@@ -98,9 +99,13 @@ def answers_of_oneof(world, one):
     if len(one.cases) < 2 or not any(k.is_number for k in one.cases):
         return None
     head = ".".join(it for it in ("Rattle", world.crate, "proofs", world.module, snake(one.enum)) if it)
-    facts = "buffa.specs.Members" if world.over == "buffa" else "buffa_fields.specs.LayoutFacts"
-    words = "chosen, not_chosen" if any(k.is_number for k in one.cases[1:]) else "chosen"
-    made = ["use Rattle.std.proofs.Common.{rules, sym, ◌∙◌}", f"use Rattle.{facts}.{{{words}}}"]
+    is_behind = any(k.is_number for k in one.cases[1:])
+    common = "rules, refl, sym, ap, ◌∙◌, ◌==◌" if is_behind else "rules, sym, ◌∙◌"
+    made = [f"use Rattle.std.proofs.Common.{{{common}}}"]
+    if world.over == "buffa":
+        made.append(f"use Rattle.buffa.specs.Members.{{chosen{', not_here' * is_behind}}}")
+    else:
+        made += ["use Rattle.buffa_fields.specs.LayoutFacts.{chosen}"] + ["use Rattle.buffa_fields.specs.BlockFacts.{not_here}"] * is_behind
     made += [f"use {head}.{one.enum}OneOf.take.Goals as goal"]
     for at, case in enumerate(one.cases):
         if not case.is_number:
@@ -108,7 +113,7 @@ def answers_of_oneof(world, one):
         name, read = f"returns-in_ok-it-in-{case.number}", f"c.in_ok-it-in-{case.number}.ensures.ok"
         term = f"chosen _ n {case.number} is (let read = {read} in search (rules, read))"
         for before in reversed(one.cases[:at]):
-            term = f"not_chosen _ n {before.number} (λ e. let no = sym is ∙ e in cc) ({term})"
+            term = f"not_here _ (sym (ap (λ z. z == {before.number}) is)) refl ({term})"
         made += ["", f"pub {name} : goal.{name}", f"{name} c =", "    let n = c.args.tag.number in"]
         made += [f"    let is = sym c.field_number.ensures ∙ c.in-{case.number}.is in", f"    {term}"]
     folder = "/".join(it for it in ("../proofs", world.module, snake(one.enum)) if it)

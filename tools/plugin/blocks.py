@@ -7,6 +7,7 @@ SIZE = 8
 # What the arguments of `take` and the words of its contract are called.
 ARGUMENTS = {"alloc", "tag", "buf", "ctx", "rest", "result"}
 LONGEST = 120
+WIDTH = 100
 # The words by which contracts say so many members, one after the other.
 IN_ALL = dict(enumerate("two three four five six seven eight".split(), 2))
 
@@ -134,7 +135,7 @@ def text(block, called, meaning, visits):
     made = [f"/// The members from `{first}` to `{last}` of a [`{block.message.rust}`], which are read and written together."]
     made += [f"pub struct {block.name};", "", f"impl MemberBlock for {block.name} {{", f"    type Message = {block.message.rust};", ""]
     made += meaning([k.means for k in block.members]) + [""] + members(block)
-    made += visits(block.members, False, f"message: &{block.message.rust}", "message") + [""] + has(block) + ["}", ""]
+    made += visits(block.members, False, f"message: &{block.message.rust}", "message") + [""] + has(block, called) + ["}", ""]
     made += [f"impl {block.name} {{", f"    // Merges the field whose tag was read into the member of its number.", "    fn take("]
     made += [f"        {argument(k)}: &mut {k.rust}," for k in block.members]
     made += ["        rest: &mut UnknownFields,"] * block.keeps
@@ -145,10 +146,15 @@ def text(block, called, meaning, visits):
     return made + ["        }", "    }", "}", ""]
 
 
-def has(block):
+def has(block, called):
     """Whether a number is that of one of its members."""
-    line = " | ".join(str(n) for n in block.numbers())
-    return ["    fn has(number: u32) -> bool {", f"        matches!(number, {line})", "    }"]
+    numbers = [str(n) for n in block.numbers()]
+    line, indent = " | ".join(numbers), "            "
+    made = called("        ", "matches!", ["number", line], "")
+    if len(made) > 1:
+        row = f"{indent}{line}"
+        made[2:3] = [row] if len(row) <= WIDTH else [f"{indent}{numbers[0]}"] + [f"{indent}    | {it}" for it in numbers[1:]]
+    return ["    fn has(number: u32) -> bool {", *made, "    }"]
 
 
 def take(message, other, called):

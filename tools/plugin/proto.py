@@ -35,8 +35,9 @@ CALLS = set(
     "blank clear compute_size extendee_name is_initialized merge merge_field merge_from_slice merge_length_delimited take the_row try_encode_to_vec "
     "unknown_fields unknown_fields_mut visit write_to TheLaws".split()
 )
-# As many members of a message that holds itself are proved.
+# As many members of a message that holds itself are proved, and as many of one in blocks.
 MOST = 60
+MOST_IN_BLOCKS = 240
 
 
 class Member:
@@ -346,10 +347,11 @@ class Message:
 
     def see_count(self):
         """Refuses more members than are proved."""
-        over = [it.field.full for k in self.members[MOST:] for it in getattr(k, "cases", [k])] if self.holds_itself else []
+        most, where = (MOST, "a message that holds itself") if self.holds_itself else (MOST_IN_BLOCKS, "one message")
+        over = [it.field.full for k in self.members[most:] for it in getattr(k, "cases", [k])]
         if over:
-            way = f"leave out those behind the {MOST}th, by --buffa_opt=" + ",".join(f"leave={name}" for name in over)
-            raise Refused(f"{self.name.at()}: it has {len(self.members)} members, of which {MOST} are proved in a message that holds itself: {way}", over)
+            way = f"leave out those behind the {most}th, by --buffa_opt=" + ",".join(f"leave={name}" for name in over)
+            raise Refused(f"{self.name.at()}: it has {len(self.members)} members, of which {most} are proved in {where}: {way}", over)
 
     def see_rest(self):
         """Names what its fields that aren't declared are in, where it holds itself and has extensions; another type may have the name."""

@@ -2,8 +2,10 @@
 
 ghost use Rattle.std.specs.Prelude.{◌≤◌};
 ghost use Rattle.buffa_wire.specs.Passes.{IsNext};
+ghost use Rattle.buffa_fields.specs.Blocks.{block_slots};
+ghost use Rattle.buffa_fields.specs.Layout.{Comes};
 
-use buffa::fields::{Keeping, Member, ProtoType};
+use buffa::fields::{Keeping, Member, MemberBlock, ProtoType, Visitor};
 use buffa::map_codec::MapCodec;
 use buffa::{
     DecodeContext, DecodeError, EncodeError, EncodeSink, Message, SizeCache, Tag, UnknownField,
@@ -113,6 +115,16 @@ pub fn member_merge<M: Member>(
     ctx: DecodeContext<'_>,
 ) -> Result<(), DecodeError> {
     M::merge(part, alloc, tag, buf, ctx)
+}
+
+pub fn member_block_visit<B: MemberBlock, V: Visitor>(message: &B::Message, visitor: &mut V)
+    requires { Comes V.Waits (block_slots B.members message.now) visitor.old }
+{
+    B::visit::<V>(message, visitor)
+}
+
+pub fn member_block_has<B: MemberBlock>(number: u32) -> bool {
+    B::has(number)
 }
 
 pub fn proto_type_is_blank<C: ProtoType>(value: &C::Value) -> bool {

@@ -80,6 +80,16 @@ pub fn take_one<M: Laid + Drop, I: SelfMerger<M>>(
     buffa::fields::take_one(one, alloc, tag, buf, ctx, inner)
 }
 
+pub fn take_one_of<E: OneOf>(
+    slot: &mut Option<E>,
+    alloc: Global,
+    tag: Tag,
+    buf: &mut &[u8],
+    ctx: DecodeContext<'_>,
+) -> Result<(), DecodeError> {
+    buffa::fields::take_one_of(slot, alloc, tag, buf, ctx)
+}
+
 pub fn take_map<KC: MapCodec, M: SelfListing, I: SelfMerger<M>>(
     map: &mut BTreeMap<KC::Value, M>,
     alloc: Global,

@@ -1,9 +1,9 @@
-use Rattle.std.proofs.Common.{rules, sym, ◌∙◌}
-use Rattle.buffa.specs.Members.{chosen, not_chosen}
+use Rattle.std.proofs.Common.{rules, refl, sym, ap, ◌∙◌, ◌==◌}
+use Rattle.buffa.specs.Members.{chosen, not_here}
 use Rattle.sample_outline.proofs.outline_source.OutlineSourceOneOf.take.Goals as goal
 
 pub returns-in_ok-it-in-8 : goal.returns-in_ok-it-in-8
 returns-in_ok-it-in-8 c =
     let n = c.args.tag.number in
     let is = sym c.field_number.ensures ∙ c.in-8.is in
-    not_chosen _ n 7 (λ e. let no = sym is ∙ e in cc) (chosen _ n 8 is (let read = c.in_ok-it-in-8.ensures.ok in search (rules, read)))
+    not_here _ (sym (ap (λ z. z == 7) is)) refl (chosen _ n 8 is (let read = c.in_ok-it-in-8.ensures.ok in search (rules, read)))
