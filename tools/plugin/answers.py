@@ -52,7 +52,7 @@ def answers_of_blocks(world, message):
 
 def answers_of_block(world, message, block):
     """Sizes that come next come in turn; and once all members were visited, those behind the block do."""
-    facts = "buffa.specs.Members" if world.over == "buffa" else "buffa_fields.specs.BlockFacts"
+    facts = "buffa.specs.Members" if world.over == "buffa" else "buffa_fields.specs.facts.BlockFacts"
     head = ".".join(it for it in ("Rattle", world.crate, "proofs", world.module, snake(message.rust)) if it)
     made = [f"use Rattle.{facts}.{{both_waited, first_comes, second_comes}}"]
     made += [f"use {head}.{block.name}MemberBlock.visit.Goals as goal"]
@@ -105,7 +105,7 @@ def answers_of_oneof(world, one):
     if world.over == "buffa":
         made.append(f"use Rattle.buffa.specs.Members.{{chosen{', not_here' * is_behind}}}")
     else:
-        made += ["use Rattle.buffa_fields.specs.LayoutFacts.{chosen}"] + ["use Rattle.buffa_fields.specs.BlockFacts.{not_here}"] * is_behind
+        made += ["use Rattle.buffa_fields.specs.facts.LayoutFacts.{chosen}"] + ["use Rattle.buffa_fields.specs.facts.BlockFacts.{not_here}"] * is_behind
     made += [f"use {head}.{one.enum}OneOf.take.Goals as goal"]
     for at, case in enumerate(one.cases):
         if not case.is_number:
@@ -126,7 +126,7 @@ def answers_of_take(world, message):
     if not found:
         return None
     names = [it for it in (world.module, snake(message.rust)) if it]
-    facts = "buffa.specs.Members" if world.over == "buffa" else "buffa_fields.specs.BlockFacts"
+    facts = "buffa.specs.Members" if world.over == "buffa" else "buffa_fields.specs.facts.BlockFacts"
     made = ["use Rattle.std.proofs.Common.{refl}", f"use Rattle.{facts}.{{here, not_here}}"]
     made.append(f"use {'.'.join(['Rattle', world.crate, 'proofs', *names])}.{message.rust}Fields.take.Goals as goal")
     for at in range(len(found) + 1):

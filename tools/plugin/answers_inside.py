@@ -110,7 +110,7 @@ def take(world, message):
     if world.over == "buffa":
         made.append(f"use Rattle.buffa.specs.Members.{{{', '.join(ordered(facts | looked))}}}")
     else:
-        places = (("Aside", looked & {"TookBeside"}), ("Layout", looked & {"Took"}), ("LayoutFacts", facts))
+        places = (("Aside", looked & {"TookBeside"}), ("Layout", looked & {"Took"}), ("facts.LayoutFacts", facts))
         made += [f"use Rattle.buffa_fields.specs.{module}.{{{', '.join(ordered(its))}}}" for module, its in places if its]
     made.append(goals)
     for (number, at, _), proof in zip(arms(message), terms):

@@ -27,12 +27,6 @@ use std::hash::{BuildHasher, Hash};
 
 /// Laws of the names of this crate: limits, codecs, and the usual map.
 pub use crate::name_laws as names;
-/// What the words of map fields mean: rules, entries, runs and rewrites.
-pub use crate::map_word_laws as map_words;
-/// What the words of some members mean: groups, maps of messages, and numbers that are put aside.
-pub use crate::member_word_laws as member_words;
-/// How Items of a MessageSet are read from the front.
-pub use crate::item_word_laws as item_words;
 /// Laws of bytes: varints, tags, fields, scalars and texts.
 pub use buffa_wire::laws::wire;
 /// Laws of codecs of extensions: scalars, texts, enums and lists.
@@ -47,13 +41,16 @@ pub use buffa_fields::inside_laws as inside;
 pub use buffa_fields::self_laws as selves;
 /// Laws of oneofs and of their cases.
 pub use buffa_fields::one_of_laws as oneofs;
+/// Laws of what groups, maps of messages and numbers that are put aside cost, and what a refusal of them leaves.
+pub use buffa_fields::spending_laws as spending;
 /// Laws of blocks of members, which messages of many members have.
 pub use buffa_fields::block_laws as blocks;
 /// Laws of map fields: codecs, entries, runs, sizes, encodings and rewrites.
 pub use buffa_map::laws as map_fields;
 /// Laws of Items of a MessageSet.
 pub use buffa_message_set::laws::{
-    item_tags, items_are_pinned, items_are_read, no_item_begins_another, written_items_are_pinned,
+    item_tags, items_are_pinned, items_are_read, items_are_read_in_order, no_item_begins_another,
+    written_items_are_pinned,
 };
 /// Laws of the sample that holds itself, and of its enum.
 pub use sample_node::laws as nodes;

@@ -7,10 +7,7 @@
 
 pub mod extension;
 pub mod fields;
-pub mod item_word_laws;
 pub mod laws;
-pub mod map_word_laws;
-pub mod member_word_laws;
 pub mod name_laws;
 pub mod samples;
 

@@ -62,6 +62,7 @@ pub fn law_modules_are_these<M: SelfFields, N: Message>(message: &M) {
     laws::fields::nested_members_are_these::<N>();
     laws::inside::lists_inside_are_these::<M>();
     laws::selves::messages_are_their_members(message);
+    laws::spending::groups_cost_what_is_in_them::<N>();
 }
 
 /// How each codec of extensions of one value reads a record, and which records lists and messages have. What the laws of

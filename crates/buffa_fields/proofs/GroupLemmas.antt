@@ -19,7 +19,7 @@ use Rattle.buffa_wire.specs.Message.{BeginsField, IsFieldMerged, IsJudged, Merge
 use Rattle.buffa_fields.specs.Groups.{group_body, group_cost, group_merged}
 use Rattle.buffa_fields.specs.Refusals.{GroupFirstFault}
 use Rattle.buffa_wire.specs.Takes.{IsTaken, Need, Untaken, Taker}
-use Rattle.buffa_fields.specs.GroupFacts.{body_field, body_is, body_past, body_stays, body_whole, turn}
+use Rattle.buffa_fields.specs.facts.GroupFacts.{body_field, body_is, body_past, body_stays, body_whole, turn}
 use Rattle.buffa_wire.proofs.MergeLoopLemmas.{CameTo, costs, stopped}
 use Rattle.buffa_fields.proofs.ValueLemmas.{refused_free}
 

@@ -25,9 +25,9 @@ use Rattle.buffa_wire.specs.Records.{Datum}
 use Rattle.buffa_wire.specs.Takes.{IsTaken, Need, Taker, Untaken}
 use Rattle.buffa_wire.proofs.SpentLemmas.{PaysAtMost_nothing}
 use Rattle.buffa_wire.specs.Pinned.{done}
-use Rattle.buffa_fields.specs.PairFacts.{part_taken}
+use Rattle.buffa_fields.specs.facts.PairFacts.{part_taken}
 use Rattle.buffa_fields.specs.Framing.{cost_as, each_cost_as}
-use Rattle.buffa_fields.specs.InsideFacts.{delimited_alone}
+use Rattle.buffa_fields.specs.facts.InsideFacts.{delimited_alone}
 use Rattle.buffa_fields.specs.Nested.{or_blank, taken_behind, taken_there}
 use Rattle.buffa_fields.specs.Refusals.{LeavesUnless, RefusesThere, TellsFaultOf}
 

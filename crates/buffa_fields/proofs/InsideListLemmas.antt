@@ -6,10 +6,10 @@ use Rattle.buffa_wire.specs.Encoding.{records_encoding}
 use Rattle.buffa_wire.specs.Passes.{IsNext, IsSized, IsWritten, cap}
 use Rattle.buffa_wire.specs.Pinned.{done, refusal}
 use Rattle.buffa_wire.specs.Records.{Datum}
-use Rattle.buffa_fields.specs.LayoutFacts.{failed, sum}
+use Rattle.buffa_fields.specs.facts.LayoutFacts.{failed, sum}
 use Rattle.buffa_fields.specs.Lists.{element_records}
 use Rattle.buffa_fields.specs.RepeatedNested.{messages_slots}
-use Rattle.buffa_fields.specs.RepeatedNestedFacts as each
+use Rattle.buffa_fields.specs.facts.RepeatedNestedFacts as each
 
 pub map_same : {X : Type 0} (xs : List X) → map (λ v. v) xs ≡ xs
 map_same [] = refl

@@ -10,15 +10,15 @@ use Rattle.buffa_wire.specs.BudgetLeft.{BudgetLeft}
 use Rattle.buffa_wire.specs.Message.{IsFieldMerged}
 use Rattle.buffa_wire.specs.Takes.{IsTaken, merged_of}
 use Rattle.buffa_fields.specs.Layout.{Layout}
-use Rattle.buffa_fields.specs.LayoutFacts.{full_of, refused_of}
-use Rattle.buffa_fields.specs.PairFacts.{part_taken}
+use Rattle.buffa_fields.specs.facts.LayoutFacts.{full_of, refused_of}
+use Rattle.buffa_fields.specs.facts.PairFacts.{part_taken}
 use Rattle.buffa_fields.specs.Stands.{IsMemberRefused}
-use Rattle.buffa_fields.specs.ApartFacts.{apart_taken}
+use Rattle.buffa_fields.specs.facts.ApartFacts.{apart_taken}
 use Rattle.buffa_fields.specs.Laying.{Laying, whole_takes}
 use Rattle.buffa_fields.specs.SelfRefused.{IsSelfRefused}
 use Rattle.buffa_fields.specs.Tied.{IsSound}
 use Rattle.buffa_fields.specs.Told.{told, told_layout}
-use Rattle.buffa_fields.specs.ToldFacts.{cost_is, merged_is}
+use Rattle.buffa_fields.specs.facts.ToldFacts.{cost_is, merged_is}
 use Rattle.buffa_fields.specs.Words.{Words}
 
 module _ {X : Type 0} (each : ℕ) (o : Laying X) (sound : IsSound o) where

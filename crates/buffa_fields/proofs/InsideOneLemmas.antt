@@ -7,7 +7,7 @@ use Rattle.buffa_wire.specs.Passes.{IsNext, IsSized, IsWritten, cap}
 use Rattle.buffa_wire.specs.Pinned.{done}
 use Rattle.buffa_wire.specs.Records.{bytes}
 use Rattle.buffa_fields.proofs.InsideLemmas.{none_written}
-use Rattle.buffa_fields.specs.LayoutFacts.{sum}
+use Rattle.buffa_fields.specs.facts.LayoutFacts.{sum}
 use Rattle.buffa_fields.specs.MemberRecords.{optional_records}
 use Rattle.buffa_fields.specs.Nested.{message_records, message_slots}
 

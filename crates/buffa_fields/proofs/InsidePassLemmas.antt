@@ -5,11 +5,11 @@ use Rattle.buffa_wire.specs.Cache.{Cache}
 use Rattle.buffa_wire.specs.Encoding.{records_encoding}
 use Rattle.buffa_wire.specs.Passes.{IsSized, IsWritten}
 use Rattle.buffa_fields.specs.Layout.{IsCounted, IsPut, Layout}
-use Rattle.buffa_fields.specs.LayoutFacts.{puts, sizes, start}
+use Rattle.buffa_fields.specs.facts.LayoutFacts.{puts, sizes, start}
 use Rattle.buffa_fields.specs.Laying.{Laying}
 use Rattle.buffa_fields.specs.Tied.{IsSound}
 use Rattle.buffa_fields.specs.Told.{told, told_layout}
-use Rattle.buffa_fields.specs.ToldFacts.{records_are, slots_are}
+use Rattle.buffa_fields.specs.facts.ToldFacts.{records_are, slots_are}
 use Rattle.buffa_fields.specs.Words.{Words, encoding_by}
 
 module _ {X : Type 0} (each : ℕ) (o : Laying X) (sound : IsSound o) (x : X) where

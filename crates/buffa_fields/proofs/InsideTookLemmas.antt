@@ -11,7 +11,7 @@ use Rattle.buffa_fields.specs.Layout.{Took}
 use Rattle.buffa_fields.specs.Nested.{message_cost, message_merged, taken_there}
 use Rattle.buffa_fields.specs.Refusals.{RefusesBoxed, RefusesPair}
 use Rattle.buffa_fields.specs.RepeatedNested.{MessagesTakeMemory, messages_cost, messages_taken}
-use Rattle.buffa_fields.specs.ApartFacts.{apart_taken}
+use Rattle.buffa_fields.specs.facts.ApartFacts.{apart_taken}
 use Rattle.std.specs.BTreeMap.{insert_entry}
 use Rattle.buffa_map.specs.Message.{message_reading}
 use Rattle.buffa_fields.specs.MapKeys.{Keys}

@@ -18,11 +18,11 @@ use Rattle.buffa_wire.specs.ByField.{value_of}
 use Rattle.buffa_wire.specs.Enums.{Numbers}
 use Rattle.buffa_fields.specs.Aside.{Aside, Kept}
 use Rattle.buffa_fields.specs.Entries.{entry_cost, entry_taken}
-use Rattle.buffa_fields.specs.InsideFacts.{delimited_alone}
+use Rattle.buffa_fields.specs.facts.InsideFacts.{delimited_alone}
 use Rattle.buffa_fields.specs.KeptLists.{kept_numbers_cost, kept_numbers_taken, numbers_put, undeclared_of, varints}
-use Rattle.buffa_fields.specs.KeptListFacts.{sifted_costs}
+use Rattle.buffa_fields.specs.facts.KeptListFacts.{sifted_costs}
 use Rattle.buffa_fields.specs.KeptMaps.{kept_entry_cost, kept_pair_cost, kept_pair_taken, put_or_keep}
-use Rattle.buffa_fields.specs.KeptNumberFacts.{number_taken, set}
+use Rattle.buffa_fields.specs.facts.KeptNumberFacts.{number_taken, set}
 use Rattle.buffa_fields.specs.KeptNumbers.{kept_number_cost, kept_number_taken, number_put}
 use Rattle.buffa_fields.specs.Layout.{Layout, Shape}
 use Rattle.buffa_fields.specs.Lists.{elements_taken}

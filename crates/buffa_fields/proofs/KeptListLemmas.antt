@@ -24,11 +24,11 @@ use Rattle.buffa_wire.specs.Enums.{Numbers}
 use Rattle.buffa_wire.specs.Records.{varint}
 use Rattle.buffa_wire.specs.Takes.{IsTaken, Taker}
 use Rattle.buffa_fields.specs.Aside.{Kept}
-use Rattle.buffa_fields.specs.InsideFacts.{delimited_alone}
+use Rattle.buffa_fields.specs.facts.InsideFacts.{delimited_alone}
 use Rattle.buffa_fields.specs.KeptLists.{PutsNumbers, RefusesKeptNumbers, declared_of, is_undeclared, kept_numbers_cost, kept_numbers_taken, numbers_cost, sifted, sifted_cost, undeclared_of, varints}
-use Rattle.buffa_fields.specs.KeptListFacts.{sifted_costs}
+use Rattle.buffa_fields.specs.facts.KeptListFacts.{sifted_costs}
 use Rattle.buffa_fields.specs.Lists.{ElementsTakeMemory, elements_in, elements_taken, packed_in}
-use Rattle.buffa_fields.specs.ListFacts.{content_there, elements_end}
+use Rattle.buffa_fields.specs.facts.ListFacts.{content_there, elements_end}
 use Rattle.buffa_fields.specs.Refusals.{RefusesElements}
 use Rattle.buffa_fields.specs.Values.{all_of, free}
 use Rattle.buffa_fields.proofs.ListLemmas.{element_from_err, elements_err}

@@ -26,8 +26,8 @@ use Rattle.buffa_wire.specs.Takes.{IsTaken}
 use Rattle.buffa_fields.specs.Aside.{Kept}
 use Rattle.buffa_fields.specs.Keep.{KeepTakesMemory, keep_takes}
 use Rattle.buffa_fields.specs.Layout.{IsFieldKept}
-use Rattle.buffa_fields.specs.KeepFacts.{kept_costs, kept_record}
-use Rattle.buffa_fields.specs.KeptNumberFacts.{number_taken, set}
+use Rattle.buffa_fields.specs.facts.KeepFacts.{kept_costs, kept_record}
+use Rattle.buffa_fields.specs.facts.KeptNumberFacts.{number_taken, set}
 use Rattle.buffa_fields.specs.KeptNumbers.{KeptNumberTakesMemory, RefusesKeptNumber, kept_number_cost, kept_number_taken, number_put}
 use Rattle.buffa_fields.proofs.ValueLemmas.{refused_free, wire_refused}
 

@@ -26,3 +26,4 @@ pub mod InsidePassLemmas
 pub mod InsideMergeLemmas
 pub mod InsideLawLemmas
 mod BlockLemmas
+mod SpendingLawLemmas

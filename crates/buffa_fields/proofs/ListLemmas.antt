@@ -22,14 +22,14 @@ use Rattle.buffa_map.proofs.EntryLemmas.{value_complete}
 use Rattle.buffa_map.specs.Codec.{Reading, value_at}
 use Rattle.buffa_fields.specs.Lists.{TakesPacked, check_list_wire, element_at, elements_in, elements_taken}
 use Rattle.buffa_wire.specs.Takes.{IsTaken}
-use Rattle.buffa_fields.specs.ValueFacts.{open_level}
+use Rattle.buffa_fields.specs.facts.ValueFacts.{open_level}
 use Rattle.buffa_fields.specs.Values.{free, value_taken}
 use Rattle.buffa_fields.specs.Refusals.{ElementsRead, RefusesElements, RefusesPacked, StopsAtElement}
-use Rattle.buffa_fields.specs.ListFacts.{element_falls, element_sound, elements_end, elements_next}
+use Rattle.buffa_fields.specs.facts.ListFacts.{element_falls, element_sound, elements_end, elements_next}
 use Rattle.buffa_fields.proofs.ValueLemmas.{fault_no_limit, value_err, value_ok, value_told, wire_refused, wire_told}
 use Rattle.buffa_fields.proofs.InsideLemmas.{alone_is, delimited_front, no_payload}
 use Rattle.std.specs.Option.{option_map}
-use Rattle.buffa_fields.specs.PairFacts.{part_taken}
+use Rattle.buffa_fields.specs.facts.PairFacts.{part_taken}
 
 module _ {V : Type 0} (codec : Reading V) (plain : codec.nested ≡ false)
     (no_limit : (d : ℕ) (old : V) (c : Content) (x : DecodeError) → codec.reads d old c ≡ Err x → IsLimit x → ⊥) (d : ℕ) where

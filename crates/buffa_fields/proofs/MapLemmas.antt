@@ -29,7 +29,7 @@ use Rattle.buffa_bytes.specs.Written.{WritesFront}
 use Rattle.buffa_bytes.specs.Varint.{varint_encoding}
 use Rattle.buffa_bytes.proofs.WireLemmas.{checked_same}
 use Rattle.buffa_fields.proofs.EntriesLemmas.{IsCost, entry_err, entry_ok}
-use Rattle.buffa_fields.specs.MapFacts.{map_encoding}
+use Rattle.buffa_fields.specs.facts.MapFacts.{map_encoding}
 
 -- where undeclared entries take no unknown field
 no_more : (b : Bool) (need : BudgetLeft) → need ≡ plus need (unknown_fields (cond b 0 0))

@@ -23,10 +23,10 @@ use Rattle.buffa_wire.specs.Encoding.{records_encoding}
 use Rattle.buffa_fields.specs.Nested.{MessageTakesMemory, message_cost, message_merged, inside}
 use Rattle.buffa_wire.specs.Takes.{IsTaken, Need, Untaken}
 use Rattle.buffa_wire.specs.Pinned.{refusal}
-use Rattle.buffa_fields.specs.NestedFacts.{TellsLength, head, head_cut, record_after}
-use Rattle.buffa_fields.specs.FramingFacts.{delimited_holds}
+use Rattle.buffa_fields.specs.facts.NestedFacts.{TellsLength, head, head_cut, record_after}
+use Rattle.buffa_fields.specs.facts.FramingFacts.{delimited_holds}
 use Rattle.buffa_fields.specs.Framings.{delimited}
-use Rattle.buffa_fields.specs.InsideFacts.{delimited_alone}
+use Rattle.buffa_fields.specs.facts.InsideFacts.{delimited_alone}
 use Rattle.buffa_fields.proofs.FramingLemmas.{none_as, read_as}
 use Rattle.buffa_fields.proofs.InsideLemmas.{alone_is, behind_slot, delimited_front, no_payload}
 use Rattle.buffa_bytes.specs.Field.{Payload}

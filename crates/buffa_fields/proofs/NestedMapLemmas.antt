@@ -14,8 +14,8 @@ use Rattle.buffa_map.specs.Codec.{Writing}
 use Rattle.buffa_map.specs.MessageField.{IsFieldSized, IsFieldWritten, IsSmallField, field_slots}
 use Rattle.buffa_map.specs.Scalars.{delimited_writing}
 use Rattle.buffa_map.specs.Encoding.{field_size, field_encoding}
-use Rattle.buffa_fields.specs.LayoutFacts.{failed, sum}
-use Rattle.buffa_fields.specs.MapFacts.{map_encoding}
+use Rattle.buffa_fields.specs.facts.LayoutFacts.{failed, sum}
+use Rattle.buffa_fields.specs.facts.MapFacts.{map_encoding}
 use Rattle.buffa_fields.specs.NestedMaps.{pair_records, pair_slots}
 
 -- no slots, no pairs

@@ -5,7 +5,7 @@ use Rattle.buffa_bytes.specs.declared.error.DecodeError.{DecodeError}
 use Rattle.buffa_bytes.specs.declared.wire_type.WireType.{WireType}
 use Rattle.buffa_wire.specs.BudgetLeft.{BudgetLeft}
 use Rattle.buffa_fields.specs.Cases.{IsCasePut, IsPutOver, this_of}
-use Rattle.buffa_fields.specs.CasesFacts.{seen_this}
+use Rattle.buffa_fields.specs.facts.CasesFacts.{seen_this}
 use Rattle.buffa_fields.specs.Layout.{Choice, Shape, Took}
 use Rattle.buffa_fields.specs.declared.meaning.Or.{Or}
 use Rattle.buffa_fields.specs.declared.meaning.Or.TheVariants.{This, Other}

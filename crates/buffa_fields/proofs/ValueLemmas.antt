@@ -18,7 +18,7 @@ use Rattle.buffa_wire.proofs.SpentLemmas.{PaysAtMost_nothing}
 use Rattle.buffa_wire.specs.BudgetLeft.{BudgetLeft, nothing}
 use Rattle.buffa_wire.specs.Message.{IsLimit}
 use Rattle.buffa_wire.specs.Takes.{IsTaken, Need, Taker, Untaken}
-use Rattle.buffa_fields.specs.ValueFacts.{content_payload, open_level}
+use Rattle.buffa_fields.specs.facts.ValueFacts.{content_payload, open_level}
 use Rattle.buffa_fields.specs.Values.{all_of, field_value_at, free, value_taken}
 
 -- ---- a field is refused before anything is spent for it, where no payload would be taken

@@ -7,13 +7,13 @@ use Rattle.buffa_wire.specs.BudgetLeft.{budget_left}
 use Rattle.buffa_wire.specs.declared.context.DecodeContext.{DecodeContext}
 use Rattle.buffa_fields.specs.Aside.{Aside, Kept}
 use Rattle.buffa_fields.specs.BothParts.{aloof_part, both_part, part_within}
-use Rattle.buffa_fields.specs.BothPartFacts.{Alone, Leaves, aloof_laws, both_alone, both_laws, both_leave, keeps_none, within_laws}
+use Rattle.buffa_fields.specs.facts.BothPartFacts.{Alone, Leaves, aloof_laws, both_alone, both_laws, both_leave, keeps_none, within_laws}
 use Rattle.buffa_fields.specs.Exit.{Exit}
 use Rattle.buffa_fields.specs.Layout.{Layout, Seen, Shape}
-use Rattle.buffa_fields.specs.MemberPartFacts.{keeping_laws, member_laws}
+use Rattle.buffa_fields.specs.facts.MemberPartFacts.{keeping_laws, member_laws}
 use Rattle.buffa_fields.specs.MemberParts.{keeping_part, member_part}
 use Rattle.buffa_fields.specs.Members.{part}
-use Rattle.buffa_fields.specs.OneOfFacts.{one_of_laws}
+use Rattle.buffa_fields.specs.facts.OneOfFacts.{one_of_laws}
 use Rattle.buffa_fields.specs.OneOfParts.{OneOf, one_of_part}
 use Rattle.buffa_fields.specs.Parts.{Part, PartLaws}
 use denote.Ref.{Bor}

@@ -1,10 +1,10 @@
 -- Kinds of members of a message that holds itself: each by what is told of the messages inside.
 use Rattle.std.specs.Prelude.{List, ◌≡◌, ◌≤◌, ℕ, refl, []}
 use Rattle.buffa_fields.specs.Layout.{ReadsBackTo, Shape}
-use Rattle.buffa_fields.specs.KindFacts.{children_back, list_cost_alike, list_say_alike, list_takes_alike, child_back, one_cost_alike, one_say_alike, one_takes_alike}
+use Rattle.buffa_fields.specs.facts.KindFacts.{children_back, list_cost_alike, list_say_alike, list_takes_alike, child_back, one_cost_alike, one_say_alike, one_takes_alike}
 use Rattle.buffa_fields.specs.Knots.{KnotList, Knot, Maybe, children_height, knot_height, children_list, maybe_height, no_kid, nobody, of_list, of_option, option_of}
 use Rattle.buffa_fields.specs.MapKeys.{Keys, KeysReadBack}
-use Rattle.buffa_fields.specs.MapKindFacts.{pairs_back_told, pairs_need_alike, pairs_say_alike, pairs_takes_alike}
+use Rattle.buffa_fields.specs.facts.MapKindFacts.{pairs_back_told, pairs_need_alike, pairs_say_alike, pairs_takes_alike}
 use Rattle.buffa_fields.specs.Pairs.{told_pairs}
 use Rattle.buffa_fields.specs.Laying.{CostAlike, MergeAlike, SayAlike}
 use Rattle.buffa_fields.specs.Words.{AreExactBy, Words, as_other, list_shape, child_shape}

@@ -8,16 +8,16 @@ use Rattle.buffa_wire.specs.Kept.{keep_need}
 use Rattle.buffa_wire.proofs.KeepLemmas.{keep_stays}
 use Rattle.buffa_wire.specs.Takes.{Taker, costs_nothing}
 use Rattle.buffa_fields.specs.Aside.{Aside}
-use Rattle.buffa_fields.specs.BackFacts.{no_pieces}
+use Rattle.buffa_fields.specs.facts.BackFacts.{no_pieces}
 use Rattle.buffa_fields.specs.Keep.{KeepTakesMemory, keep_takes}
-use Rattle.buffa_fields.specs.KeepFacts.{keep_again}
+use Rattle.buffa_fields.specs.facts.KeepFacts.{keep_again}
 use Rattle.buffa_fields.specs.Layout.{Choice, IsFieldKept, Layout, Passed, Shape, more, passes}
-use Rattle.buffa_fields.specs.LayoutFacts.{is_kept, kept_asks, kept_stays, is_passed, none_keep, passed_asks, more_none, part_seen}
-use Rattle.buffa_fields.specs.LevelFacts.{both_numbers, others_low}
-use Rattle.buffa_fields.specs.MemberPartFacts.{keeping_laws, member_laws}
+use Rattle.buffa_fields.specs.facts.LayoutFacts.{is_kept, kept_asks, kept_stays, is_passed, none_keep, passed_asks, more_none, part_seen}
+use Rattle.buffa_fields.specs.facts.LevelFacts.{both_numbers, others_low}
+use Rattle.buffa_fields.specs.facts.MemberPartFacts.{keeping_laws, member_laws}
 use Rattle.buffa_fields.specs.MemberParts.{keeping_part, member_part}
-use Rattle.buffa_fields.specs.PairFacts.{either_stays, readable_both}
-use Rattle.buffa_fields.specs.PartFacts.{mine_front, mine_kept, part_again, part_apart, part_asks, part_back, part_is_taken}
+use Rattle.buffa_fields.specs.facts.PairFacts.{either_stays, readable_both}
+use Rattle.buffa_fields.specs.facts.PartFacts.{mine_front, mine_kept, part_again, part_apart, part_asks, part_back, part_is_taken}
 use Rattle.buffa_fields.specs.Parts.{Part, PartLaws, part_need, part_take}
 
 -- a part, and the others

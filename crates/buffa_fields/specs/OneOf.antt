@@ -2,7 +2,7 @@
 use Rattle.std.specs.Prelude.{Option}
 use Rattle.buffa_fields.specs.Layout.{Layout}
 use Rattle.buffa_fields.specs.Members.{part}
-use Rattle.buffa_fields.specs.OneOfFacts.{one_of_laws}
+use Rattle.buffa_fields.specs.facts.OneOfFacts.{one_of_laws}
 use Rattle.buffa_fields.specs.OneOfParts.{OneOf, one_of_part}
 
 -- a oneof, and the others

@@ -3,7 +3,7 @@ use Rattle.std.specs.Prelude.{◌≡◌, ℕ, Bool, not, max, List, [], Option, 
 use Rattle.std.specs.Option.{option_map}
 use Rattle.buffa_fields.specs.Aside.{Kept}
 use Rattle.buffa_fields.specs.Cases.{Cases, CasesLaws, CaseWords, case_of, if_there, none_of}
-use Rattle.buffa_fields.specs.CasesFacts.{case_laws, none_laws}
+use Rattle.buffa_fields.specs.facts.CasesFacts.{case_laws, none_laws}
 use Rattle.buffa_fields.specs.Keep.{AllNumbers}
 use Rattle.buffa_fields.specs.Layout.{Seen, Shape}
 use Rattle.buffa_fields.specs.Parts.{Part}

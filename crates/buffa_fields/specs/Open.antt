@@ -8,7 +8,7 @@ use Rattle.buffa_fields.specs.Members.{field, keep, part, skip}
 use Rattle.buffa_fields.specs.Kinds.{AlikeTo, Kind, kids_kind, one_kind, map_kind}
 use Rattle.buffa_fields.specs.Knots.{Knot, Rest, knot_of, rest_of, head_many, head_many_low, head_one, head_one_low, kid_low, children_height, knot_height, children_list, list_of-of_list, many, maybe_height, KnotList, Maybe, no_slot, of_list, of_option, one, option_of, option_of-of_option, slots_height, tail_low, tail_slots}
 use Rattle.buffa_fields.specs.Laying.{CostAlike, LaidAlike, Laying, MergeAlike}
-use Rattle.buffa_fields.specs.OpenFacts.{added_say_alike, knot_lower, needed_alike, out_again, part_needed_alike, part_say_alike, part_taken_alike, rest_low, same_low, knot_taken_alike}
+use Rattle.buffa_fields.specs.facts.OpenFacts.{added_say_alike, knot_lower, needed_alike, out_again, part_needed_alike, part_say_alike, part_taken_alike, rest_low, same_low, knot_taken_alike}
 use Rattle.buffa_fields.specs.OneOfParts.{OneOf}
 use Rattle.buffa_fields.specs.PartsBy.{PartBy, keeping_by, member_by, one_of_by}
 use Rattle.buffa_fields.specs.Pairs.{pair_low, pairs_again, pairs_in, child_pairs}

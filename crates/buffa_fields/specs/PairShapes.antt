@@ -9,7 +9,7 @@ use Rattle.buffa_map.specs.Encoding.{AllHold}
 use Rattle.buffa_map.specs.Message.{message_reading}
 use Rattle.buffa_fields.specs.MapKeys.{Keys}
 use Rattle.buffa_fields.specs.Layout.{Shape}
-use Rattle.buffa_fields.specs.MapFacts.{map_stays}
+use Rattle.buffa_fields.specs.facts.MapFacts.{map_stays}
 use Rattle.buffa_fields.specs.MapFields.{PairTakesMemory, pair_cost, pair_taken}
 use Rattle.buffa_fields.specs.Nested.{FitsInside}
 use Rattle.buffa_fields.specs.NestedMaps.{pair_levels, pair_records, pair_slots}

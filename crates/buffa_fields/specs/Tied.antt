@@ -9,8 +9,8 @@ use Rattle.buffa_wire.specs.Parse.{Fits}
 use Rattle.buffa_wire.specs.Records.{records_of}
 use Rattle.buffa_wire.specs.Takes.{cost_of, merged_of}
 use Rattle.buffa_wire.proofs.TakesLemmas.{merged_of_fields}
-use Rattle.buffa_fields.specs.LayoutFacts.{reads_back}
-use Rattle.buffa_fields.specs.ApartFacts.{knot_merged_apart}
+use Rattle.buffa_fields.specs.facts.LayoutFacts.{reads_back}
+use Rattle.buffa_fields.specs.facts.ApartFacts.{knot_merged_apart}
 use Rattle.buffa_fields.specs.Laying.{Laying, whole_takes}
 use Rattle.buffa_fields.specs.Words.{Words}
 

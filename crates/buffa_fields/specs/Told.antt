@@ -7,7 +7,7 @@ use Rattle.buffa_wire.specs.Records.{records_of}
 use Rattle.buffa_fields.specs.Layout.{Layout}
 use Rattle.buffa_fields.specs.Laying.{Laying}
 use Rattle.buffa_fields.specs.Tied.{IsSound, layers}
-use Rattle.buffa_fields.specs.TiedFacts.{knot_merged_more, say_more}
+use Rattle.buffa_fields.specs.facts.TiedFacts.{knot_merged_more, say_more}
 use Rattle.buffa_fields.specs.Words.{Words}
 
 module _ {X : Type 0} (each : ℕ) (o : Laying X) (sound : IsSound o) where

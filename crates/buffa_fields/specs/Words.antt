@@ -11,7 +11,7 @@ use Rattle.buffa_wire.specs.Encoding.{records_encoding}
 use Rattle.buffa_wire.specs.Parse.{AreValid, Fits}
 use Rattle.buffa_wire.specs.Records.{Datum, bytes, records_of}
 use Rattle.buffa_fields.specs.Framing.{Messages, cost_as, each_cost_as, taken_as}
-use Rattle.buffa_fields.specs.FramingFacts.{delimited_holds, each_stays, one_stays}
+use Rattle.buffa_fields.specs.facts.FramingFacts.{delimited_holds, each_stays, one_stays}
 use Rattle.buffa_fields.specs.Framings.{delimited}
 use Rattle.buffa_fields.specs.Layout.{Shape}
 use Rattle.buffa_fields.specs.Levels.{AreExactLevels}

@@ -6,7 +6,7 @@ ghost use Rattle.buffa_bytes.specs.Number.{IsNumber};
 ghost use Rattle.buffa_bytes.specs.Values.{tag_encoding};
 ghost use Rattle.buffa_wire.specs.Passes.{cap};
 ghost use Rattle.buffa_fields.specs.Framings.{grouped};
-ghost use Rattle.buffa_fields.specs.FramingFacts.{grouped_holds};
+ghost use Rattle.buffa_fields.specs.facts.FramingFacts.{grouped_holds};
 
 use crate::framing::Framing;
 use crate::message_in::MessageIn;

@@ -6,12 +6,12 @@ ghost use Rattle.buffa_bytes.specs.Gives.{FullOnlyIf};
 ghost use Rattle.buffa_bytes.specs.Values.{int32_of};
 ghost use Rattle.buffa_wire.specs.Enums.{numbers};
 ghost use Rattle.buffa_fields.specs.KeptLists.{PutsNumbers, RefusesKeptNumbers, TakesKeptNumbers, kept_numbers_cost, kept_numbers_taken, varints};
-ghost use Rattle.buffa_fields.specs.KeptListFacts.{kept_elements_back, kept_numbers_again, kept_numbers_behind, kept_numbers_stays, kept_packed_back};
+ghost use Rattle.buffa_fields.specs.facts.KeptListFacts.{kept_elements_back, kept_numbers_again, kept_numbers_behind, kept_numbers_stays, kept_packed_back};
 ghost use Rattle.buffa_fields.specs.KeptNumbers.{IsAsideNumber};
 ghost use Rattle.buffa_fields.specs.Lists.{ElementsTakeMemory, check_list_wire};
 ghost use Rattle.buffa_map.specs.Enums.{closed_writing};
-ghost use Rattle.buffa_fields.specs.LevelKindFacts.{element_numbers, exact_numbers, packed_numbers};
-ghost use Rattle.buffa_fields.specs.ValidFacts.{element_valid, number_valid, packed_valid};
+ghost use Rattle.buffa_fields.specs.facts.LevelKindFacts.{element_numbers, exact_numbers, packed_numbers};
+ghost use Rattle.buffa_fields.specs.facts.ValidFacts.{element_valid, number_valid, packed_valid};
 
 use crate::keeping::Keeping;
 use crate::list::take_elements;

@@ -8,11 +8,11 @@ ghost use Rattle.buffa_bytes.specs.Gives.{FullOnlyIf};
 ghost use Rattle.buffa_map.proofs.BackLemmas.{plain_back};
 ghost use Rattle.buffa_map.specs.Pairs.{means, put};
 ghost use Rattle.buffa_fields.specs.KeptMaps.{IsAsideEntry, KeptPairTakesMemory, RefusesKeptPair, TakesKeptEntry, aside_entry_levels, kept_pair_cost, kept_pair_taken};
-ghost use Rattle.buffa_fields.specs.KeptMapFacts.{kept_map_back, kept_pair_again, kept_pair_behind, kept_pair_stays};
-ghost use Rattle.buffa_fields.specs.MapFacts.{distinct_put};
+ghost use Rattle.buffa_fields.specs.facts.KeptMapFacts.{kept_map_back, kept_pair_again, kept_pair_behind, kept_pair_stays};
+ghost use Rattle.buffa_fields.specs.facts.MapFacts.{distinct_put};
 ghost use Rattle.buffa_fields.specs.MapFields.{entry_records};
-ghost use Rattle.buffa_fields.specs.LevelKindFacts.{exact_flat_keeping, kept_pair_low, entry_numbers};
-ghost use Rattle.buffa_fields.specs.ValidFacts.{entry_valid};
+ghost use Rattle.buffa_fields.specs.facts.LevelKindFacts.{exact_flat_keeping, kept_pair_low, entry_numbers};
+ghost use Rattle.buffa_fields.specs.facts.ValidFacts.{entry_valid};
 
 use crate::keeping::Keeping;
 use crate::map_member::MapOf;

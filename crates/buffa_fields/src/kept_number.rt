@@ -7,10 +7,10 @@ ghost use Rattle.buffa_bytes.specs.Front.{check_wire};
 ghost use Rattle.buffa_bytes.specs.Gives.{FullOnlyIf};
 ghost use Rattle.buffa_wire.specs.Enums.{numbers};
 ghost use Rattle.buffa_fields.specs.KeptNumbers.{IsAsideNumber, KeptNumberTakesMemory, RefusesKeptNumber, TakesKeptNumber, kept_number_cost, kept_number_taken};
-ghost use Rattle.buffa_fields.specs.KeptNumberFacts.{kept_number_again, kept_number_back, kept_number_behind, kept_number_stays};
+ghost use Rattle.buffa_fields.specs.facts.KeptNumberFacts.{kept_number_again, kept_number_back, kept_number_behind, kept_number_stays};
 ghost use Rattle.buffa_fields.specs.MemberRecords.{optional_records};
-ghost use Rattle.buffa_fields.specs.LevelKindFacts.{exact_numbers, optional_numbers};
-ghost use Rattle.buffa_fields.specs.ValidFacts.{number_valid, optional_valid};
+ghost use Rattle.buffa_fields.specs.facts.LevelKindFacts.{exact_numbers, optional_numbers};
+ghost use Rattle.buffa_fields.specs.facts.ValidFacts.{number_valid, optional_valid};
 
 use crate::keeping::Keeping;
 use crate::kept;

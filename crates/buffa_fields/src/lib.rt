@@ -62,6 +62,7 @@ pub mod self_one_of;
 pub mod self_visitor;
 mod size_self;
 pub mod sizer;
+pub mod spending_laws;
 pub mod value;
 pub mod visitor;
 pub mod word_laws;

@@ -22,7 +22,7 @@ use buffa_wire::{
 use std::alloc::Global;
 
 // Reads the element at the front, and puts it behind the others. Nothing is spent.
-#[tactic(auto, using(crate::specs::ListFacts::element_pushed, crate::specs::ListFacts::content_there))]
+#[tactic(auto, using(crate::specs::facts::ListFacts::element_pushed, crate::specs::facts::ListFacts::content_there))]
 fn take_element<C: MapCodec>(
     alloc: Global,
     values: &mut Vec<C::Value>,

@@ -10,10 +10,10 @@ ghost use Rattle.buffa_map.proofs.BackLemmas.{plain_back};
 ghost use Rattle.buffa_map.specs.Pairs.{means, put};
 ghost use Rattle.buffa_map.specs.Encoding.{AllHold};
 ghost use Rattle.buffa_fields.specs.MapFields.{PairTakesMemory, pair_cost, pair_taken, entry_records};
-ghost use Rattle.buffa_fields.specs.MapFacts.{distinct_put, map_back, map_stays};
+ghost use Rattle.buffa_fields.specs.facts.MapFacts.{distinct_put, map_back, map_stays};
 ghost use Rattle.buffa_fields.specs.Refusals.{RefusesPair};
-ghost use Rattle.buffa_fields.specs.LevelKindFacts.{exact_flat, entry_numbers};
-ghost use Rattle.buffa_fields.specs.ValidFacts.{entry_valid};
+ghost use Rattle.buffa_fields.specs.facts.LevelKindFacts.{exact_flat, entry_numbers};
+ghost use Rattle.buffa_fields.specs.facts.ValidFacts.{entry_valid};
 
 use crate::map::{map_len, take_entry, write_map};
 use crate::meaning::And;
@@ -62,7 +62,7 @@ where
       stays = map_stays KC.reading VC.reading (KC.COST + VC.COST);
     } };
 
-    #[tactic(auto, using(crate::specs::LayoutFacts::sized_free), unfolding(crate::specs::MapFields::entry_records))]
+    #[tactic(auto, using(crate::specs::facts::LayoutFacts::sized_free), unfolding(crate::specs::MapFields::entry_records))]
     fn len(
         number: u32,
         part: &Map<KC::Value, VC::Value>,
@@ -71,7 +71,7 @@ where
         Ok(map_len::<KC, VC, Map<KC::Value, VC::Value>>(number, part))
     }
 
-    #[tactic(auto, using(crate::specs::MapFacts::map_alone), unfolding(crate::specs::MapFields::entry_records))]
+    #[tactic(auto, using(crate::specs::facts::MapFacts::map_alone), unfolding(crate::specs::MapFields::entry_records))]
     fn write_to<S: EncodeSink>(
         number: u32,
         part: &Map<KC::Value, VC::Value>,

@@ -14,14 +14,14 @@ ghost use Rattle.buffa_map.specs.Pairs.{means, put};
 ghost use Rattle.buffa_map.specs.Encoding.{AllHold};
 ghost use Rattle.buffa_fields.specs.MemberCalls.{SizesPairs, WritesPairs};
 ghost use Rattle.buffa_fields.specs.MapFields.{PairTakesMemory, pair_cost, pair_taken};
-ghost use Rattle.buffa_fields.specs.MapFacts.{distinct_put, map_stays};
+ghost use Rattle.buffa_fields.specs.facts.MapFacts.{distinct_put, map_stays};
 ghost use Rattle.buffa_fields.specs.Nested.{FitsInside};
-ghost use Rattle.buffa_fields.specs.NestedMapFacts.{pairs_back};
+ghost use Rattle.buffa_fields.specs.facts.NestedMapFacts.{pairs_back};
 ghost use Rattle.buffa_fields.specs.NestedMaps.{pair_levels, pair_records, pair_slots};
 ghost use Rattle.buffa_fields.specs.Refusals.{RefusesPair};
-ghost use Rattle.buffa_fields.specs.LevelKindFacts.{pairs_low, pair_numbers};
+ghost use Rattle.buffa_fields.specs.facts.LevelKindFacts.{pairs_low, pair_numbers};
 ghost use Rattle.buffa_fields.specs.Levels.{AreExactLevels};
-ghost use Rattle.buffa_fields.specs.ValidFacts.{pair_valid};
+ghost use Rattle.buffa_fields.specs.facts.ValidFacts.{pair_valid};
 
 use crate::map::take_entry;
 use crate::meaning::And;

@@ -6,7 +6,7 @@ ghost use Rattle.buffa_bytes.specs.Gives.{FullOnlyIf};
 ghost use Rattle.buffa_wire.specs.Passes.{IsNext, IsSized};
 ghost use Rattle.buffa_wire.specs.Encoding.{records_encoding};
 ghost use Rattle.buffa_fields.specs.Calls.{MemberTakes, MembersReadBack, MergesIn, WritesMembers};
-ghost use Rattle.buffa_fields.specs.LayoutFacts.{comes_free, reads_back};
+ghost use Rattle.buffa_fields.specs.facts.LayoutFacts.{comes_free, reads_back};
 ghost use Rattle.buffa_fields.specs.Stands.{IsMemberRefused};
 ghost use Rattle.buffa_wire.specs.Takes.{cost_of, merged_of};
 

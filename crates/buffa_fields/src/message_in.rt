@@ -9,11 +9,11 @@ ghost use Rattle.buffa_wire.specs.Passes.{IsNext, IsSized, cap};
 ghost use Rattle.buffa_wire.specs.Encoding.{records_encoding};
 ghost use Rattle.buffa_wire.proofs.ByPayloadLemmas.{by_payload, merged_fields};
 ghost use Rattle.buffa_fields.specs.Calls.{ChecksWire, TakesIn};
-ghost use Rattle.buffa_fields.specs.CasesFacts.{never};
+ghost use Rattle.buffa_fields.specs.facts.CasesFacts.{never};
 ghost use Rattle.buffa_fields.specs.Framing.{Messages, cost_as, datum_of_value, taken_as};
 ghost use Rattle.buffa_fields.specs.FramingCalls.{WritesFramed};
-ghost use Rattle.buffa_fields.specs.FramingFacts.{one_stays, there_back, there_least, there_valid};
-ghost use Rattle.buffa_fields.specs.LevelKindFacts.{optional_numbers};
+ghost use Rattle.buffa_fields.specs.facts.FramingFacts.{one_stays, there_back, there_least, there_valid};
+ghost use Rattle.buffa_fields.specs.facts.LevelKindFacts.{optional_numbers};
 ghost use Rattle.buffa_fields.specs.Levels.{AreExactLevels};
 ghost use Rattle.buffa_fields.specs.MemberRecords.{optional_records};
 ghost use Rattle.buffa_fields.specs.Nested.{message_levels, message_slots, or_blank, taken_there};
@@ -121,7 +121,7 @@ impl<F: Framing, N: Message> Member for MessageIn<F, N> {
       stays = one_stays F.frame F.holds N.cost;
     } };
 
-    #[tactic(auto, using(crate::specs::LayoutFacts::sized_free), unfolding(crate::specs::MemberRecords::optional_records, crate::specs::Nested::message_slots))]
+    #[tactic(auto, using(crate::specs::facts::LayoutFacts::sized_free), unfolding(crate::specs::MemberRecords::optional_records, crate::specs::Nested::message_slots))]
     fn len(number: u32, part: &Option<N>, cache: &mut SizeCache) -> Result<u32, EncodeError> {
         match part {
             None => Ok(0),

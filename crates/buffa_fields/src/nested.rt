@@ -8,8 +8,8 @@ ghost use Rattle.buffa_wire.specs.Records.{bytes};
 ghost use Rattle.buffa_wire.specs.Encoding.{records_encoding};
 ghost use Rattle.buffa_bytes.specs.Written.{Writes};
 ghost use Rattle.buffa_fields.specs.Framings.{delimited};
-ghost use Rattle.buffa_fields.specs.FramingFacts.{delimited_holds};
-ghost use Rattle.buffa_fields.specs.NestedFacts.{TellsLength, head};
+ghost use Rattle.buffa_fields.specs.facts.FramingFacts.{delimited_holds};
+ghost use Rattle.buffa_fields.specs.facts.NestedFacts.{TellsLength, head};
 
 use crate::framing::Framing;
 use crate::message_in::MessageIn;
@@ -20,7 +20,7 @@ use buffa_wire::{
 use std::alloc::Global;
 
 // The length of a record whose message has so many bytes, or 2^32 - 1 where it is more.
-#[tactic(auto, using(crate::specs::NestedFacts::record_size))]
+#[tactic(auto, using(crate::specs::facts::NestedFacts::record_size))]
 pub(crate) fn record_len(number: u32, inner: u64) -> u32
     requires { IsNumber number }
     ensures { (e : List ℕ) → TellsLength inner e → result ≡ cap (length (records_encoding ((number, bytes e) ∷ []))) }

@@ -5,10 +5,10 @@ ghost use Rattle.std.specs.Option.{option_map};
 ghost use Rattle.buffa_bytes.specs.Front.{check_wire};
 ghost use Rattle.buffa_fields.specs.Refusals.{UnderAny};
 ghost use Rattle.buffa_fields.specs.Values.{IfThere, RefusesAlone, ValueTakesMemory, free, some_taken};
-ghost use Rattle.buffa_fields.specs.ValueFacts.{some_back};
+ghost use Rattle.buffa_fields.specs.facts.ValueFacts.{some_back};
 ghost use Rattle.buffa_fields.specs.MemberRecords.{optional_records};
-ghost use Rattle.buffa_fields.specs.LevelKindFacts.{exact_flat, optional_numbers};
-ghost use Rattle.buffa_fields.specs.ValidFacts.{optional_valid};
+ghost use Rattle.buffa_fields.specs.facts.LevelKindFacts.{exact_flat, optional_numbers};
+ghost use Rattle.buffa_fields.specs.facts.ValidFacts.{optional_valid};
 
 use crate::case::Case;
 use crate::member::Member;
@@ -50,7 +50,7 @@ impl<C: ProtoType> Member for Optional<C> {
     } };
 
     #[inline(always)]
-    #[tactic(auto, using(crate::specs::LayoutFacts::sized_free), unfolding(crate::specs::MemberRecords::optional_records))]
+    #[tactic(auto, using(crate::specs::facts::LayoutFacts::sized_free), unfolding(crate::specs::MemberRecords::optional_records))]
     fn len(
         number: u32,
         part: &Option<C::Value>,
@@ -118,7 +118,7 @@ impl<C: ProtoType> Case for Optional<C> {
     } };
 
     #[inline(always)]
-    #[tactic(auto, using(crate::specs::LayoutFacts::sized_free), unfolding(crate::specs::MemberRecords::optional_records))]
+    #[tactic(auto, using(crate::specs::facts::LayoutFacts::sized_free), unfolding(crate::specs::MemberRecords::optional_records))]
     fn value_len(
         number: u32,
         value: &C::Value,

@@ -12,12 +12,12 @@ ghost use Rattle.buffa_map.specs.Pairs.{means};
 ghost use Rattle.buffa_fields.specs.Calls.{ChecksWire};
 ghost use Rattle.buffa_fields.specs.MemberCalls.{TakesOrderedEntry};
 ghost use Rattle.buffa_fields.specs.MapFields.{PairTakesMemory, pair_cost, pair_taken, entry_records};
-ghost use Rattle.buffa_fields.specs.MapFacts.{map_back, map_stays};
-ghost use Rattle.buffa_fields.specs.OrderedFacts.{ascending_put};
+ghost use Rattle.buffa_fields.specs.facts.MapFacts.{map_back, map_stays};
+ghost use Rattle.buffa_fields.specs.facts.OrderedFacts.{ascending_put};
 ghost use Rattle.buffa_fields.specs.OrderedMaps.{KeysAscend};
 ghost use Rattle.buffa_fields.specs.Refusals.{RefusesPair, RefusesPairIn};
-ghost use Rattle.buffa_fields.specs.LevelKindFacts.{exact_flat, entry_numbers};
-ghost use Rattle.buffa_fields.specs.ValidFacts.{entry_valid};
+ghost use Rattle.buffa_fields.specs.facts.LevelKindFacts.{exact_flat, entry_numbers};
+ghost use Rattle.buffa_fields.specs.facts.ValidFacts.{entry_valid};
 
 use crate::map::{map_len, write_map};
 use crate::meaning::And;
@@ -100,7 +100,7 @@ where
       stays = map_stays KC.reading VC.reading (KC.COST + VC.COST);
     } };
 
-    #[tactic(auto, using(crate::specs::LayoutFacts::sized_free), unfolding(crate::specs::MapFields::entry_records))]
+    #[tactic(auto, using(crate::specs::facts::LayoutFacts::sized_free), unfolding(crate::specs::MapFields::entry_records))]
     fn len(
         number: u32,
         part: &BTreeMap<KC::Value, VC::Value>,
@@ -109,7 +109,7 @@ where
         Ok(map_len::<KC, VC, BTreeMap<KC::Value, VC::Value>>(number, part))
     }
 
-    #[tactic(auto, using(crate::specs::MapFacts::map_alone), unfolding(crate::specs::MapFields::entry_records))]
+    #[tactic(auto, using(crate::specs::facts::MapFacts::map_alone), unfolding(crate::specs::MapFields::entry_records))]
     fn write_to<S: EncodeSink>(
         number: u32,
         part: &BTreeMap<KC::Value, VC::Value>,

@@ -10,11 +10,11 @@ ghost use Rattle.buffa_bytes.specs.WireType.{same_wire};
 ghost use Rattle.buffa_bytes.specs.Written.{Writes};
 ghost use Rattle.buffa_map.specs.Encoding.{saturated};
 ghost use Rattle.buffa_fields.specs.Lists.{ElementsTakeMemory, check_list_wire, elements_taken, packed_records};
-ghost use Rattle.buffa_fields.specs.ListFacts.{packed_field_back};
+ghost use Rattle.buffa_fields.specs.facts.ListFacts.{packed_field_back};
 ghost use Rattle.buffa_fields.specs.Refusals.{RefusesElements, UnderAny};
 ghost use Rattle.buffa_fields.specs.Values.{free};
-ghost use Rattle.buffa_fields.specs.LevelKindFacts.{exact_flat, packed_numbers};
-ghost use Rattle.buffa_fields.specs.ValidFacts.{packed_valid};
+ghost use Rattle.buffa_fields.specs.facts.LevelKindFacts.{exact_flat, packed_numbers};
+ghost use Rattle.buffa_fields.specs.facts.ValidFacts.{packed_valid};
 
 use crate::list::take_elements;
 use crate::member::Member;
@@ -186,7 +186,7 @@ impl<C: Packable> Member for Packed<C> {
       stays = λ d n w p x h. refl;
     } };
 
-    #[tactic(auto, using(crate::specs::LayoutFacts::sized_free))]
+    #[tactic(auto, using(crate::specs::facts::LayoutFacts::sized_free))]
     fn len(number: u32, part: &Vec<C::Value>, _cache: &mut SizeCache) -> Result<u32, EncodeError> {
         Ok(packed_len::<C>(number, part.as_slice()))
     }

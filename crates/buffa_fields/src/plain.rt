@@ -4,10 +4,10 @@ ghost use Rattle.std.specs.Prelude.{[], refl, not};
 ghost use Rattle.buffa_bytes.specs.Front.{check_wire};
 ghost use Rattle.buffa_fields.specs.Refusals.{UnderAny};
 ghost use Rattle.buffa_fields.specs.Values.{RefusesAlone, ValueTakesMemory, free, value_taken};
-ghost use Rattle.buffa_fields.specs.ValueFacts.{plain_back};
+ghost use Rattle.buffa_fields.specs.facts.ValueFacts.{plain_back};
 ghost use Rattle.buffa_fields.specs.MemberRecords.{plain_records};
-ghost use Rattle.buffa_fields.specs.LevelKindFacts.{exact_flat, plain_numbers};
-ghost use Rattle.buffa_fields.specs.ValidFacts.{plain_valid};
+ghost use Rattle.buffa_fields.specs.facts.LevelKindFacts.{exact_flat, plain_numbers};
+ghost use Rattle.buffa_fields.specs.facts.ValidFacts.{plain_valid};
 
 use crate::member::Member;
 use crate::proto_type::ProtoType;
@@ -48,7 +48,7 @@ impl<C: ProtoType> Member for Plain<C> {
     } };
 
     #[inline(always)]
-    #[tactic(auto, using(crate::specs::LayoutFacts::sized_free), unfolding(crate::specs::MemberRecords::plain_records))]
+    #[tactic(auto, using(crate::specs::facts::LayoutFacts::sized_free), unfolding(crate::specs::MemberRecords::plain_records))]
     fn len(number: u32, part: &C::Value, _cache: &mut SizeCache) -> Result<u32, EncodeError> {
         if C::is_blank(part) {
             Ok(0)

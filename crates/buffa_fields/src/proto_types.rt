@@ -8,7 +8,7 @@ ghost use Rattle.buffa_bytes.proofs.ScalarLemmas.{bool_fits, unsigned32_fits, un
 ghost use Rattle.buffa_wire.specs.ScalarFacts.{below_64, zigzag32_below};
 ghost use Rattle.buffa_wire.specs.Enums.{open_number};
 ghost use Rattle.buffa_wire.specs.Records.Datum.{varint, fixed32, fixed64, bytes};
-ghost use Rattle.buffa_fields.specs.BlankFacts.{zero_only, is_nought, is_zero, none_only, nought_only, is_none, same_false_only};
+ghost use Rattle.buffa_fields.specs.facts.BlankFacts.{zero_only, is_nought, is_zero, none_only, nought_only, is_none, same_false_only};
 ghost use Rattle.std.specs.Prelude.{not};
 
 use crate::proto_type::ProtoType;

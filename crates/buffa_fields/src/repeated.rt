@@ -3,11 +3,11 @@
 ghost use Rattle.std.specs.Prelude.{[], map, refl, not};
 ghost use Rattle.std.specs.List.{AllByRecursion};
 ghost use Rattle.buffa_fields.specs.Lists.{ElementsTakeMemory, check_list_wire, element_records, elements_taken};
-ghost use Rattle.buffa_fields.specs.ListFacts.{elements_back};
+ghost use Rattle.buffa_fields.specs.facts.ListFacts.{elements_back};
 ghost use Rattle.buffa_fields.specs.Refusals.{RefusesElements, UnderAny};
 ghost use Rattle.buffa_fields.specs.Values.{free};
-ghost use Rattle.buffa_fields.specs.LevelKindFacts.{element_numbers, exact_flat};
-ghost use Rattle.buffa_fields.specs.ValidFacts.{element_valid};
+ghost use Rattle.buffa_fields.specs.facts.LevelKindFacts.{element_numbers, exact_flat};
+ghost use Rattle.buffa_fields.specs.facts.ValidFacts.{element_valid};
 
 use crate::list::{elements_len, take_elements, write_elements};
 use crate::member::Member;
@@ -48,7 +48,7 @@ impl<C: ProtoType> Member for Repeated<C> {
       stays = λ d n w p x h. refl;
     } };
 
-    #[tactic(auto, using(crate::specs::LayoutFacts::sized_free))]
+    #[tactic(auto, using(crate::specs::facts::LayoutFacts::sized_free))]
     fn len(number: u32, part: &Vec<C::Value>, _cache: &mut SizeCache) -> Result<u32, EncodeError> {
         Ok(elements_len::<C>(number, part.as_slice()))
     }

@@ -3,7 +3,7 @@
 ghost use Rattle.std.specs.Prelude.{◌≡◌, ◌≤◌, ℕ, Some};
 ghost use Rattle.buffa_wire.specs.Parse.{Fits};
 ghost use Rattle.buffa_wire.specs.Records.{records_of};
-ghost use Rattle.buffa_fields.specs.LayoutFacts.{comes_free};
+ghost use Rattle.buffa_fields.specs.facts.LayoutFacts.{comes_free};
 ghost use Rattle.buffa_fields.specs.Tied.{IsNormalLaid};
 ghost use Rattle.buffa_fields.specs.Told.{told, told_layout};
 ghost use Rattle.buffa_fields.specs.Words.{AreExactBy, encoding_by};

@@ -11,7 +11,7 @@ ghost use Rattle.buffa_wire.specs.Passes.{IsNext, IsSized, IsWritten};
 ghost use Rattle.buffa_fields.specs.Laying.{whole_takes};
 ghost use Rattle.buffa_fields.specs.SelfRefused.{IsSelfRefused};
 ghost use Rattle.buffa_fields.specs.Told.{told, told_layout};
-ghost use Rattle.buffa_fields.specs.ToldFacts.{blank_is, cost_by_is, merged_by_is};
+ghost use Rattle.buffa_fields.specs.facts.ToldFacts.{blank_is, cost_by_is, merged_by_is};
 ghost use Rattle.buffa_fields.specs.Words.{encoding_by};
 
 use crate::laid::Laid;

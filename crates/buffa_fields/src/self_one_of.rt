@@ -62,7 +62,7 @@ fn case_len<E: OneOf>(part: &Option<E>, cache: &mut SizeCache) -> Result<u32, En
 }
 
 // Adds the length of the case that is there, if one is, to a sum.
-#[tactic(auto, using(crate::specs::LayoutFacts::is_counted, crate::specs::LayoutFacts::counted_err, crate::specs::LayoutFacts::counted_none))]
+#[tactic(auto, using(crate::specs::facts::LayoutFacts::is_counted, crate::specs::facts::LayoutFacts::counted_err, crate::specs::facts::LayoutFacts::counted_none))]
 pub(crate) fn case_counted<E: OneOf>(
     total: Result<u32, EncodeError>,
     part: &Option<E>,
@@ -106,7 +106,7 @@ fn write_case<E: OneOf, S: EncodeSink>(
 }
 
 // Writes it behind what was written, until memory runs out.
-#[tactic(auto, using(crate::specs::LayoutFacts::is_put, crate::specs::LayoutFacts::put_none, crate::specs::LayoutFacts::follow_first, crate::specs::LayoutFacts::follow_rest, crate::specs::LayoutFacts::follow_none))]
+#[tactic(auto, using(crate::specs::facts::LayoutFacts::is_put, crate::specs::facts::LayoutFacts::put_none, crate::specs::facts::LayoutFacts::follow_first, crate::specs::facts::LayoutFacts::follow_rest, crate::specs::facts::LayoutFacts::follow_none))]
 pub(crate) fn case_put<E: OneOf, S: EncodeSink>(
     written: Result<(), EncodeError>,
     part: &Option<E>,

@@ -7,7 +7,7 @@ ghost use Rattle.buffa_wire.specs.Encoding.{records_encoding};
 ghost use Rattle.buffa_wire.specs.Passes.{IsSized, cap};
 ghost use Rattle.buffa_map.specs.Calls.{SizesMessages};
 ghost use Rattle.buffa_fields.specs.Layout.{IsCounted, Seen, visited};
-ghost use Rattle.buffa_fields.specs.LayoutFacts.{comes_free};
+ghost use Rattle.buffa_fields.specs.facts.LayoutFacts.{comes_free};
 ghost use Rattle.buffa_fields.specs.Laying.{children_shape, maybe_shape};
 ghost use Rattle.buffa_fields.specs.Told.{told};
 ghost use Rattle.buffa_fields.specs.Words.{encoding_by};

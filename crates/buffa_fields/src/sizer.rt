@@ -4,7 +4,7 @@ ghost use Rattle.std.specs.Prelude.{◌≡◌, [], Ok, ℕ};
 ghost use Rattle.buffa_bytes.specs.Number.{IsNumber};
 ghost use Rattle.buffa_wire.specs.Cache.{Cache};
 ghost use Rattle.buffa_fields.specs.Layout.{IsCounted, Seen, more, visited};
-ghost use Rattle.buffa_fields.specs.LayoutFacts.{comes_free};
+ghost use Rattle.buffa_fields.specs.facts.LayoutFacts.{comes_free};
 
 use crate::kept::kept_len;
 use crate::member::Member;
@@ -13,7 +13,7 @@ use buffa_wire::{EncodeError, SizeCache, UnknownFields};
 
 // Adds the length of a member to a sum, unless memory ran out.
 #[inline(always)]
-#[tactic(auto, using(crate::specs::LayoutFacts::is_counted, crate::specs::LayoutFacts::counted_err, crate::specs::LayoutFacts::counted_none))]
+#[tactic(auto, using(crate::specs::facts::LayoutFacts::is_counted, crate::specs::facts::LayoutFacts::counted_err, crate::specs::facts::LayoutFacts::counted_none))]
 pub(crate) fn member_counted<M: Member>(
     total: Result<u32, EncodeError>,
     number: u32,
@@ -31,7 +31,7 @@ pub(crate) fn member_counted<M: Member>(
 
 // Adds the length of the fields that were kept.
 #[inline(always)]
-#[tactic(auto, using(crate::specs::LayoutFacts::is_counted, crate::specs::LayoutFacts::sized_free, crate::specs::LayoutFacts::counted_none))]
+#[tactic(auto, using(crate::specs::facts::LayoutFacts::is_counted, crate::specs::facts::LayoutFacts::sized_free, crate::specs::facts::LayoutFacts::counted_none))]
 pub(crate) fn kept_counted(
     total: Result<u32, EncodeError>,
     fields: &UnknownFields,

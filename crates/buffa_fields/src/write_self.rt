@@ -6,7 +6,7 @@ ghost use Rattle.buffa_bytes.specs.Number.{IsNumber};
 ghost use Rattle.buffa_wire.specs.Passes.{IsNext, IsWritten};
 ghost use Rattle.buffa_map.specs.Calls.{WritesMessages};
 ghost use Rattle.buffa_fields.specs.Layout.{Follow, IsPut, Seen, visited};
-ghost use Rattle.buffa_fields.specs.LayoutFacts.{comes_front};
+ghost use Rattle.buffa_fields.specs.facts.LayoutFacts.{comes_front};
 ghost use Rattle.buffa_fields.specs.Laying.{children_shape, maybe_shape};
 ghost use Rattle.buffa_fields.specs.Told.{told};
 ghost use Rattle.buffa_fields.specs.Words.{encoding_by};

@@ -4,7 +4,7 @@ ghost use Rattle.std.specs.Prelude.{◌≡◌, ◌++◌, [], List, Ok, ℕ};
 ghost use Rattle.buffa_bytes.specs.Number.{IsNumber};
 ghost use Rattle.buffa_wire.specs.Cache.{Cache};
 ghost use Rattle.buffa_fields.specs.Layout.{Comes, Follow, IsPut, Seen, more, visited};
-ghost use Rattle.buffa_fields.specs.LayoutFacts.{comes_front};
+ghost use Rattle.buffa_fields.specs.facts.LayoutFacts.{comes_front};
 
 use crate::member::Member;
 use crate::visitor::Visitor;
@@ -12,7 +12,7 @@ use buffa_wire::{EncodeError, EncodeSink, SizeCache, UnknownFields};
 
 // Writes a member behind what was written, unless memory ran out.
 #[inline(always)]
-#[tactic(auto, using(crate::specs::LayoutFacts::is_put, crate::specs::LayoutFacts::put_none, crate::specs::LayoutFacts::follow_first, crate::specs::LayoutFacts::follow_rest, crate::specs::LayoutFacts::follow_none))]
+#[tactic(auto, using(crate::specs::facts::LayoutFacts::is_put, crate::specs::facts::LayoutFacts::put_none, crate::specs::facts::LayoutFacts::follow_first, crate::specs::facts::LayoutFacts::follow_rest, crate::specs::facts::LayoutFacts::follow_none))]
 pub(crate) fn member_put<M: Member, S: EncodeSink>(
     written: Result<(), EncodeError>,
     number: u32,
@@ -33,7 +33,7 @@ pub(crate) fn member_put<M: Member, S: EncodeSink>(
 
 // Writes the fields that were kept.
 #[inline(always)]
-#[tactic(auto, using(crate::specs::LayoutFacts::is_put, crate::specs::LayoutFacts::put_none, buffa_wire::proofs::PassLemmas::written_put, crate::specs::LayoutFacts::follow_rest, crate::specs::LayoutFacts::follow_none))]
+#[tactic(auto, using(crate::specs::facts::LayoutFacts::is_put, crate::specs::facts::LayoutFacts::put_none, buffa_wire::proofs::PassLemmas::written_put, crate::specs::facts::LayoutFacts::follow_rest, crate::specs::facts::LayoutFacts::follow_none))]
 pub(crate) fn kept_put<S: EncodeSink>(
     written: Result<(), EncodeError>,
     fields: &UnknownFields,

@@ -8,6 +8,7 @@ pub mod MemoryLemmas
 pub mod TailLemmas
 pub mod MessageLemmas
 pub mod RunLemmas
+mod RunLawLemmas
 pub mod SizeLemmas
 pub mod WalkLemmas
 pub mod OrderedLemmas

@@ -28,6 +28,13 @@ pub use crate::pin_laws::{
     entries_are_pinned, map_fields_are_pinned, message_fields_are_pinned, puts_are_pinned,
     rewrites_are_pinned, runs_are_pinned, values_are_pinned,
 };
+pub use crate::run_laws::{
+    codecs_spend_so, entries_are_written_so, faults_of_entries_are_these, faults_of_runs_are_these,
+    fields_of_entries_take_memory_so, fields_of_messages_are_written_so, merged_entries_are_these,
+    messages_take_memory_so, named_readings_are_these, records_and_texts_are_these,
+    refused_entries_are_these, rewrites_are_readings, rules_are_these, runs_are_read_so,
+    runs_are_these,
+};
 pub use crate::storage_laws::{
     hashed_maps_are_these, index_maps_are_these, ordered_maps_are_these, ordered_maps_have_one_walk,
 };

@@ -32,6 +32,7 @@ mod ordered;
 mod pin_laws;
 mod rewrite;
 mod run;
+mod run_laws;
 mod size;
 mod sized;
 mod storage;

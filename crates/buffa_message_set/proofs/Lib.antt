@@ -4,3 +4,4 @@ pub mod ItemEncodingLemmas
 pub mod GroupLemmas
 mod FrontLemmas
 mod PinLemmas
+mod OrderLemmas

@@ -1,6 +1,6 @@
 //! What the definitions of Items say together: each law is a function with nothing to do, whose contract is the law.
 
-ghost use Rattle.std.specs.Prelude.{◌≡◌, ◌≢◌, ◌↔◌, ◌<◌, ◌≤◌, ◌+◌, ◌^◌, ◌⊎◌, [], ◌∷◌, ◌++◌, ℕ, List, Ok, Err, length};
+ghost use Rattle.std.specs.Prelude.{◌≡◌, ◌≢◌, ◌↔◌, ◌<◌, ◌≤◌, ◌+◌, ◌^◌, ◌⊎◌, [], ◌∷◌, ◌++◌, ℕ, List, Ok, Err, Option, None, Some, length};
 ghost use Rattle.buffa_bytes.specs.declared.error.DecodeError.{DecodeError};
 ghost use Rattle.buffa_bytes.specs.declared.error.DecodeError.TheVariants.{InvalidMessageSet, OutOfMemory, UnknownFieldLimitExceeded};
 ghost use Rattle.buffa_bytes.specs.declared.error.MessageSetFault.TheVariants.{MissingTypeId, TypeIdOutOfRange};
@@ -12,8 +12,8 @@ ghost use Rattle.buffa_bytes.specs.Varint.{IsVarint, VarintFault, varint_encodin
 ghost use Rattle.buffa_bytes.specs.declared.wire_type.WireType.{WireType};
 ghost use Rattle.buffa_wire.specs.BudgetLeft.{BudgetLeft};
 ghost use Rattle.buffa_wire.specs.Message.{IsLimit};
-ghost use Rattle.buffa_message_set.specs.Item.{GroupsAreReadAlike, HasMessage, IsTypeId, Item, ItemFault, ItemsAreGroups, NoOtherFront, OneItem, SpendsUnknown};
-ghost use Rattle.buffa_message_set.specs.Item.{TakesItem, WrittenIsItem, body_encoding, item_at, item_encoding, item_in};
+ghost use Rattle.buffa_message_set.specs.Item.{GroupsAreReadAlike, HasMessage, IsTypeId, Item, ItemFault, ItemsAreGroups, NoOtherFront, OneItem, Reaches, SpendsUnknown};
+ghost use Rattle.buffa_message_set.specs.Item.{TakesItem, WrittenIsItem, body_encoding, item_at, item_encoding, item_in, said};
 ghost use Rattle.buffa_message_set.specs.Pinned.{ItemIsPinned, WrittenItemIsPinned};
 
 use crate::message_set::{ITEM_END_TAG, ITEM_START_TAG, MESSAGE_TAG, TYPE_ID_TAG};
@@ -26,6 +26,25 @@ pub fn written_items_are_items()
     ensures start { (id : ℕ) (msg : List ℕ) → item_encoding id msg ≡ ITEM_START_TAG ∷ body_encoding id msg }
     ensures item { WrittenIsItem }
     ensures only { NoOtherFront }
+{}
+
+/// What the fields of an Item say, the one behind the other: at first nothing. A type id takes the place of the one before it;
+/// message bytes go behind those before them, also where the type id comes first; and a field of any other number or wire
+/// type says nothing. The end tag ends the Item, where a type id was said, and else it is missing.
+pub fn items_are_read_in_order()
+    ensures none { (d : ℕ) → Reaches d [] (said None []) [] }
+    ensures type_id { (d n : ℕ) (fs tag p : List ℕ) (o : Option ℕ) (msg : List ℕ) → IsTag tag 2 Varint → IsVarint p n →
+        IsTypeId n → Reaches d fs (said o msg) [] → Reaches d (fs ++ (tag ++ p)) (said (Some n) msg) [] }
+    ensures message { (d : ℕ) (fs tag l m : List ℕ) (o : Option ℕ) (msg : List ℕ) → IsTag tag 3 LengthDelimited →
+        IsVarint l (length m) → Reaches d fs (said o msg) [] →
+        Reaches d (fs ++ (tag ++ (l ++ m))) (said o (msg ++ m)) [] }
+    ensures other { (d n : ℕ) (w : WireType) (fs f : List ℕ) (o : Option ℕ) (msg : List ℕ) → Field d n w f →
+        (n ≡ 2 → w ≢ Varint) → (n ≡ 3 → w ≢ LengthDelimited) → (n ≡ 1 → w ≢ EndGroup) → Reaches d fs (said o msg) [] →
+        Reaches d (fs ++ f) (said o msg) [] }
+    ensures item { (d id : ℕ) (fs end msg : List ℕ) → IsTag end 1 EndGroup → Reaches d fs (said (Some id) msg) [] →
+        Item d (fs ++ end) id msg }
+    ensures missing { (d : ℕ) (fs end rest msg : List ℕ) → IsTag end 1 EndGroup → Reaches d fs (said None msg) [] →
+        ItemFault d (fs ++ (end ++ rest)) (InvalidMessageSet MissingTypeId) }
 {}
 
 /// The grammar of Items, from the end tag to the front: an end tag of number 1 behind a type id is an Item of no message; and

@@ -47,9 +47,9 @@ use Rattle.buffa_map.specs.Run.{undeclared_record}
 use Rattle.buffa_map.specs.Scalars.{IsText, int32_reading, text_reading}
 use Rattle.buffa_map.specs.declared.map_entry.MapEntry.{MapEntry}
 use Rattle.buffa_fields.specs.Entries.{entry_taken}
-use Rattle.buffa_fields.specs.EntryDepthFacts.{undeclared_aside}
+use Rattle.buffa_fields.specs.facts.EntryDepthFacts.{undeclared_aside}
 use Rattle.buffa_fields.specs.Keep.{keep_takes}
-use Rattle.buffa_fields.specs.KeepFacts.{kept_record}
+use Rattle.buffa_fields.specs.facts.KeepFacts.{kept_record}
 use Rattle.buffa_fields.specs.KeptMaps.{put_or_keep}
 use Rattle.buffa_fields.specs.MapFields.{stepped}
 use Rattle.buffa_fields.specs.Knots.{KnotList}

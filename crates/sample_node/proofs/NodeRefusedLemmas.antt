@@ -14,7 +14,7 @@ use Rattle.buffa_fields.specs.Knots.{KnotList, head_many, knot}
 use Rattle.buffa_fields.specs.Layout.{Choice, IsFieldKept, Shape, Took}
 use Rattle.buffa_fields.specs.Pairs.{child_pairs, pairs_again}
 use Rattle.buffa_fields.specs.SelfRefused.{IsSelfRefused}
-use Rattle.buffa_fields.specs.ToldFacts.{blank_is, each_is}
+use Rattle.buffa_fields.specs.facts.ToldFacts.{blank_is, each_is}
 use Rattle.sample_node.proofs.NodeLaidLemmas.{members, members_sound, node_words}
 use Rattle.sample_node.proofs.NodeReadLemmas.{in_node_words}
 use Rattle.sample_node.specs.Branch.{Branch, IsNode, NodeKept, NodeOwn, Scores, Shades, blank_node, branch, node_of}

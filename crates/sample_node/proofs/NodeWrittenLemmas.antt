@@ -13,11 +13,11 @@ use Rattle.buffa_wire.specs.Records.{bytes, records_of}
 use Rattle.buffa_map.specs.Enums.{closed_writing}
 use Rattle.buffa_map.specs.Scalars.{int32_writing, text_writing}
 use Rattle.buffa_fields.specs.Knots.{KnotList, Slots, head_many, kid, knot, many, no_kid, no_slot, one}
-use Rattle.buffa_fields.specs.MapFacts.{map_encoding}
+use Rattle.buffa_fields.specs.facts.MapFacts.{map_encoding}
 use Rattle.buffa_fields.specs.MapFields.{entry_records, map_records}
 use Rattle.buffa_fields.specs.NestedMaps.{pair_levels, pair_records, pair_slots}
 use Rattle.buffa_fields.specs.Pairs.{child_pairs}
-use Rattle.buffa_fields.specs.ToldFacts.{levels_are, records_are, slots_are}
+use Rattle.buffa_fields.specs.facts.ToldFacts.{levels_are, records_are, slots_are}
 use Rattle.buffa_fields.specs.Words.{encoding_by}
 use Rattle.sample_node.proofs.NodeLaidLemmas.{members, members_sound, node_words}
 use Rattle.sample_node.specs.Branch.{Branch, NodeKept, NodeOwn, Scores, Shades}

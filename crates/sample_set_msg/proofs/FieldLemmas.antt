@@ -19,7 +19,7 @@ use Rattle.buffa_message_set.proofs.GroupLemmas.{item_no_limit}
 use Rattle.buffa_wire.proofs.CostLemmas.{paid}
 use Rattle.buffa_wire.specs.ByField.{value_of}
 use Rattle.buffa_fields.specs.Keep.{keep_takes}
-use Rattle.buffa_fields.specs.KeepFacts.{keep_ok, none_there}
+use Rattle.buffa_fields.specs.facts.KeepFacts.{keep_ok, none_there}
 use Rattle.buffa_wire.specs.Takes.{answer, framed}
 use Rattle.buffa_wire.proofs.TakesLemmas.{framed_at, framed_err}
 use Rattle.buffa_wire.proofs.LoopLemmas.{field_end}

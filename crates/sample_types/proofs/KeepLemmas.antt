@@ -9,7 +9,7 @@ use Rattle.buffa_wire.specs.Records.{Datum, records_of}
 use Rattle.buffa_wire.specs.Takes.{merged_of}
 use Rattle.buffa_map.proofs.StayLemmas.{all_keep}
 use Rattle.buffa_fields.specs.Keep.{keep_takes}
-use Rattle.buffa_fields.specs.KeepFacts.{kept_record}
+use Rattle.buffa_fields.specs.facts.KeepFacts.{kept_record}
 
 one_kept : (d : ℕ) (v u : List (ℕ × Datum)) (n : ℕ) (x : Datum) (p : List ℕ) → AreValid (records_of v) → IsNumber n → AreBytes p → IsPayload d n x p →
     keep_takes d v n (wire_of x) p ≡ Some u → AreValid (records_of u)

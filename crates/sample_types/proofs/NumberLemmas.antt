@@ -15,7 +15,7 @@ use Rattle.buffa_bytes.proofs.VarintLemmas.{varint_complete}
 use Rattle.buffa_bytes.proofs.SequenceLemmas.{err_same}
 use Rattle.buffa_wire.specs.BudgetLeft.{BudgetLeft, nothing}
 use Rattle.buffa_wire.specs.Records.{varint}
-use Rattle.buffa_fields.specs.BlankFacts.{is_zero}
+use Rattle.buffa_fields.specs.facts.BlankFacts.{is_zero}
 use Rattle.buffa_fields.specs.MemberRecords.{plain_records}
 use Rattle.buffa_wire.specs.Takes.{IsTaken, cost_of, costs_nothing}
 use Rattle.buffa_fields.specs.Layout.{both_need}

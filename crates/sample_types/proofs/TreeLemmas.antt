@@ -31,9 +31,9 @@ use Rattle.buffa_fields.specs.MapFields.{pair_taken, stepped}
 use Rattle.buffa_fields.specs.NestedMaps.{pair_levels, pair_records, pair_slots}
 use Rattle.buffa_fields.specs.PairShapes.{reading_by}
 use Rattle.buffa_fields.specs.Pairs.{child_pairs, keys_in, pairs_again, pairs_in, values_in}
-use Rattle.buffa_fields.specs.TiedFacts.{costs_alike}
+use Rattle.buffa_fields.specs.facts.TiedFacts.{costs_alike}
 use Rattle.buffa_fields.specs.Told.{told}
-use Rattle.buffa_fields.specs.ToldFacts.{blank_is, cost_by_is, each_is, levels_are, merged_by_is, records_are, slots_are}
+use Rattle.buffa_fields.specs.facts.ToldFacts.{blank_is, cost_by_is, each_is, levels_are, merged_by_is, records_are, slots_are}
 use Rattle.buffa_fields.specs.Values.{all_of, value_taken}
 use Rattle.buffa_fields.specs.Words.{Words, encoding_by}
 use Rattle.sample_types.proofs.AlikeLemmas.{merged_as_told}

@@ -1,5 +1,5 @@
 use Rattle.std.proofs.Common.{refl}
-use Rattle.buffa_fields.specs.EntryDepthFacts.{IsEven, undeclared_aside}
+use Rattle.buffa_fields.specs.facts.EntryDepthFacts.{IsEven, undeclared_aside}
 use Rattle.buffa_map.specs.Enums.{closed_reading}
 use Rattle.buffa_map.specs.Scalars.{int32_reading}
 use Rattle.buffa_wire.specs.Enums.{Numbers, numbers}

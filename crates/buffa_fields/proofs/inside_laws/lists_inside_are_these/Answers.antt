@@ -3,7 +3,7 @@ use Rattle.buffa_fields.proofs.InsideLawLemmas.{had_again}
 use Rattle.buffa_fields.specs.Nested.{message_merged}
 use Rattle.buffa_fields.specs.RepeatedNested.{messages_cost, messages_taken}
 use Rattle.buffa_fields.specs.Told.{told}
-use Rattle.buffa_fields.specs.ToldFacts.{blank_is, each_is}
+use Rattle.buffa_fields.specs.facts.ToldFacts.{blank_is, each_is}
 use Rattle.buffa_fields.proofs.inside_laws.lists_inside_are_these.Goals as goal
 
 pub returns-clause-takes : goal.returns-clause-takes

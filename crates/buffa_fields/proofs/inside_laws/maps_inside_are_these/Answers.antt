@@ -6,7 +6,7 @@ use Rattle.buffa_fields.proofs.InsideLawLemmas.{had_again}
 use Rattle.buffa_fields.specs.MapFields.{PairTakesMemory, pair_cost, pair_taken}
 use Rattle.buffa_fields.specs.Refusals.{RefusesPair}
 use Rattle.buffa_fields.specs.Told.{told}
-use Rattle.buffa_fields.specs.ToldFacts.{blank_is, each_is}
+use Rattle.buffa_fields.specs.facts.ToldFacts.{blank_is, each_is}
 use Rattle.buffa_fields.proofs.inside_laws.maps_inside_are_these.Goals as goal
 
 pub returns-clause-takes : goal.returns-clause-takes

@@ -1,9 +1,9 @@
 use Rattle.std.proofs.Common.{◌∙◌, ap, sym}
 use Rattle.buffa_wire.specs.Takes.{merged_of}
-use Rattle.buffa_fields.specs.ApartFacts.{knot_merged_apart}
+use Rattle.buffa_fields.specs.facts.ApartFacts.{knot_merged_apart}
 use Rattle.buffa_fields.specs.Laying.{whole_takes}
 use Rattle.buffa_fields.specs.Told.{told, told_layout}
-use Rattle.buffa_fields.specs.ToldFacts.{cost_by_is, is_normal, levels_are, merged_by_is, normal_is, records_are, slots_are}
+use Rattle.buffa_fields.specs.facts.ToldFacts.{cost_by_is, is_normal, levels_are, merged_by_is, normal_is, records_are, slots_are}
 use Rattle.buffa_fields.proofs.inside_laws.messages_that_hold_themselves_are_these.Goals as goal
 
 pub returns-clause-merged : goal.returns-clause-merged

@@ -2,7 +2,7 @@ use Rattle.std.proofs.Common.{◌∙◌, ap, sym}
 use Rattle.buffa_fields.proofs.InsideLawLemmas.{had_again}
 use Rattle.buffa_fields.specs.Nested.{message_merged, taken_there}
 use Rattle.buffa_fields.specs.Told.{told}
-use Rattle.buffa_fields.specs.ToldFacts.{blank_is}
+use Rattle.buffa_fields.specs.facts.ToldFacts.{blank_is}
 use Rattle.buffa_fields.proofs.inside_laws.ones_inside_are_these.Goals as goal
 
 pub returns-clause-takes : goal.returns-clause-takes

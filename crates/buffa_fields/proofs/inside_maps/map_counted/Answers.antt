@@ -2,10 +2,10 @@ use Rattle.std.proofs.lemmas.Result.{err_from_is_err_and}
 use Rattle.buffa_map.specs.Pairs.{means}
 use Rattle.buffa_fields.proofs.NestedMapLemmas.{all_sized}
 use Rattle.buffa_fields.specs.MapKeys.{keys_by}
-use Rattle.buffa_fields.specs.LayoutFacts.{failed}
+use Rattle.buffa_fields.specs.facts.LayoutFacts.{failed}
 use Rattle.buffa_fields.specs.PairShapes.{pairs_shape}
 use Rattle.buffa_fields.specs.Told.{told}
-use Rattle.buffa_fields.specs.VisitFacts.{other_counted, other_failed}
+use Rattle.buffa_fields.specs.facts.VisitFacts.{other_counted, other_failed}
 use Rattle.buffa_fields.specs.Words.{encoding_by}
 use Rattle.buffa_fields.proofs.inside_maps.map_counted.Goals as goal
 

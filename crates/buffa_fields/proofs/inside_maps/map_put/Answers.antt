@@ -4,7 +4,7 @@ use Rattle.buffa_wire.specs.Passes.{IsWritten}
 use Rattle.buffa_fields.specs.MapKeys.{keys_by}
 use Rattle.buffa_fields.specs.PairShapes.{pairs_shape}
 use Rattle.buffa_fields.specs.Told.{told}
-use Rattle.buffa_fields.specs.VisitFacts.{other_put, other_rest}
+use Rattle.buffa_fields.specs.facts.VisitFacts.{other_put, other_rest}
 use Rattle.buffa_fields.specs.Words.{encoding_by}
 use Rattle.buffa_fields.proofs.inside_maps.map_put.Goals as goal
 

@@ -3,7 +3,7 @@ use Rattle.buffa_map.specs.Pairs.{means}
 use Rattle.buffa_fields.specs.MapKeys.{keys_by}
 use Rattle.buffa_fields.proofs.InsideTookLemmas.{pairs_took}
 use Rattle.buffa_fields.specs.Told.{told}
-use Rattle.buffa_fields.specs.ToldFacts.{blank_is, each_is}
+use Rattle.buffa_fields.specs.facts.ToldFacts.{blank_is, each_is}
 use Rattle.buffa_fields.proofs.inside_maps.take_map.Goals as goal
 
 pub returns : goal.returns

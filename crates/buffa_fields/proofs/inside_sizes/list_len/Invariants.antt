@@ -1,7 +1,7 @@
 use Rattle.std.proofs.Common.{take}
 use Rattle.buffa_wire.specs.Passes.{IsSized}
 use Rattle.buffa_wire.specs.Encoding.{records_encoding}
-use Rattle.buffa_fields.specs.LayoutFacts.{sum}
+use Rattle.buffa_fields.specs.facts.LayoutFacts.{sum}
 use Rattle.buffa_fields.specs.Told.{told}
 use Rattle.buffa_fields.specs.Words.{list_shape}
 use Rattle.buffa_fields.proofs.inside_sizes.list_len.Given as goal

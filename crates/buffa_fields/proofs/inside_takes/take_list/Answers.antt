@@ -1,6 +1,6 @@
 use Rattle.buffa_fields.proofs.InsideTookLemmas.{list_took}
 use Rattle.buffa_fields.specs.Told.{told}
-use Rattle.buffa_fields.specs.ToldFacts.{each_is}
+use Rattle.buffa_fields.specs.facts.ToldFacts.{each_is}
 use Rattle.buffa_fields.proofs.inside_takes.take_list.Goals as goal
 
 pub returns : goal.returns

@@ -1,6 +1,6 @@
 use Rattle.std.proofs.lemmas.Result.{err_from_is_err_and}
 use Rattle.buffa_wire.specs.Records.{bytes}
-use Rattle.buffa_fields.specs.RepeatedNestedFacts.{written_no}
+use Rattle.buffa_fields.specs.facts.RepeatedNestedFacts.{written_no}
 use Rattle.buffa_fields.proofs.InsideListLemmas.{next_of, write_on, write_stops}
 use Rattle.buffa_fields.specs.Told.{told}
 use Rattle.buffa_fields.specs.Words.{encoding_by}

@@ -5,7 +5,7 @@ use Rattle.std.proofs.lemmas.Result.{err_from_is_err_and}
 use Rattle.buffa_bytes.proofs.SequenceLemmas.{err_same}
 use Rattle.buffa_wire.specs.View.{datum_of}
 use Rattle.buffa_fields.specs.Layout.{IsFieldKept}
-use Rattle.buffa_fields.specs.KeepFacts.{keep_asks, keep_asks_put, keep_err_as, keep_full, keep_ok, keep_refused, takes_no_end}
+use Rattle.buffa_fields.specs.facts.KeepFacts.{keep_asks, keep_asks_put, keep_err_as, keep_full, keep_ok, keep_refused, takes_no_end}
 use Rattle.buffa_fields.proofs.kept.keep.Goals as goal
 
 still : {A : Type 0} (r : Result (Unit {0}) DecodeError) (a : A) → MatchResult r (λ _. Unit {0}) (λ _. a ≡ a)

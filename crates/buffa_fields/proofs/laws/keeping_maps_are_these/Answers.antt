@@ -1,7 +1,7 @@
 use Rattle.std.proofs.Common.{◌+◌}
 use Rattle.buffa_map.specs.Pairs.{put}
 use Rattle.buffa_fields.proofs.KeptLawLemmas.{pair_cost_each}
-use Rattle.buffa_fields.specs.EntriesFacts.{read_entry}
+use Rattle.buffa_fields.specs.facts.EntriesFacts.{read_entry}
 use Rattle.buffa_fields.specs.KeptMaps.{put_or_keep}
 use Rattle.buffa_fields.proofs.laws.keeping_maps_are_these.Goals as goal
 

@@ -1,6 +1,6 @@
 use Rattle.buffa_wire.specs.Enums.{numbers}
 use Rattle.buffa_fields.proofs.KeptLawLemmas.{number_cost_each}
-use Rattle.buffa_fields.specs.KeptNumberFacts.{number_taken}
+use Rattle.buffa_fields.specs.facts.KeptNumberFacts.{number_taken}
 use Rattle.buffa_fields.proofs.laws.keeping_optional_members_are_these.Goals as goal
 
 pub returns-clause-number : goal.returns-clause-number

@@ -1,4 +1,4 @@
-use Rattle.buffa_fields.specs.KeepFacts.{asks_kept, kept_asks_for, kept_costs, kept_record}
+use Rattle.buffa_fields.specs.facts.KeepFacts.{asks_kept, kept_asks_for, kept_costs, kept_record}
 use Rattle.buffa_wire.proofs.KeepLemmas.{limit_told}
 use Rattle.buffa_fields.proofs.laws.kept_fields_are_these.Goals as goal
 

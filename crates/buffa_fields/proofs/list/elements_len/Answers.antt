@@ -1,6 +1,6 @@
 use Rattle.std.proofs.Common.{arith}
 use Rattle.buffa_wire.proofs.ByValueLemmas.{length_more}
-use Rattle.buffa_fields.specs.ListFacts.{count_none, elements_by_value}
+use Rattle.buffa_fields.specs.facts.ListFacts.{count_none, elements_by_value}
 use Rattle.buffa_fields.proofs.list.elements_len.Goals as goal
 
 pub loop-value-init : goal.loop-value-init

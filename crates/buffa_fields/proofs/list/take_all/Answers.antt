@@ -2,7 +2,7 @@ use Rattle.std.proofs.Common.{◌≡◌, ◌∙◌, ◌⊎◌, inl, inr, IsOk, �
 use Rattle.std.proofs.lemmas.Result.{err_from_is_err_and}
 use Rattle.buffa_bytes.specs.Content.{content_at}
 use Rattle.buffa_bytes.specs.declared.wire_type.WireType.{WireType}
-use Rattle.buffa_fields.specs.ListFacts.{element_falls}
+use Rattle.buffa_fields.specs.facts.ListFacts.{element_falls}
 use Rattle.buffa_fields.proofs.ListLemmas.{element_there, elements_done, elements_err, none_read, one_read, read_means, read_stops}
 use Rattle.buffa_fields.proofs.list.take_all.Goals as goal
 

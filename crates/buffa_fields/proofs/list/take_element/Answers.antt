@@ -1,6 +1,6 @@
 use Rattle.std.proofs.Common.{◌∙◌, map, sym}
 use Rattle.std.proofs.lemmas.Result.{err_from_is_err_and}
-use Rattle.buffa_fields.specs.ListFacts.{content_there, element_pushed}
+use Rattle.buffa_fields.specs.facts.ListFacts.{content_there, element_pushed}
 use Rattle.buffa_fields.proofs.ListLemmas.{element_from_err}
 use Rattle.buffa_fields.proofs.ValueLemmas.{refused_plain}
 use Rattle.buffa_fields.proofs.list.take_element.Goals as goal

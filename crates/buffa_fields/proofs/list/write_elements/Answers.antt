@@ -1,6 +1,6 @@
 use Rattle.std.proofs.lemmas.Result.{err_from_is_err_and}
 use Rattle.buffa_wire.proofs.ByValueLemmas.{write_more, write_stops}
-use Rattle.buffa_fields.specs.ListFacts.{elements_by_value, encoding_none}
+use Rattle.buffa_fields.specs.facts.ListFacts.{elements_by_value, encoding_none}
 use Rattle.buffa_fields.proofs.list.write_elements.Goals as goal
 
 pub loop-value-init : goal.loop-value-init

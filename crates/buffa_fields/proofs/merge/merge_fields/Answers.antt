@@ -3,7 +3,7 @@ use Rattle.std.proofs.lemmas.Result.{err_from_is_err_and}
 use Rattle.buffa_bytes.proofs.FullLemmas.{tag_no_full}
 use Rattle.buffa_wire.proofs.MergeLoopLemmas.{begins, ended, goes_on, no_tag, reached, refused_next, shorter, stands_refused, stands_untagged, tail}
 use Rattle.buffa_fields.proofs.StandsLemmas.{asked, by_members}
-use Rattle.buffa_fields.specs.LayoutFacts.{full_of, merges, refused_of}
+use Rattle.buffa_fields.specs.facts.LayoutFacts.{full_of, merges, refused_of}
 use Rattle.buffa_fields.specs.Stands.{IsMemberRefused}
 use Rattle.buffa_fields.proofs.merge.merge_fields.Goals as goal
 

@@ -1,4 +1,4 @@
-use Rattle.buffa_fields.specs.LayoutFacts.{full_of, merges, refused_of}
+use Rattle.buffa_fields.specs.facts.LayoutFacts.{full_of, merges, refused_of}
 use Rattle.buffa_fields.proofs.message.merge.Goals as goal
 
 pub returns : goal.returns

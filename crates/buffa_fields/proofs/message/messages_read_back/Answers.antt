@@ -1,6 +1,6 @@
 use Rattle.std.proofs.Common.{◌∙◌, ap}
 use Rattle.buffa_wire.specs.Encoding.{records_encoding}
-use Rattle.buffa_fields.specs.LayoutFacts.{reads_back}
+use Rattle.buffa_fields.specs.facts.LayoutFacts.{reads_back}
 use Rattle.buffa_wire.specs.Takes.{merged_of}
 use Rattle.buffa_fields.proofs.message.messages_read_back.Goals as goal
 

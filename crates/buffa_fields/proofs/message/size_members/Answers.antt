@@ -1,6 +1,6 @@
 use Rattle.std.proofs.Common.{[], subst, sym}
 use Rattle.buffa_fields.specs.Layout.{IsCounted}
-use Rattle.buffa_fields.specs.LayoutFacts.{counts_none, sizes, start}
+use Rattle.buffa_fields.specs.facts.LayoutFacts.{counts_none, sizes, start}
 use Rattle.buffa_fields.proofs.message.size_members.Goals as goal
 
 pub returns : goal.returns

@@ -1,6 +1,6 @@
 use Rattle.std.proofs.Common.{subst, sym}
 use Rattle.buffa_fields.specs.Layout.{Follow, IsPut}
-use Rattle.buffa_fields.specs.LayoutFacts.{follows, puts, puts_none, start}
+use Rattle.buffa_fields.specs.facts.LayoutFacts.{follows, puts, puts_none, start}
 use Rattle.buffa_fields.proofs.message.write_members.Goals as goal
 
 pub visit-requires : goal.visit-requires

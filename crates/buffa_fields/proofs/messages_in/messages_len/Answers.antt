@@ -1,6 +1,6 @@
 use Rattle.std.proofs.lemmas.Result.{err_from_is_err_and}
 use Rattle.buffa_fields.specs.Framing.{datum_of_value}
-use Rattle.buffa_fields.specs.RepeatedNestedFacts.{messages_have_slots, size_on, size_stops, sized_none}
+use Rattle.buffa_fields.specs.facts.RepeatedNestedFacts.{messages_have_slots, size_on, size_stops, sized_none}
 use Rattle.buffa_fields.proofs.messages_in.messages_len.Goals as goal
 
 pub loop-message-init : goal.loop-message-init

@@ -2,7 +2,7 @@ use Rattle.std.proofs.Common.{map, take}
 use Rattle.buffa_wire.specs.Passes.{IsSized}
 use Rattle.buffa_wire.specs.Encoding.{records_encoding}
 use Rattle.buffa_fields.specs.Framing.{datum_of_value}
-use Rattle.buffa_fields.specs.LayoutFacts.{sum}
+use Rattle.buffa_fields.specs.facts.LayoutFacts.{sum}
 use Rattle.buffa_fields.specs.Lists.{element_records}
 use Rattle.buffa_fields.specs.RepeatedNested.{messages_slots}
 use Rattle.buffa_fields.proofs.messages_in.messages_len.Given as goal

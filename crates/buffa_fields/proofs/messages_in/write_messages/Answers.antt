@@ -1,6 +1,6 @@
 use Rattle.std.proofs.lemmas.Result.{err_from_is_err_and}
 use Rattle.buffa_fields.specs.Framing.{datum_of_value}
-use Rattle.buffa_fields.specs.RepeatedNestedFacts.{next_of, write_on, write_stops, written_no}
+use Rattle.buffa_fields.specs.facts.RepeatedNestedFacts.{next_of, write_on, write_stops, written_no}
 use Rattle.buffa_fields.proofs.messages_in.write_messages.Goals as goal
 
 pub loop-message-init : goal.loop-message-init

@@ -1,6 +1,6 @@
 use Rattle.std.proofs.Common.{refl}
 use Rattle.std.proofs.lemmas.Bool.{eq-eqb}
-use Rattle.buffa_fields.specs.CasesFacts.{put_this}
+use Rattle.buffa_fields.specs.facts.CasesFacts.{put_this}
 use Rattle.buffa_fields.specs.Nested.{message_merged}
 use Rattle.buffa_fields.proofs.one_of_laws.messages_are_merged_into_their_case.Goals as goal
 

@@ -1,5 +1,5 @@
 use Rattle.std.proofs.Common.{ap, not, refl}
-use Rattle.buffa_fields.specs.BlankFacts.{is_nought, is_zero, nought_only, same_false_only, zero_only}
+use Rattle.buffa_fields.specs.facts.BlankFacts.{is_nought, is_zero, nought_only, same_false_only, zero_only}
 use Rattle.buffa_fields.proofs.proto_type_laws.numbers_are_these.Goals as goal
 
 pub returns-clause-int32 : goal.returns-clause-int32

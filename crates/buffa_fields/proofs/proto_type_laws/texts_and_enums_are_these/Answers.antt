@@ -1,5 +1,5 @@
 use Rattle.std.proofs.Common.{ap, refl}
-use Rattle.buffa_fields.specs.BlankFacts.{is_none, is_zero, none_only, zero_only}
+use Rattle.buffa_fields.specs.facts.BlankFacts.{is_none, is_zero, none_only, zero_only}
 use Rattle.buffa_fields.proofs.proto_type_laws.texts_and_enums_are_these.Goals as goal
 
 pub returns-clause-string : goal.returns-clause-string

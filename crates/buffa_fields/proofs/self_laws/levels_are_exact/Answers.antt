@@ -1,4 +1,4 @@
-use Rattle.buffa_fields.specs.ExactFacts.{told_exact}
+use Rattle.buffa_fields.specs.facts.ExactFacts.{told_exact}
 use Rattle.buffa_fields.proofs.self_laws.levels_are_exact.Goals as goal
 
 pub returns : goal.returns

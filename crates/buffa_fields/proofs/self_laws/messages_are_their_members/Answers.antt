@@ -1,4 +1,4 @@
-use Rattle.buffa_fields.specs.ToldFacts.{is_normal, levels_are, normal_is, records_are, slots_are}
+use Rattle.buffa_fields.specs.facts.ToldFacts.{is_normal, levels_are, normal_is, records_are, slots_are}
 use Rattle.buffa_fields.proofs.self_laws.messages_are_their_members.Goals as goal
 
 pub returns : goal.returns

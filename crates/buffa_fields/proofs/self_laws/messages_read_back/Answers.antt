@@ -1,5 +1,5 @@
 use Rattle.buffa_fields.specs.Told.{told}
-use Rattle.buffa_fields.specs.ToldFacts.{is_normal}
+use Rattle.buffa_fields.specs.facts.ToldFacts.{is_normal}
 use Rattle.buffa_fields.proofs.self_laws.messages_read_back.Goals as goal
 
 pub returns : goal.returns

@@ -1,9 +1,9 @@
 use Rattle.std.proofs.Common.{subst, sym}
 use Rattle.buffa_fields.specs.Layout.{Follow, IsPut}
-use Rattle.buffa_fields.specs.LayoutFacts.{follows, puts_none, start, was_put}
-use Rattle.buffa_fields.specs.MeantFacts.{seen_as}
+use Rattle.buffa_fields.specs.facts.LayoutFacts.{follows, puts_none, start, was_put}
+use Rattle.buffa_fields.specs.facts.MeantFacts.{seen_as}
 use Rattle.buffa_fields.specs.OneOfParts.{case_records, case_slots}
-use Rattle.buffa_fields.specs.VisitFacts.{comes_all}
+use Rattle.buffa_fields.specs.facts.VisitFacts.{comes_all}
 use Rattle.buffa_fields.proofs.self_one_of.put_case.Goals as goal
 
 pub visit_one_of-requires : goal.visit_one_of-requires

@@ -1,7 +1,7 @@
 use Rattle.std.proofs.Common.{[], subst, sym}
 use Rattle.buffa_fields.specs.Layout.{IsCounted}
-use Rattle.buffa_fields.specs.LayoutFacts.{counts_none, start, was_counted}
-use Rattle.buffa_fields.specs.MeantFacts.{seen_as}
+use Rattle.buffa_fields.specs.facts.LayoutFacts.{counts_none, start, was_counted}
+use Rattle.buffa_fields.specs.facts.MeantFacts.{seen_as}
 use Rattle.buffa_fields.specs.OneOfParts.{case_records, case_slots}
 use Rattle.buffa_fields.proofs.self_one_of.size_case.Goals as goal
 

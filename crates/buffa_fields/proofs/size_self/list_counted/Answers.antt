@@ -2,9 +2,9 @@ use Rattle.std.proofs.Common.{ap, subst, ◌∙◌}
 use Rattle.std.proofs.lemmas.Result.{err_from_is_err_and}
 use Rattle.buffa_wire.specs.Encoding.{records_encoding}
 use Rattle.buffa_wire.specs.Passes.{IsSized}
-use Rattle.buffa_fields.specs.LayoutFacts.{failed, sum}
+use Rattle.buffa_fields.specs.facts.LayoutFacts.{failed, sum}
 use Rattle.buffa_fields.specs.Told.{told}
-use Rattle.buffa_fields.specs.VisitFacts.{other_counted, other_failed}
+use Rattle.buffa_fields.specs.facts.VisitFacts.{other_counted, other_failed}
 use Rattle.buffa_fields.specs.Words.{list_shape}
 use Rattle.buffa_fields.proofs.size_self.list_counted.Goals as goal
 

@@ -1,7 +1,7 @@
 use Rattle.std.proofs.lemmas.Result.{err_from_is_err_and}
 use Rattle.std.specs.Option.{option_map}
 use Rattle.buffa_fields.specs.Told.{told}
-use Rattle.buffa_fields.specs.VisitFacts.{other_counted, other_failed}
+use Rattle.buffa_fields.specs.facts.VisitFacts.{other_counted, other_failed}
 use Rattle.buffa_fields.specs.Words.{child_shape}
 use Rattle.buffa_fields.proofs.size_self.one_counted.Goals as goal
 

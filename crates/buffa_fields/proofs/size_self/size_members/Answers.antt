@@ -1,6 +1,6 @@
 use Rattle.std.proofs.Common.{[], subst, sym}
 use Rattle.buffa_fields.specs.Layout.{IsCounted}
-use Rattle.buffa_fields.specs.LayoutFacts.{counts_none, start}
+use Rattle.buffa_fields.specs.facts.LayoutFacts.{counts_none, start}
 use Rattle.buffa_fields.proofs.InsidePassLemmas.{self_sized}
 use Rattle.buffa_fields.proofs.size_self.size_members.Goals as goal
 

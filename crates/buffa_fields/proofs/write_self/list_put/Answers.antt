@@ -2,7 +2,7 @@ use Rattle.std.proofs.Common.{subst, sym}
 use Rattle.buffa_wire.specs.Encoding.{records_encoding}
 use Rattle.buffa_wire.specs.Passes.{IsNext, IsWritten}
 use Rattle.buffa_fields.specs.Told.{told}
-use Rattle.buffa_fields.specs.VisitFacts.{other_next, other_put, other_rest}
+use Rattle.buffa_fields.specs.facts.VisitFacts.{other_next, other_put, other_rest}
 use Rattle.buffa_fields.specs.Words.{list_shape}
 use Rattle.buffa_fields.proofs.write_self.list_put.Goals as goal
 

@@ -1,6 +1,6 @@
 use Rattle.std.specs.Option.{option_map}
 use Rattle.buffa_fields.specs.Told.{told}
-use Rattle.buffa_fields.specs.VisitFacts.{other_next, other_put, other_rest}
+use Rattle.buffa_fields.specs.facts.VisitFacts.{other_next, other_put, other_rest}
 use Rattle.buffa_fields.specs.Words.{child_shape}
 use Rattle.buffa_fields.proofs.write_self.one_put.Goals as goal
 

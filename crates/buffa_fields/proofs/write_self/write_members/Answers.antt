@@ -1,10 +1,10 @@
 use Rattle.std.proofs.Common.{subst, sym}
 use Rattle.buffa_wire.specs.Passes.{IsNext}
 use Rattle.buffa_fields.specs.Layout.{Follow, IsPut}
-use Rattle.buffa_fields.specs.LayoutFacts.{follows, puts_none, start}
+use Rattle.buffa_fields.specs.facts.LayoutFacts.{follows, puts_none, start}
 use Rattle.buffa_fields.proofs.InsidePassLemmas.{self_put}
 use Rattle.buffa_fields.specs.Told.{told_layout}
-use Rattle.buffa_fields.specs.ToldFacts.{slots_are}
+use Rattle.buffa_fields.specs.facts.ToldFacts.{slots_are}
 use Rattle.buffa_fields.proofs.write_self.write_members.Goals as goal
 
 pub visit-requires-clause-waits : goal.visit-requires-clause-waits

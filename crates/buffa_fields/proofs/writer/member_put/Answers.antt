@@ -1,6 +1,6 @@
 use Rattle.std.proofs.Common.{IsOk, refl, subst, sym}
 use Rattle.buffa_wire.specs.Encoding.{records_encoding}
-use Rattle.buffa_fields.specs.LayoutFacts.{came, follow_on}
+use Rattle.buffa_fields.specs.facts.LayoutFacts.{came, follow_on}
 use Rattle.buffa_fields.proofs.writer.member_put.Goals as goal
 
 pub write_to-requires-clause-next : goal.write_to-requires-clause-next

@@ -1,5 +1,5 @@
 use Rattle.std.proofs.Common.{◌∙◌, sym}
-use Rattle.buffa_fields.specs.ToldFacts.{blank_is}
+use Rattle.buffa_fields.specs.facts.ToldFacts.{blank_is}
 use Rattle.buffa_fields.proofs.merge_self.MergerBySelfMerger.blank.Goals as goal
 
 pub returns : goal.returns

@@ -1,6 +1,6 @@
 use Rattle.std.proofs.Common.{ap}
 use Rattle.std.specs.Option.{option_map}
-use Rattle.buffa_fields.specs.LayoutFacts.{unwritten}
+use Rattle.buffa_fields.specs.facts.LayoutFacts.{unwritten}
 use Rattle.buffa_fields.specs.MemberRecords.{optional_records}
 use Rattle.buffa_fields.proofs.optional.OptionalMember.write_to.Goals as goal
 

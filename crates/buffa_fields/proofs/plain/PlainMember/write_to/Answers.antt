@@ -1,5 +1,5 @@
 use Rattle.std.proofs.Common.{◌∙◌, ◌∷◌, [], ap, sym}
-use Rattle.buffa_fields.specs.LayoutFacts.{unwritten}
+use Rattle.buffa_fields.specs.facts.LayoutFacts.{unwritten}
 use Rattle.buffa_fields.specs.MemberRecords.{plain_records}
 use Rattle.buffa_fields.specs.Values.{records_unless}
 use Rattle.buffa_fields.proofs.plain.PlainMember.write_to.Goals as goal

@@ -1,5 +1,5 @@
 use Rattle.std.proofs.Common.{sym, ◌∙◌}
-use Rattle.buffa_fields.specs.MapKeyFacts.{codec_reads_back}
+use Rattle.buffa_fields.specs.facts.MapKeyFacts.{codec_reads_back}
 use Rattle.buffa_fields.proofs.self_laws.NothingSelfVisitor.visit_map.Goals as goal
 
 pub returns-clause-back : goal.returns-clause-back

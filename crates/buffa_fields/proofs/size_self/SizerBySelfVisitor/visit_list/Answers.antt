@@ -2,7 +2,7 @@ use Rattle.std.proofs.Common.{subst, sym}
 use Rattle.buffa_fields.specs.Layout.{IsCounted, visited}
 use Rattle.buffa_fields.specs.Laying.{children_shape}
 use Rattle.buffa_fields.specs.Told.{told}
-use Rattle.buffa_fields.specs.VisitFacts.{other_uncounted}
+use Rattle.buffa_fields.specs.facts.VisitFacts.{other_uncounted}
 use Rattle.buffa_fields.specs.Words.{list_shape}
 use Rattle.buffa_fields.proofs.size_self.SizerBySelfVisitor.visit_list.Goals as goal
 

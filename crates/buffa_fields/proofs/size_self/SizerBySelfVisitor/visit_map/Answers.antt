@@ -1,12 +1,12 @@
 use Rattle.std.proofs.Common.{subst, sym, ◌∙◌}
 use Rattle.buffa_map.specs.Pairs.{means}
 use Rattle.buffa_fields.specs.MapKeys.{keys_by}
-use Rattle.buffa_fields.specs.MapKeyFacts.{codec_reads_back}
+use Rattle.buffa_fields.specs.facts.MapKeyFacts.{codec_reads_back}
 use Rattle.buffa_fields.specs.Layout.{IsCounted, visited}
 use Rattle.buffa_fields.specs.Laying.{map_shape}
 use Rattle.buffa_fields.specs.PairShapes.{pairs_shape}
 use Rattle.buffa_fields.specs.Told.{told}
-use Rattle.buffa_fields.specs.VisitFacts.{other_uncounted}
+use Rattle.buffa_fields.specs.facts.VisitFacts.{other_uncounted}
 use Rattle.buffa_fields.proofs.size_self.SizerBySelfVisitor.visit_map.Goals as goal
 
 pub returns-in_default-clause-seen : goal.returns-in_default-clause-seen

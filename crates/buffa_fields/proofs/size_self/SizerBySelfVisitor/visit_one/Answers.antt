@@ -3,7 +3,7 @@ use Rattle.std.specs.Option.{option_map}
 use Rattle.buffa_fields.specs.Layout.{IsCounted, visited}
 use Rattle.buffa_fields.specs.Laying.{maybe_shape}
 use Rattle.buffa_fields.specs.Told.{told}
-use Rattle.buffa_fields.specs.VisitFacts.{other_uncounted}
+use Rattle.buffa_fields.specs.facts.VisitFacts.{other_uncounted}
 use Rattle.buffa_fields.specs.Words.{child_shape}
 use Rattle.buffa_fields.proofs.size_self.SizerBySelfVisitor.visit_one.Goals as goal
 

@@ -1,6 +1,6 @@
 use Rattle.std.proofs.Common.{subst}
 use Rattle.buffa_fields.specs.Layout.{IsCounted}
-use Rattle.buffa_fields.specs.MeantFacts.{meant_seen}
+use Rattle.buffa_fields.specs.facts.MeantFacts.{meant_seen}
 use Rattle.buffa_fields.proofs.size_self.SizerBySelfVisitor.visit_one_of.Goals as goal
 
 pub returns-clause-seen : goal.returns-clause-seen

@@ -1,5 +1,5 @@
 use Rattle.buffa_fields.specs.Layout.{Follow}
-use Rattle.buffa_fields.specs.VisitFacts.{comes_to}
+use Rattle.buffa_fields.specs.facts.VisitFacts.{comes_to}
 use Rattle.buffa_fields.proofs.write_self.WriterBySelfVisitor.visit.Goals as goal
 
 pub member_put-self-requires-clause-comes : goal.member_put-self-requires-clause-comes

@@ -1,9 +1,9 @@
 use Rattle.std.proofs.Common.{IsOk, refl, subst, sym}
 use Rattle.buffa_fields.specs.Layout.{Follow, IsPut, visited}
-use Rattle.buffa_fields.specs.LayoutFacts.{came, follow_none}
+use Rattle.buffa_fields.specs.facts.LayoutFacts.{came, follow_none}
 use Rattle.buffa_fields.specs.Laying.{children_shape}
 use Rattle.buffa_fields.specs.Told.{told}
-use Rattle.buffa_fields.specs.VisitFacts.{other_unput}
+use Rattle.buffa_fields.specs.facts.VisitFacts.{other_unput}
 use Rattle.buffa_fields.specs.Words.{list_shape}
 use Rattle.buffa_fields.proofs.write_self.WriterBySelfVisitor.visit_list.Goals as goal
 

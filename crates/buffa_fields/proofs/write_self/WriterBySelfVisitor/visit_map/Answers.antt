@@ -1,13 +1,13 @@
 use Rattle.std.proofs.Common.{IsOk, refl, subst, sym, ◌∙◌}
 use Rattle.buffa_map.specs.Pairs.{means}
 use Rattle.buffa_fields.specs.MapKeys.{keys_by}
-use Rattle.buffa_fields.specs.MapKeyFacts.{codec_reads_back}
+use Rattle.buffa_fields.specs.facts.MapKeyFacts.{codec_reads_back}
 use Rattle.buffa_fields.specs.Layout.{Follow, IsPut, visited}
-use Rattle.buffa_fields.specs.LayoutFacts.{came, follow_none}
+use Rattle.buffa_fields.specs.facts.LayoutFacts.{came, follow_none}
 use Rattle.buffa_fields.specs.Laying.{map_shape}
 use Rattle.buffa_fields.specs.PairShapes.{pairs_shape}
 use Rattle.buffa_fields.specs.Told.{told}
-use Rattle.buffa_fields.specs.VisitFacts.{other_unput}
+use Rattle.buffa_fields.specs.facts.VisitFacts.{other_unput}
 use Rattle.buffa_fields.proofs.write_self.WriterBySelfVisitor.visit_map.Goals as goal
 
 pub map_put-self-requires-clause-next : goal.map_put-self-requires-clause-next

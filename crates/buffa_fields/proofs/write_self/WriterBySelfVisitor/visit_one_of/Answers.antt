@@ -1,8 +1,8 @@
 use Rattle.std.proofs.Common.{subst}
 use Rattle.buffa_fields.specs.Layout.{Follow, IsPut}
-use Rattle.buffa_fields.specs.MeantFacts.{meant_seen}
+use Rattle.buffa_fields.specs.facts.MeantFacts.{meant_seen}
 use Rattle.buffa_fields.specs.OneOfParts.{case_slots}
-use Rattle.buffa_fields.specs.VisitFacts.{comes_to}
+use Rattle.buffa_fields.specs.facts.VisitFacts.{comes_to}
 use Rattle.buffa_fields.proofs.write_self.WriterBySelfVisitor.visit_one_of.Goals as goal
 
 pub case_put-self-requires : goal.case_put-self-requires

@@ -1,6 +1,6 @@
 use Rattle.std.proofs.Common.{[], ◌∷◌, ◌++◌, arith}
 use Rattle.std.specs.Int.{cast_unsigned, w64}
-use Rattle.buffa_fields.specs.BlankFacts.{is_zero}
+use Rattle.buffa_fields.specs.facts.BlankFacts.{is_zero}
 use Rattle.buffa_fields.specs.MemberRecords.{plain_records}
 use Rattle.buffa_fields.specs.Values.{records_unless}
 use Rattle.buffa_wire.specs.Records.{varint}

@@ -1,7 +1,7 @@
 use Rattle.std.proofs.Common.{◌∙◌, refl, sym}
 use Rattle.buffa_fields.specs.Aside.{TookBeside}
 use Rattle.buffa_fields.specs.Layout.{Took}
-use Rattle.buffa_fields.specs.LayoutFacts.{chosen, not_chosen}
+use Rattle.buffa_fields.specs.facts.LayoutFacts.{chosen, not_chosen}
 use Rattle.sample_node.proofs.node.NodeSelfFields.take.Goals as goal
 
 pub returns-in-1-clause-taken : goal.returns-in-1-clause-taken

@@ -1,5 +1,0 @@
-use Rattle.buffa.proofs.MapWordLemmas.{entry_is}
-use Rattle.buffa.proofs.map_word_laws.entries_are_written_so.Goals as goal
-
-pub returns-clause-entry : goal.returns-clause-entry
-returns-clause-entry g c = λ p. entry_is g.KC.MapCodec.writing g.VC.MapCodec.writing p

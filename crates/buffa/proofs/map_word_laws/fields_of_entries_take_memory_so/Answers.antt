@@ -1,5 +1,0 @@
-use Rattle.buffa.proofs.MapWordLemmas.{memory_told}
-use Rattle.buffa.proofs.map_word_laws.fields_of_entries_take_memory_so.Goals as goal
-
-pub returns : goal.returns
-returns g c = λ d e f h. memory_told g.KC.MapValueDecode.reading g.VC.MapValueDecode.reading d e f h

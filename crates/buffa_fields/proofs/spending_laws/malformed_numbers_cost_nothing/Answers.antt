@@ -1,0 +1,11 @@
+use Rattle.buffa_wire.specs.Enums.{numbers}
+use Rattle.buffa_fields.proofs.SpendingLawLemmas.{no_numbers, refused_numbers}
+use Rattle.buffa_fields.proofs.spending_laws.malformed_numbers_cost_nothing.Goals as goal
+
+pub returns-clause-no_payload : goal.returns-clause-no_payload
+returns-clause-no_payload g c = λ d n w bs f h.
+    let none = no_numbers (numbers g.E.Enumeration.of_number g.E.Blank.blank_is) d n w bs f h in (none, none)
+
+pub returns-clause-refused : goal.returns-clause-refused
+returns-clause-refused g c = λ d n w p more v kept h is.
+    let none = refused_numbers (numbers g.E.Enumeration.of_number g.E.Blank.blank_is) d n w p more v kept h is in (none, none)
