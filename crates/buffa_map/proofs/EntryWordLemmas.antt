@@ -273,7 +273,7 @@ module _ {K V : Type 0} (r : Rules K V) where
     fields = λ old new bs e rest tail f h is.
         let same = ap (λ z. z.unknown) (inner bs e rest is) in
         (omega (arith, same, at_most_one r.keeps_undeclared, h.spent.least), λ ne. omega (arith, same, h.spent.no_unknown ne));
-    unspent = λ old new bs tail f g h is. (h.spent.unspent (not_there (delimited_at bs) g is), h.unread.past_no_delimited g is);
+    unspent = λ old new bs tail f g h is. (h.spent.unspent (not_there (delimited_at bs) g is), h.unread.nothing_there g is);
     behind = λ old new bs e rest tail f h is. let t = agree_ok (delimited_at bs) (e, rest) (delimited_sound bs) is in h.unread.within e rest (t.0, t.1, t.2);
     taken = λ old new bs tail h. entry_takes old.left bs OutOfMemory (h.memory refl);
   }

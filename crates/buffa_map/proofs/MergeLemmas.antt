@@ -37,7 +37,7 @@ module _ {K V : Type 0} (r : Rules K V) (pairs : List (K × V)) (records : List 
     records = refl;
     unread = record {
       within = near;
-      past_no_delimited = short;
+      nothing_there = short;
       tail = tail;
       past = λ ne e rest t. no_length r.key r.val r.depth bs f (h ne) e rest t;
     };
@@ -94,7 +94,7 @@ module _ {K V : Type 0} (r : Rules K V) (pairs : List (K × V)) (records : List 
             tail = delimited_tail bs e rest is;
             past = λ ne x after t. one_rest bs e rest x after is t;
             within = λ x after t. subst (λ z. IsTailOf z rest) (one_rest bs e rest x after is t) (tail_whole rest);
-            past_no_delimited = λ x no. absurd (ok_no_err (sym is ∙ no));
+            nothing_there = λ x no. absurd (ok_no_err (sym is ∙ no));
           };
           spent = record {
             units = parts_units over.memory h.units;
@@ -158,7 +158,7 @@ module _ {K V : Type 0} (r : Rules K V) (pairs : List (K × V)) (records : List 
               tail = delimited_tail bs e rest is;
               past = λ ne x after t. one_rest bs e rest x after is t;
               within = λ x after t. subst (λ z. IsTailOf z rest) (one_rest bs e rest x after is t) (tail_whole rest);
-              past_no_delimited = λ x no. absurd (ok_no_err (sym is ∙ no));
+              nothing_there = λ x no. absurd (ok_no_err (sym is ∙ no));
             };
             spent = record {
               units = inr (omega (arith, h.pays, unit), omega (arith, h.pays, unit, units));

@@ -175,7 +175,7 @@ module _ {K V : Type 0} (r : Rules K V)
   one_rest : (old : State K V) (bs : List ℕ) (a b : State K V) (x y : List ℕ) (f g : DecodeError) → RefusesEntry r old bs a x f → RefusesEntry r old bs b y g → f ≢ OutOfMemory → g ≢ OutOfMemory →
       (z : Result (List ℕ × List ℕ) DecodeError) → delimited_at bs ≡ z → x ≡ y
   one_rest old bs a b x y f g h k ne nf (Ok p) is = let t = agree_ok (delimited_at bs) p (delimited_sound bs) is in h.unread.past ne p.0 p.1 t ∙ sym (k.unread.past nf p.0 p.1 t)
-  one_rest old bs a b x y f g h k ne nf (Err z) is = h.unread.past_no_delimited z is ∙ sym (k.unread.past_no_delimited z is)
+  one_rest old bs a b x y f g h k ne nf (Err z) is = h.unread.nothing_there z is ∙ sym (k.unread.nothing_there z is)
 
   pub entry_is_pinned : EntryIsPinned r
   entry_is_pinned = record {
@@ -239,7 +239,7 @@ module _ {K V : Type 0} (r : Rules K V)
     one_unread (inr (inr (inr (m, t, inl bad)))) =
         let is = tag_read h.rest m r.number LengthDelimited t in
         let short = delimited_faulty m f bad in
-        h_leaves.past_no_delimited m f is short ∙ sym (k_leaves.past_no_delimited m f (ap tag_at (sym stopped_same.1) ∙ is) short)
+        h_leaves.nothing_there m f is short ∙ sym (k_leaves.nothing_there m f (ap tag_at (sym stopped_same.1) ∙ is) short)
     one_unread (inr (inr (inr (m, t, inr (u, e, after, v, split, bad))))) =
         let is = tag_read h.rest m r.number LengthDelimited t in
         h_leaves.past ne m e after is (u, v, split) ∙ sym (k_leaves.past nf m e after (ap tag_at (sym stopped_same.1) ∙ is) (u, v, split))

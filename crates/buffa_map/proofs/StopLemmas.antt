@@ -36,7 +36,7 @@ pub record LeavesRecord (n : ℕ) (bytes : List ℕ) (f : DecodeError) (unread :
   pub past_no_tag : (x : DecodeError) → tag_at bytes ≡ Err x → unread ≡ past_no_tag bytes
   pub past_tag : (g : ℕ) (w : WireType) (mid : List ℕ) → tag_at bytes ≡ Ok (g, w, mid) → (g ≢ n) ⊎ (w ≢ LengthDelimited) → unread ≡ mid
   pub past : f ≢ OutOfMemory → (mid e after : List ℕ) → tag_at bytes ≡ Ok (n, LengthDelimited, mid) → TakesDelimited mid e after → unread ≡ after
-  pub past_no_delimited : (mid : List ℕ) (x : DecodeError) → tag_at bytes ≡ Ok (n, LengthDelimited, mid) → delimited_at mid ≡ Err x → unread ≡ past_no_delimited mid
+  pub nothing_there : (mid : List ℕ) (x : DecodeError) → tag_at bytes ≡ Ok (n, LengthDelimited, mid) → delimited_at mid ≡ Err x → unread ≡ past_no_delimited mid
 
 -- What a refused record spends of a budget: what its entry does, and nothing where no record of the number was there.
 pub record SpendsOnRecord {K V : Type 0} (r : Rules K V) (left : BudgetLeft) (bytes : List ℕ) (f : DecodeError) (left_after : BudgetLeft) : Type 0 where
@@ -60,14 +60,14 @@ tag_leaves n rest tail f (inl (is, left)) = record {
   past_no_tag = λ x no. left;
   past_tag = λ g w mid k other. absurd (no_tag rest f is g w mid k);
   past = λ ne mid e after k t. absurd (no_tag rest f is n LengthDelimited mid k);
-  past_no_delimited = λ mid x k no. absurd (no_tag rest f is n LengthDelimited mid k);
+  nothing_there = λ mid x k no. absurd (no_tag rest f is n LengthDelimited mid k);
 }
 tag_leaves n rest tail f (inr (g, w, tag, why)) = record {
   tail = tag_tail rest tail g w tag;
   past_no_tag = λ x no. absurd (ok_no_err (sym tag ∙ no));
   past_tag = λ h v m k other. one_after rest tail m g h w v tag k;
   past = λ ne mid e after k t. absurd (not_of_field n rest tail f (inr (g, w, tag, why)) mid k);
-  past_no_delimited = λ mid x k no. absurd (not_of_field n rest tail f (inr (g, w, tag, why)) mid k);
+  nothing_there = λ mid x k no. absurd (not_of_field n rest tail f (inr (g, w, tag, why)) mid k);
 }
 
 module _ {K V : Type 0} (r : Rules K V) (now new : State K V) (rest tail : List ℕ) (f : DecodeError) where
@@ -97,7 +97,7 @@ module _ {K V : Type 0} (r : Rules K V) (now new : State K V) (rest tail : List 
         past_no_tag = λ x no. absurd (ok_no_err (sym found ∙ no));
         past_tag = λ h v m is other. absurd (elim other [ inl n ↦ n (one_number rest m mid h r.number v LengthDelimited is found) | inr n ↦ n (one_wire rest m mid h r.number v LengthDelimited is found) ]);
         past = λ ne m e after is t. k.unread.past ne e after (subst (λ z. TakesDelimited z e after) (one m is) t);
-        past_no_delimited = λ m x is no. k.unread.past_no_delimited x (ap delimited_at (sym (one m is)) ∙ no) ∙ ap past_no_delimited (sym (one m is));
+        nothing_there = λ m x is no. k.unread.nothing_there x (ap delimited_at (sym (one m is)) ∙ no) ∙ ap past_no_delimited (sym (one m is));
       }
 
   spends_by : IsRefused → SpendsOnRecord r now.left rest f new.left

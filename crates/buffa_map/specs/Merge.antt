@@ -78,9 +78,10 @@ pub record MergesEntry {K V : Type 0} (r : Rules K V) (old : State K V) (bytes :
 abbrev pub HasUnknownLeft : {K V : Type 0} → Rules K V → BudgetLeft → List ℕ → Type 0
 HasUnknownLeft r left e = (r.keeps_undeclared ≡ true) × ((need_of r.key r.val r.depth r.cost e).unknown < left.unknown)
 
--- Where merging an entry takes memory, of which f is told: its length and so many bytes are there; these are copied,
--- if an entry may be undeclared and is kept then; or its units are left, and a field takes memory, or the whole entry is
--- put, or kept where an unknown field is left for it.
+-- Memory may run out while an entry is merged only where a length and so many bytes, the entry, are there, and then at one of
+-- these: the entry is copied before it is read, which it is if it has bytes and one that is undeclared would be kept; or its
+-- units are left, and a field of it takes memory, of which f is told, or it is whole, and is put into the map, or kept, for
+-- which an unknown field is left.
 abbrev pub EntryTakesMemory : {K V : Type 0} → Rules K V → BudgetLeft → List ℕ → DecodeError → Type 0
 EntryTakesMemory {K} {V} r left bs f =
     (e : List ℕ) × (rest : List ℕ) × (delimited_at bs ≡ Ok (e, rest))
@@ -88,25 +89,31 @@ EntryTakesMemory {K} {V} r left bs f =
     ⊎ ((r.cost ≤ left.memory) × (EntryFieldsTakeMemory r.key r.val r.depth e f
     ⊎ ((s : MapEntry K V) × IsEntry r.key r.val r.depth e s × ((s.known ≡ true) ⊎ HasUnknownLeft r left e)))))
 
--- What a refused entry leaves unread: a tail of what was. It is what follows the entry, where that was there and had a
--- fault; and what follows its length, or no length, where it wasn't there.
+-- what a refused entry leaves unread
 pub record LeavesEntry (bytes : List ℕ) (f : DecodeError) (unread : List ℕ) : Type 0 where
+  -- always an end of the bytes
   pub tail : IsTailOf unread bytes
+  -- what follows the entry, where it was there and had a fault
   pub past : f ≢ OutOfMemory → (e rest : List ℕ) → TakesDelimited bytes e rest → unread ≡ rest
+  -- no less than what follows the entry, where it was there and memory ran out
   pub within : (e rest : List ℕ) → TakesDelimited bytes e rest → IsTailOf rest unread
-  pub past_no_delimited : (x : DecodeError) → delimited_at bytes ≡ Err x → unread ≡ past_no_delimited bytes
+  -- what follows the length, or what is none, where no length and so many bytes were there
+  pub nothing_there : (x : DecodeError) → delimited_at bytes ≡ Err x → unread ≡ past_no_delimited bytes
 
--- What a refused entry spends of a budget: at most its cost, the unknown field that keeping it takes and what the
--- messages in it cost. The cost is gone where the entry was there and had a fault; the unknown field is not, where f is
--- a fault; nothing is, where no length and so many bytes were there.
+-- what a refused entry spends of a budget
 pub record SpendsOnEntry {K V : Type 0} (r : Rules K V) (left : BudgetLeft) (bytes : List ℕ) (f : DecodeError) (left_after : BudgetLeft) : Type 0 where
+  -- of element memory nothing, or the entry's units and at most what the messages in it cost
   pub units : (left_after.memory ≡ left.memory)
       ⊎ ((left_after.memory + r.cost ≤ left.memory)
       × (left.memory ≤ left_after.memory + (r.cost + (inner_need r.key r.val r.depth bytes).memory)))
+  -- the units, where the entry was there, had them left, and had a fault
   pub charged : f ≢ OutOfMemory → (e rest : List ℕ) → TakesDelimited bytes e rest → r.cost ≤ left.memory → left_after.memory + r.cost ≤ left.memory
+  -- nothing, where no length and so many bytes were there
   pub unspent : (IsOk (delimited_at bytes) → ⊥) → left_after ≡ left
+  -- of the unknown fields left at most the one that keeps the entry, and what the messages in it cost
   pub most : left_after.unknown ≤ left.unknown
   pub least : left.unknown ≤ left_after.unknown + (unknown_cost r + (inner_need r.key r.val r.depth bytes).unknown)
+  -- and not the one that keeps it, where it had a fault
   pub no_unknown : f ≢ OutOfMemory → left.unknown ≤ left_after.unknown + (inner_need r.key r.val r.depth bytes).unknown
 
 -- The entry at the front was refused, and f is why: its first fault; or memory ran out, which it does only where merging
