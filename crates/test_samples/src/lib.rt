@@ -1,0 +1,19 @@
+//! What the samples do, run. No crate depends on this one.
+//!
+//! Expected values come from outside: from the protobuf encoding guide, or worked out by hand.
+#![tactic(auto)]
+
+#[cfg(test)]
+mod failure;
+#[cfg(test)]
+mod held;
+#[cfg(test)]
+mod outline;
+#[cfg(test)]
+mod palette;
+#[cfg(test)]
+mod payment;
+#[cfg(test)]
+mod settings;
+#[cfg(test)]
+mod stock;
