@@ -26,8 +26,8 @@ answer of its proof file is refused, since a right body may trip that as well: a
 answer. A law has no paths: name a law that speaks of what is changed in a clause without an answer.
 
 The crate as it stands is checked first, in its own folder, which leaves its work in out/; that costs little where out/
-holds the work of an earlier check. `today` and `gate` go without, for use behind `rt ci`, whose libraries they take, and
-check the edited functions alone. Needs python3 and `rt`. The last line is 'N passed, M failed'.
+holds the work of an earlier check. `today`, `gate` and --built go without, for use behind `rt ci`, whose libraries they
+take, and check the edited functions alone. Needs python3 and `rt`. The last line is 'N passed, M failed'.
 """
 import argparse
 import datetime
@@ -326,7 +326,7 @@ class Tries:
                 self.edits.append(it)
         begun = time.time()
         paths = [law_at(self.crate, it.name) for it in batch if it.is_wide]
-        if self.options.today and not any(it.target and it.target.cycle for it in batch):
+        if self.options.built and not any(it.target and it.target.cycle for it in batch):
             # no work is kept, so the edited functions alone are checked, where the checker knows them by these names
             paths = [path_of(it.target) if it.target else law_at(self.crate, it.name) for it in batch]
         report = Report(check(f"{room}/crates/{self.crate}", self.options, paths))
@@ -354,10 +354,10 @@ class Tries:
 def try_crate(crate, paths, options):
     """How many of the crate's edits passed, and what was said of those that failed."""
     tries = Tries(crate, paths, options)
-    if options.today or tries.is_proved():
+    if options.built or tries.is_proved():
         with tempfile.TemporaryDirectory(prefix="wrong-") as room:
             copy_to(room, crate, tries.edits)
-            if options.today:
+            if options.built:
                 take_libraries(room)
             while tries.edits:
                 tries.try_batch(room)
@@ -435,14 +435,16 @@ def main():
     words.add_argument("--rt", default="rt", help="the command in place of rt")
     words.add_argument("--edit", action="append", metavar="WORD", help="only the edits whose path has this word (may be repeated)")
     words.add_argument("--name", action="store_true", help="write the goal of each edit that is tried and names none")
+    words.add_argument("--built", action="store_true", help="try the edits that are chosen behind `rt ci`, as today does")
     words.add_argument("--keep", help="a folder in which what the checks say is kept")
     words.add_argument("--day", type=datetime.date.fromisoformat, default=datetime.date.today(), help="under today, another day, as 2026-11-27")
     options = words.parse_args()
     modes = {"look", "today", "gate"} & {*options.crate}
     crates = [it for it in options.crate if it not in modes and "gate" not in modes] or [it for it in listed() if paths_of(it)]
     options.today = options.day.toordinal() if "today" in modes else 0
+    options.built |= "today" in modes
     if "gate" in modes:
-        options.today = True
+        options.built = True
         counts = [gate(options.crate[-1], options)]
     elif "look" in modes:
         counts = [look(crates, options.lanes)]
