@@ -24,7 +24,7 @@ TOP = os.path.dirname(os.path.dirname(os.path.abspath(__file__)))
 WORD = re.compile(r"[A-Za-z_][A-Za-z_0-9]*")
 HEAD = re.compile(r"(?:pub(?:\([a-z]+\))? )?(?:unsafe )?(trait|impl)\b([^{]*)\{?")
 CALL = re.compile(r"(pub )?(?:pub\([a-z]+\) )?(?:final |const )*fn ([a-z_0-9]+)")
-CLAUSE = re.compile(r"(?:where )?(?:,\s*)?(requires|ensures)\*?(?: ([a-z_]+))? \{")
+CLAUSE = re.compile(r"(?:where )?(?:,\s*)?(requires|ensures)\*?(?: ([a-z_0-9]+))? \{")
 # Pages whose names in code have to be there.
 PAGES = ("docs/PROMISES.md", "docs/MAP.md", "docs/CONTRACTS.md", "docs/DEFINITIONS.md", "docs/DECISIONS.md")
 STEP = re.compile(r"(?:\d+\.|-) `(crates/[^`]+)`:(.*)")

@@ -122,17 +122,17 @@ module _ {K V : Type 0} (key : Writing K) (val : Writing V) where
         λ h. (h.0, h.1, h.2, h.3, h.4 ∙ ap (λ z. field_encoding key val n h.0 ++ z) (same_kept n (undeclared es))),
         λ h. (h.0, h.1, h.2, h.3, h.4 ∙ ap (λ z. field_encoding key val n h.0 ++ z) (sym (same_kept n (undeclared es)))),
       );
-      rewritten = λ left over bs rest old written new before after h. (h.entries, h.out, h.run, h.folded, h.rewrite, h.encoding, h.whole);
+      rewritten = λ left over bs rest old written new before after h. (h.read.entries, h.out, h.read.run, h.read.folded, h.rewrite, h.encoding, h.read.whole);
       not_decoded = λ left over bs unread old written new f h. (h.2, h.0, h.1);
-      not_encoded = λ left over bs rest old written new before e h. (refused_behind r.number h.entries old written h.walk e h.encoding, (h.entries, h.run, h.folded));
+      not_encoded = λ left over bs rest old written new before e h. (refused_behind r.number h.read.entries old written h.walk e h.encoding, (h.read.entries, h.read.run, h.read.folded));
       ordered = λ left over bs rest old written new before after h keeps.
-          (h.entries, h.run, h.encoding ∙ ap (λ z. old ++ z) (h.ordered keeps ∙ ap (λ z. field_encoding key val r.number (fold_entries r.same [] h.entries) ++ z) (same_kept r.number (undeclared h.entries))));
+          (h.read.entries, h.read.run, h.encoding ∙ ap (λ z. old ++ z) (h.ordered keeps ∙ ap (λ z. field_encoding key val r.number (fold_entries r.same [] h.read.entries) ++ z) (same_kept r.number (undeclared h.read.entries))));
       no_room = λ left over bs rest old written new before h.
-          let part = part_written r.number h.entries old written h.walk h.encoding in
-          (h.entries, h.walk, part.0, h.run, h.once, part.1, part.2, subst (λ z. before < length (field_encoding key val r.number h.walk ++ z)) (same_kept r.number (undeclared h.entries)) (h.room refl));
+          let part = part_written r.number h.read.entries old written h.walk h.encoding in
+          (h.read.entries, h.walk, part.0, h.read.run, h.once, part.1, part.2, subst (λ z. before < length (field_encoding key val r.number h.walk ++ z)) (same_kept r.number (undeclared h.read.entries)) (h.room refl));
       too_long = λ left over bs rest old written new before h.
           let part = h.encoding in
-          (h.entries, part.0, part.1, part.2, h.run, subst (λ z. ListsOnce r.same (fold_entries r.same [] h.entries) z) part.3 h.once, subst (λ z. 2 ^ 64 ≤ length z) (same_pair part.1) part.5, part.6);
+          (h.read.entries, part.0, part.1, part.2, h.read.run, subst (λ z. ListsOnce r.same (fold_entries r.same [] h.read.entries) z) part.3 h.once, subst (λ z. 2 ^ 64 ≤ length z) (same_pair part.1) part.5, part.6);
     }
 
 -- ---- fields of messages

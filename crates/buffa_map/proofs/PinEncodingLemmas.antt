@@ -122,15 +122,15 @@ module _ {K V : Type 0} (r : Rules K V) (laws : IsEquivalence r.same)
   one_rewrite : (m n : ℕ) (h : Rewritten m) (k : RewritesRun r key val KeyFits ValFits B left bytes b last y old w room n) →
       SamePairs r.same a b × (over ≡ last) × (x ≡ y) × (length v ≡ length w) × (h.rewrite.0 ≡ k.rewrite.0 → v ≡ w)
   one_rewrite m n h k =
-      let e = same_runs h.entries k.entries h.run k.run in
+      let e = same_runs h.read.entries k.read.entries h.read.run k.read.run in
       let t = length (tag_encoding r.number LengthDelimited) in
-      let size = one_size key val laws t (fold_entries r.same [] h.entries) h.rewrite.0 k.rewrite.0 h.rewrite.1 (once_more h.entries k.entries e k.rewrite.0 k.rewrite.1) in
+      let size = one_size key val laws t (fold_entries r.same [] h.read.entries) h.rewrite.0 k.rewrite.0 h.rewrite.1 (once_more h.read.entries k.read.entries e k.rewrite.0 k.rewrite.1) in
       let first = ap length (h.encoding ∙ ap (λ z. old ++ z) h.rewrite.4) in
       let second = ap length (k.encoding ∙ ap (λ z. old ++ z) k.rewrite.4) in
       let kept = ap (λ z. length (records_encoding (undeclared_records r.number z))) e in (
-        λ q. sym (h.folded q) ∙ ap (λ z. lookup_entry (r.same q) (fold_entries r.same [] z)) e ∙ k.folded q,
-        one_over r.key r.val r.depth r.number r.cost (unknown_cost r) key_free val_free left over last h.entries k.entries e h.paid k.paid,
-        h.whole ∙ sym k.whole,
+        λ q. sym (h.read.folded q) ∙ ap (λ z. lookup_entry (r.same q) (fold_entries r.same [] z)) e ∙ k.read.folded q,
+        one_over r.key r.val r.depth r.number r.cost (unknown_cost r) key_free val_free left over last h.read.entries k.read.entries e h.read.paid k.read.paid,
+        h.read.whole ∙ sym k.read.whole,
         omega (
           arith,
           first,
@@ -139,21 +139,21 @@ module _ {K V : Type 0} (r : Rules K V) (laws : IsEquivalence r.same)
           size,
           length-field_encoding key val r.number h.rewrite.0,
           length-field_encoding key val r.number k.rewrite.0,
-          length-append old (field_encoding key val r.number h.rewrite.0 ++ records_encoding (undeclared_records r.number h.entries)),
-          length-append old (field_encoding key val r.number k.rewrite.0 ++ records_encoding (undeclared_records r.number k.entries)),
-          length-append (field_encoding key val r.number h.rewrite.0) (records_encoding (undeclared_records r.number h.entries)),
-          length-append (field_encoding key val r.number k.rewrite.0) (records_encoding (undeclared_records r.number k.entries)),
+          length-append old (field_encoding key val r.number h.rewrite.0 ++ records_encoding (undeclared_records r.number h.read.entries)),
+          length-append old (field_encoding key val r.number k.rewrite.0 ++ records_encoding (undeclared_records r.number k.read.entries)),
+          length-append (field_encoding key val r.number h.rewrite.0) (records_encoding (undeclared_records r.number h.read.entries)),
+          length-append (field_encoding key val r.number k.rewrite.0) (records_encoding (undeclared_records r.number k.read.entries)),
         ),
-        λ same. h.encoding ∙ ap (λ z. old ++ z) (h.rewrite.4 ∙ ap (λ z. field_encoding key val r.number z ++ records_encoding (undeclared_records r.number h.entries)) same
+        λ same. h.encoding ∙ ap (λ z. old ++ z) (h.rewrite.4 ∙ ap (λ z. field_encoding key val r.number z ++ records_encoding (undeclared_records r.number h.read.entries)) same
             ∙ ap (λ z. field_encoding key val r.number k.rewrite.0 ++ records_encoding (undeclared_records r.number z)) e ∙ sym k.rewrite.4) ∙ sym k.encoding,
       )
 
-  written_no_refusal : (m : ℕ) (h : Rewritten m) (e : EncodeError) (k : RefusesEncoding r key val B left bytes b last y old w room e) → RefusesRewrite key val r.number (undeclared_records r.number k.entries) old w k.walk e → e ≢ OutOfMemory → ⊥
+  written_no_refusal : (m : ℕ) (h : Rewritten m) (e : EncodeError) (k : RefusesEncoding r key val B left bytes b last y old w room e) → RefusesRewrite key val r.number (undeclared_records r.number k.read.entries) old w k.walk e → e ≢ OutOfMemory → ⊥
   written_no_refusal m h OutOfMemory k encoding ne = ne refl
   written_no_refusal m h (GroupRefused e) k encoding ne = encoding
   written_no_refusal m h MessageTooLarge k (done, p, rest, is, has, long, whole) ne =
-      let e = same_runs h.entries k.entries h.run k.run in
-      let turned = permuted laws (fold_entries r.same [] h.entries) h.rewrite.0 k.walk h.rewrite.1 (once_more h.entries k.entries e k.walk k.once) in
+      let e = same_runs h.read.entries k.read.entries h.read.run k.read.run in
+      let turned = permuted laws (fold_entries r.same [] h.read.entries) h.rewrite.0 k.walk h.rewrite.1 (once_more h.read.entries k.read.entries e k.walk k.once) in
       no_long key val h.rewrite.0 k.walk done p rest h.rewrite.2 (all_short key val h.rewrite.0 h.rewrite.2) is (All-permutation (IsShort key val) h.rewrite.0 k.walk turned) long
 
   -- two refused encodings
@@ -169,20 +169,20 @@ module _ {K V : Type 0} (r : Rules K V) (laws : IsEquivalence r.same)
   two_encodings : (d e : EncodeError) (h : RefusesEncoding r key val A left bytes a over x old v room d) (k : RefusesEncoding r key val B left bytes b last y old w room e) →
       SamePairs r.same a b × (over ≡ last) × (x ≡ y) × (d ≢ OutOfMemory → e ≢ OutOfMemory → (d ≡ e) × (h.walk ≡ k.walk → v ≡ w))
   two_encodings d e h k =
-      let same = same_runs h.entries k.entries h.run k.run in (
-        λ q. sym (h.folded q) ∙ ap (λ z. lookup_entry (r.same q) (fold_entries r.same [] z)) same ∙ k.folded q,
-        one_over r.key r.val r.depth r.number r.cost (unknown_cost r) key_free val_free left over last h.entries k.entries same h.paid k.paid,
-        h.whole ∙ sym k.whole,
-        one_error d e (undeclared_records r.number h.entries) (undeclared_records r.number k.entries) h.walk k.walk h.encoding k.encoding,
+      let same = same_runs h.read.entries k.read.entries h.read.run k.read.run in (
+        λ q. sym (h.read.folded q) ∙ ap (λ z. lookup_entry (r.same q) (fold_entries r.same [] z)) same ∙ k.read.folded q,
+        one_over r.key r.val r.depth r.number r.cost (unknown_cost r) key_free val_free left over last h.read.entries k.read.entries same h.read.paid k.read.paid,
+        h.read.whole ∙ sym k.read.whole,
+        one_error d e (undeclared_records r.number h.read.entries) (undeclared_records r.number k.read.entries) h.walk k.walk h.encoding k.encoding,
       )
 
   pub rewrite_is_pinned : RewriteIsPinned r key val KeyFits ValFits A B left bytes a b over last x y old v w room
   rewrite_is_pinned = record {
     rewritten = one_rewrite;
-    read = λ m f h k ne. read_no_fault h.entries f h.run h.paid k ne;
+    read = λ m f h k ne. read_no_fault h.read.entries f h.read.run h.read.paid k ne;
     written = λ m e h k ne. written_no_refusal m h e k k.encoding ne;
     either = λ f e h k ne.
-        ok_no_err (sym (run_complete r.key r.val r.depth r.number r.cost (unknown_cost r) key_free val_free left bytes k.entries last k.run k.paid)
+        ok_no_err (sym (run_complete r.key r.val r.depth r.number r.cost (unknown_cost r) key_free val_free left bytes k.read.entries last k.read.run k.read.paid)
         ∙ (run_faulty r.key r.val r.depth r.number r.cost (unknown_cost r) key_free val_free left bytes f (run_fault r (state [] [] left) bytes (state a h.0 over) x f h.1 ne)).1);
     faults = λ plain f g h k ne nf.
         let same = (run_is_pinned r key_free val_free).faults plain (state [] [] left) bytes (state a h.0 over) (state b k.0 last) x y f g h.1 k.1 ne nf in

@@ -28,36 +28,32 @@ module _ {K V : Type 0} (rk : Reading K) (rv : Reading V) (key : Writing K) (val
   is_kept : kept ≡ undeclared_records n read.entries
   is_kept = read.keeps ∙ ap (λ z. z ++ undeclared_records n read.entries) empty
 
+  -- the run was read into an empty list
+  anew_read : ReadsRun (keeping rk rv eq keeps d n cost) (state [] [] left) bs (state pairs kept over) rest
+  anew_read = record { entries = read.entries; run = read.run; folded = read.folded; order = read.order; keeps = is_kept; paid = read.paid; whole = read.whole }
+
   pub rewrites : (u : Unit {0}) → WritesWalk eq Walks key val KeyFits ValFits n pairs kept old before {T = Unit {0}} (Ok u) new after →
       RewritesRun (keeping rk rv eq keeps d n cost) key val KeyFits ValFits Walks left bs pairs over rest old new before after
   rewrites u w = record {
-    entries = read.entries;
+    kept = kept;
+    read = anew_read;
     out = field_encoding key val n w.walk ++ records_encoding (undeclared_records n read.entries);
-    run = read.run;
-    folded = read.folded;
-    order = read.order;
     rewrite = (w.walk, (w.once.0, λ q. read.folded q ∙ w.once.1 q), w.encoding.0, w.fits, refl);
     walks = w.walks;
     ordered = λ k. ap (λ (z : List (K × V)). field_encoding key val n z ++ records_encoding (undeclared_records n read.entries)) (ordered w.walk w.walks k ∙ read.order k);
     encoding = w.encoding.1 ∙ ap (λ z. old ++ (field_encoding key val n w.walk ++ records_encoding z)) is_kept;
     room = subst (λ z. before ≤ after + length (field_encoding key val n w.walk ++ records_encoding z)) is_kept w.room;
-    paid = read.paid;
-    whole = read.whole;
   }
 
   pub refuses : (e : EncodeError) → WritesWalk eq Walks key val KeyFits ValFits n pairs kept old before {T = Unit {0}} (Err e) new after →
       RefusesEncoding (keeping rk rv eq keeps d n cost) key val Walks left bs pairs over rest old new before e
   refuses e w = record {
-    entries = read.entries;
+    kept = kept;
+    read = anew_read;
     walk = w.walk;
-    run = read.run;
-    folded = read.folded;
-    order = read.order;
     once = (w.once.0, λ q. read.folded q ∙ w.once.1 q);
     walked = λ k. ordered w.walk w.walks k ∙ read.order k;
     walks = w.walks;
     encoding = subst (λ (z : List (ℕ × Datum)). RefusesRewrite key val n z old new w.walk e) is_kept w.encoding;
     room = subst (λ z. e ≡ OutOfMemory → before < length (field_encoding key val n w.walk ++ records_encoding z)) is_kept w.room;
-    paid = read.paid;
-    whole = read.whole;
   }

@@ -120,10 +120,10 @@ module _ {K V : Type 0} (r : Rules K V) (key : Writing K) (val : Writing V) (Key
   IsRead = (kept : List (ℕ × Datum)) × ReadsRun r (state [] [] left) bs (state new kept over) rest
 
   pub rewritten_is : (after : ℕ) → RewritesRun r key val KeyFits ValFits Walks left bs new over rest old written room after → IsRead
-  rewritten_is after h = (kept_of_run r h.entries, record { entries = h.entries; run = h.run; folded = h.folded; order = h.order; keeps = refl; paid = h.paid; whole = h.whole })
+  rewritten_is after h = (h.kept, h.read)
 
   pub refused_is : (e : EncodeError) → RefusesEncoding r key val Walks left bs new over rest old written room e → IsRead
-  refused_is e h = (kept_of_run r h.entries, record { entries = h.entries; run = h.run; folded = h.folded; order = h.order; keeps = refl; paid = h.paid; whole = h.whole })
+  refused_is e h = (h.kept, h.read)
 
 -- ---- what a merged entry is
 pub merged_is : {K V : Type 0} (r : Rules K V) (old new : State K V) (bs rest : List ℕ) → MergesEntry r old bs new rest →

@@ -11,8 +11,8 @@ use Rattle.buffa_bytes.specs.declared.error.EncodeError.{EncodeError}
 use Rattle.buffa_bytes.specs.declared.error.EncodeError.TheVariants.{GroupRefused, MessageTooLarge, OutOfMemory}
 use Rattle.buffa_map.specs.Codec.{Writing}
 use Rattle.buffa_map.specs.Pairs.{InOrder, ListsOnce, SamePairs}
-use Rattle.buffa_map.specs.Merge.{Rules, RefusesRun, state, unknown_cost}
-use Rattle.buffa_map.specs.Run.{EntryRecord, fold_entries, undeclared, ArePaid, Run, undeclared_records}
+use Rattle.buffa_map.specs.Merge.{ReadsRun, RefusesRun, Rules, state}
+use Rattle.buffa_map.specs.Run.{EntryRecord, fold_entries, undeclared, undeclared_records}
 use Rattle.buffa_map.specs.Encoding.{AllHold, HasEncoding, RefusesField, UsesRoomOf, field_encoding}
 use Rattle.buffa_bytes.specs.ErrorText.{decode_error_text, encode_error_text}
 use Rattle.buffa_map.specs.declared.rewrite.RewriteError.{RewriteError}
@@ -97,40 +97,33 @@ pub record WritesWalk {K V : Type 0} (eq : K → K → Bool) (Walks : List (K ×
 
 -- ---- what a rewrite does
 
--- the records of the bytes were read into an empty map; and the rewrite was written, by a walk that the map has
+-- The bytes are a run, which was read into an empty map, and what is undeclared in it into an empty list. Behind what stood in
+-- the sink is its rewrite, by a walk that the map has; and room for no more than that was used.
 pub record RewritesRun {K V : Type 0} (r : Rules K V) (key : Writing K) (val : Writing V) (KeyFits : K → Type 0) (ValFits : V → Type 0) (Walks : List (K × V) → Type 0) (left : BudgetLeft) (bytes : List ℕ) (new : List (K × V)) (left_after : BudgetLeft) (rest : List ℕ) (old written : List ℕ) (before after : ℕ) : Type 0 where
-  pub entries : List (EntryRecord K V)
+  pub kept : List (ℕ × Datum)
+  pub read : ReadsRun r (state [] [] left) bytes (state new kept left_after) rest
   pub out : List ℕ
-  pub run : Run r.key r.val r.depth r.number bytes entries
-  pub folded : SamePairs r.same (fold_entries r.same [] entries) new
-  pub order : InOrder r.keeps_order (fold_entries r.same [] entries) new
-  pub rewrite : IsRewrite r.same key val KeyFits ValFits r.number entries out
+  pub rewrite : IsRewrite r.same key val KeyFits ValFits r.number read.entries out
   pub walks : Walks rewrite.0
   pub encoding : written ≡ old ++ out
-  pub ordered : r.keeps_order ≡ true → out ≡ field_encoding key val r.number (fold_entries r.same [] entries) ++ records_encoding (undeclared_records r.number entries)
+  pub ordered : r.keeps_order ≡ true → out ≡ field_encoding key val r.number (fold_entries r.same [] read.entries) ++ records_encoding (undeclared_records r.number read.entries)
   pub room : before ≤ after + length out
-  pub paid : ArePaid r.key r.val r.depth r.cost (unknown_cost r) left entries left_after
-  pub whole : rest ≡ []
 
 -- f is why the bytes were refused; the entries before it stand in the map, and nothing was written
 abbrev pub RefusesDecoding : {K V : Type 0} → Rules K V → BudgetLeft → List ℕ → List (K × V) → BudgetLeft → List ℕ → List ℕ → List ℕ → DecodeError → Type 0
 RefusesDecoding r left bytes new left_after unread old written f =
     (kept : List (ℕ × Datum)) × RefusesRun r (state [] [] left) bytes (state new kept left_after) unread f × (written ≡ old)
 
--- the records were read, and e is why the encoding wasn't written whole: out of memory only where it has no room
+-- The bytes were read so, and e is why the encoding wasn't written whole: out of memory only where it has no room.
 pub record RefusesEncoding {K V : Type 0} (r : Rules K V) (key : Writing K) (val : Writing V) (Walks : List (K × V) → Type 0) (left : BudgetLeft) (bytes : List ℕ) (new : List (K × V)) (left_after : BudgetLeft) (rest : List ℕ) (old written : List ℕ) (before : ℕ) (e : EncodeError) : Type 0 where
-  pub entries : List (EntryRecord K V)
+  pub kept : List (ℕ × Datum)
+  pub read : ReadsRun r (state [] [] left) bytes (state new kept left_after) rest
   pub walk : List (K × V)
-  pub run : Run r.key r.val r.depth r.number bytes entries
-  pub folded : SamePairs r.same (fold_entries r.same [] entries) new
-  pub order : InOrder r.keeps_order (fold_entries r.same [] entries) new
-  pub once : ListsOnce r.same (fold_entries r.same [] entries) walk
-  pub walked : InOrder r.keeps_order (fold_entries r.same [] entries) walk
+  pub once : ListsOnce r.same (fold_entries r.same [] read.entries) walk
+  pub walked : InOrder r.keeps_order (fold_entries r.same [] read.entries) walk
   pub walks : Walks walk
-  pub encoding : RefusesRewrite key val r.number (undeclared_records r.number entries) old written walk e
-  pub room : e ≡ OutOfMemory → before < length (field_encoding key val r.number walk ++ records_encoding (undeclared_records r.number entries))
-  pub paid : ArePaid r.key r.val r.depth r.cost (unknown_cost r) left entries left_after
-  pub whole : rest ≡ []
+  pub encoding : RefusesRewrite key val r.number (undeclared_records r.number read.entries) old written walk e
+  pub room : e ≡ OutOfMemory → before < length (field_encoding key val r.number walk ++ records_encoding (undeclared_records r.number read.entries))
 
 -- P of the fault, if the bytes were refused; and Q of the error, if the writing was
 abbrev pub MatchRefusal : RewriteError → (DecodeError → Type 0) → (EncodeError → Type 0) → Type 0

@@ -65,14 +65,14 @@ module _ (d n : ℕ) (left over : BudgetLeft) (bs rest old new : List ℕ) (befo
       wrote : Rewrites → RunRewritesTo n (choice_run n bs) new
       wrote k =
           let w = k.rewrite in
-          subst (λ z. RunRewritesTo n z new) (sym (is_run k.entries k.run k.paid))
+          subst (λ z. RunRewritesTo n z new) (sym (is_run k.read.entries k.read.run k.read.paid))
           ((w.0, w.1, w.2, w.3, k.encoding ∙ ap (λ z. z ++ k.out) empty ∙ w.4), walked es w.0 sorted k.walks)
 
   why : (r : RewriteError) → Refuses r → IsRewriteError (choice_run n bs) r
   why (Decode f) k = λ real. stops int32_reading choice_reading int_eq 8 true (λ _ d c. refl) (λ _ d c. refl) refl refl (refusal f) d n left over bs [] pairs [] k.0 is_d is_left rest f k.1 real
   why (Encode MessageTooLarge) k = λ real.
       let long = k.encoding in
-      (refl, subst RunHasNoRewrite (sym (is_run k.entries k.run k.paid)) (k.walk, k.once, walked es k.walk sorted k.walks, λ h. too_long long.0 long.1 long.2 long.5 (subst (HasEncoding int32_writing closed_writing) long.3 h)))
+      (refl, subst RunHasNoRewrite (sym (is_run k.read.entries k.read.run k.read.paid)) (k.walk, k.once, walked es k.walk sorted k.walks, λ h. too_long long.0 long.1 long.2 long.5 (subst (HasEncoding int32_writing closed_writing) long.3 h)))
   why (Encode OutOfMemory) k = λ real. absurd (real refl)
   why (Encode (GroupRefused e)) k = λ real. absurd k.encoding
 

@@ -33,18 +33,14 @@ module _ {K : Type 0} (rk : Reading K) (rv : Reading ℤ) (key : Writing K) (eq 
   with_no_room : (room d : ℕ) (left : BudgetLeft) (old : List ℕ) (over : BudgetLeft) (rest written : List ℕ) (x : RewriteError) → Refused room d left old over rest written x → Refused 0 d left old over rest written x
   with_no_room room d left old over rest written (Decode f) h = h
   with_no_room room d left old over rest written (Encode e) h = record {
-    entries = h.entries;
+    kept = h.kept;
+    read = h.read;
     walk = h.walk;
-    run = h.run;
-    folded = h.folded;
-    order = h.order;
     once = h.once;
     walked = h.walked;
     walks = h.walks;
     encoding = h.encoding;
     room = λ is. omega (arith, h.room is);
-    paid = h.paid;
-    whole = h.whole;
   }
 
   pub not_rewritten : (room d e : ℕ) (left given : BudgetLeft) (old : List ℕ) (over : BudgetLeft) (rest written : List ℕ) (x : RewriteError) → d ≡ e → left ≡ given → old ≡ [] →
@@ -63,18 +59,22 @@ pub rewritten : {K : Type 0} (rk : Reading K) (rv : Reading ℤ) (key : Writing 
     (h : RewritesRun (keeping rk rv eq keeps d n cost) key closed_writing KeyFits ValFits walks left bs pairs over rest old written before after) →
     RewritesRun (keeping rk rv eq keeps e n cost) key closed_writing KeyFits ValFits (λ _. Unit {0}) given bs pairs over [] [] h.out 0 0
 rewritten rk rv key KeyFits ValFits eq keeps n cost bs pairs walks d e left given over rest old written before after same is h = record {
-  entries = h.entries;
+  kept = h.kept;
+  read = record {
+    entries = h.read.entries;
+    run = subst (λ (z : ℕ). Run rk rv z n bs h.read.entries) same h.read.run;
+    folded = h.read.folded;
+    order = h.read.order;
+    keeps = h.read.keeps;
+    paid = subst (λ (z : BudgetLeft). ArePaid rk rv e cost 1 z h.read.entries over) is (subst (λ (z : ℕ). ArePaid rk rv z cost 1 left h.read.entries over) same h.read.paid);
+    whole = refl;
+  };
   out = h.out;
-  run = subst (λ (z : ℕ). Run rk rv z n bs h.entries) same h.run;
-  folded = h.folded;
-  order = h.order;
   rewrite = h.rewrite;
   walks = tt;
   encoding = refl;
   ordered = h.ordered;
   room = omega arith;
-  paid = subst (λ (z : BudgetLeft). ArePaid rk rv e cost 1 z h.entries over) is (subst (λ (z : ℕ). ArePaid rk rv z cost 1 left h.entries over) same h.paid);
-  whole = refl;
 }
 
 -- ---- bytes that are a run stop a reader only where memory or the budget ran out

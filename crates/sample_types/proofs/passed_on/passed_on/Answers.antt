@@ -20,8 +20,8 @@ returns-in-Ok-read_map_field-clause-keeps g c fs k =
     let given = c.args.bytes.now in
     let w = c.in-Ok.ensures.ok in
     let r = c.in-Ok-read_map_field.ensures.ok in
-    let run = subst (λ (z : ℕ). Run key (closed_reading e) z n given w.entries) c.new-ctx.ensures.depth w.run in
-    let t = c.rewrite_means.ensures g.C.MapStorage.equal g.met.C.MapStorage.equivalence e f g.met.E.Enumeration.blank_declared c.requires.refines depth n given w.out w.entries fs c.requires.number run k w.rewrite in
+    let run = subst (λ (z : ℕ). Run key (closed_reading e) z n given w.read.entries) c.new-ctx.ensures.depth w.read.run in
+    let t = c.rewrite_means.ensures g.C.MapStorage.equal g.met.C.MapStorage.equivalence e f g.met.E.Enumeration.blank_declared c.requires.refines depth n given w.out w.read.entries fs c.requires.number run k w.rewrite in
     let encoding : c.as_slice-written.result.now ≡ w.out = wrote w.out c.new-encoding.ensures.items w.encoding c.as_slice-written.ensures.value in
     let read = one_run c.one_reading-2.ensures c.new-ctx-2.result.depth depth n c.as_slice-written.result.now w.out r.entries t.0 c.new-ctx-2.ensures.depth encoding r.run t.1 in
     let kept : undeclared r.entries ≡ undeclared fs = ap undeclared read ∙ t.2.0 in
@@ -37,8 +37,8 @@ returns-in-Ok-read_map_field-clause-means g c es fs h k o q =
     let given = c.args.bytes.now in
     let w = c.in-Ok.ensures.ok in
     let r = c.in-Ok-read_map_field.ensures.ok in
-    let run = subst (λ (z : ℕ). Run key (closed_reading e) z n given w.entries) c.new-ctx.ensures.depth w.run in
-    let same : w.entries ≡ es = c.one_reading.ensures.run depth n given w.entries es run h in
+    let run = subst (λ (z : ℕ). Run key (closed_reading e) z n given w.read.entries) c.new-ctx.ensures.depth w.read.run in
+    let same : w.read.entries ≡ es = c.one_reading.ensures.run depth n given w.read.entries es run h in
     let rewrite = subst (λ z. IsRewrite g.C.MapStorage.equal g.KC.MapCodec.writing closed_writing g.KC.MapCodec.fits (ClosedFits e) n z w.out) same w.rewrite in
     let t = c.rewrite_means.ensures g.C.MapStorage.equal g.met.C.MapStorage.equivalence e f g.met.E.Enumeration.blank_declared c.requires.refines depth n given w.out es fs c.requires.number h k rewrite in
     let encoding : c.as_slice-written.result.now ≡ w.out = wrote w.out c.new-encoding.ensures.items w.encoding c.as_slice-written.ensures.value in
@@ -57,9 +57,9 @@ returns-in-Ok-read_map_field-clause-runs g c =
     let n = c.args.number in
     let given = c.args.bytes.now in
     let w = c.in-Ok.ensures.ok in
-    let run = subst (λ (z : ℕ). Run key (closed_reading e) z n given w.entries) c.new-ctx.ensures.depth w.run in
-    let newer = c.newer_enums_take_it_too.ensures e f g.met.E.Enumeration.blank_declared c.requires.refines depth n given w.entries run in
-    record { older_entries = w.entries; older_run = run; newer_entries = newer.0; newer_run = newer.1 }
+    let run = subst (λ (z : ℕ). Run key (closed_reading e) z n given w.read.entries) c.new-ctx.ensures.depth w.read.run in
+    let newer = c.newer_enums_take_it_too.ensures e f g.met.E.Enumeration.blank_declared c.requires.refines depth n given w.read.entries run in
+    record { older_entries = w.read.entries; older_run = run; newer_entries = newer.0; newer_run = newer.1 }
 
 pub returns-in-Ok-read_map_field-clause-reads : goal.returns-in-Ok-read_map_field-clause-reads
 returns-in-Ok-read_map_field-clause-reads g c =
@@ -69,7 +69,7 @@ returns-in-Ok-read_map_field-clause-reads g c =
     let depth = c.args.depth in
     let n = c.args.number in
     let w = c.in-Ok.ensures.ok in
-    let run = subst (λ (z : ℕ). Run key (closed_reading e) z n c.args.bytes.now w.entries) c.new-ctx.ensures.depth w.run in
+    let run = subst (λ (z : ℕ). Run key (closed_reading e) z n c.args.bytes.now w.read.entries) c.new-ctx.ensures.depth w.read.run in
     let encoding : c.as_slice-written.result.now ≡ w.out = wrote w.out c.new-encoding.ensures.items w.encoding c.as_slice-written.ensures.value in
     record {
       out = w.out;
@@ -103,9 +103,9 @@ returns-clause-stops g c =
     let given = c.args.bytes.now in
     let fault = c.in-Err-read_map_field.error in
     let w = c.in-Ok.ensures.ok in
-    let run = subst (λ (z : ℕ). Run key (closed_reading e) z n given w.entries) c.new-ctx.ensures.depth w.run in
-    let newer = c.newer_enums_take_it_too.ensures e f g.met.E.Enumeration.blank_declared c.requires.refines depth n given w.entries run in
-    let again = c.rewrite_means.ensures g.C.MapStorage.equal g.met.C.MapStorage.equivalence e f g.met.E.Enumeration.blank_declared c.requires.refines depth n given w.out w.entries newer.0 c.requires.number run newer.1 w.rewrite in
+    let run = subst (λ (z : ℕ). Run key (closed_reading e) z n given w.read.entries) c.new-ctx.ensures.depth w.read.run in
+    let newer = c.newer_enums_take_it_too.ensures e f g.met.E.Enumeration.blank_declared c.requires.refines depth n given w.read.entries run in
+    let again = c.rewrite_means.ensures g.C.MapStorage.equal g.met.C.MapStorage.equivalence e f g.met.E.Enumeration.blank_declared c.requires.refines depth n given w.out w.read.entries newer.0 c.requires.number run newer.1 w.rewrite in
     let encoding : c.as_slice-written.result.now ≡ w.out = wrote w.out c.new-encoding.ensures.items w.encoding c.as_slice-written.ensures.value in
     let stops = stopped key (closed_reading f) g.D.MapStorage.equal g.D.MapStorage.keeps_order n cost (g.D.MapStorage.pairs c.args.map.now) c.args.unknown.now.records _ _ fault
     c.new-ctx-2.result.depth depth c.new-ctx-2.result.budget.now _ c.as_slice-written.result.now w.out c.new-ctx-2.ensures.depth
@@ -120,7 +120,7 @@ returns-clause-stops g c =
             c.new-ctx.result.depth depth c.new-ctx.result.budget.now _ _ _ _ _ _ _ c.new-ctx.ensures.depth
             (c.new-ctx.ensures.budget ∙ left_is c.new-budget.result _ _ c.new-budget.ensures.unknown c.new-budget.ensures.memory) w;
       };
-      run = record { older_entries = w.entries; older_run = run; newer_entries = newer.0; newer_run = newer.1 };
+      run = record { older_entries = w.read.entries; older_run = run; newer_entries = newer.0; newer_run = newer.1 };
       stops = stops;
       short = stop_is_shortage key (closed_reading f) g.D.MapStorage.equal g.D.MapStorage.keeps_order n cost _ _ _ _ fault depth _ w.out again.0
           (λ x. c.plain_entries_need_units.ensures.entry (g.met.KC.MapCodec.plain, refl) depth cost x) c.one_reading-2.ensures again.1 stops;
