@@ -29,7 +29,7 @@ module _ {K V : Type 0} (rk : Reading K) (rv : Reading V) (key : Writing K) (val
   is_kept = read.keeps ∙ ap (λ z. z ++ undeclared_records n read.entries) empty
 
   -- the run was read into an empty list
-  anew_read : ReadsRun (keeping rk rv eq keeps d n cost) (state [] [] left) bs (state pairs kept over) rest
+  abbrev anew_read : ReadsRun (keeping rk rv eq keeps d n cost) (state [] [] left) bs (state pairs kept over) rest
   anew_read = record { entries = read.entries; run = read.run; folded = read.folded; order = read.order; keeps = is_kept; paid = read.paid; whole = read.whole }
 
   pub rewrites : (u : Unit {0}) → WritesWalk eq Walks key val KeyFits ValFits n pairs kept old before {T = Unit {0}} (Ok u) new after →
