@@ -167,8 +167,9 @@ def look(crates, lanes):
     failed = {it: it.why_not for it in edits if it.why_not}
     failed.update({it: f"no such word stands elsewhere: {' '.join(it.strange_words(known))}" for it in edits if it not in failed and it.strange_words(known)})
     # One program holds the error of ours; an edit of any other is read in a copy of its own.
-    program, *others = [it for it in crates if os.path.isfile(f"{TOP}/crates/{it}/src/main.rt")]
-    together = [it for it in crates if it not in others]
+    programs = [it for it in listed() if os.path.isfile(f"{TOP}/crates/{it}/src/main.rt")]
+    program, *others = [it for it in programs if it in crates] or programs
+    together = list(dict.fromkeys([*(it for it in crates if it not in others), program]))
     layers, alone = [], []
     for edit in edits:
         if edit in failed:
