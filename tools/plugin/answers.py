@@ -6,6 +6,8 @@ from oneof import OneOf
 # As many members that hold messages by one member type are proved without an answer, and as many by any.
 ALIKE = 2
 IN_ALL = 3
+# Of as many blocks it is proved without an answer that they were visited in turn.
+MOST_SEEN = 10
 
 
 def to_answer(message):
@@ -78,10 +80,10 @@ def answers_of_block(world, message, block):
 
 def answers(world, message):
     """The file of the answers, by its name beside `src`, where one is needed."""
-    places = to_answer(message)
-    if not places:
+    places, order = to_answer(message), calls(pieces(message))
+    is_long = len(blocks(message)) > MOST_SEEN
+    if not places and not is_long:
         return None
-    order = calls(pieces(message))
     head = ".".join(it for it in ("Rattle", world.crate, "proofs", world.module, snake(message.rust)) if it)
     made = [f"use {head}.{message.rust}Fields.visit.Goals as goal"]
     for at in places:
@@ -90,6 +92,11 @@ def answers(world, message):
             waits = f"c.{numbered(word, count)}.ensures.waits _ {f'({waits})' if ' ' in waits else waits}"
         name = goal(pieces(message)[at], *order[at])
         made += ["", f"pub {name} : goal.{name}", f"{name} g c = g.V.Visitor.begins _ _ _ ({waits})"]
+    if is_long:
+        seen = f"c.{order[0][0]}.ensures.seen z h"
+        for word, count in [*order[1:], *[("visit_kept", 1)] * message.is_keeping]:
+            seen = f"c.{numbered(word, count)}.ensures.seen _ ({seen})"
+        made += ["", "pub returns-clause-seen : goal.returns-clause-seen", f"returns-clause-seen g c = λ z h. {seen}"]
     folder = "/".join(it for it in ("../proofs", world.module, snake(message.rust)) if it)
     return f"{folder}/{message.rust}Fields/visit/Answers.antt", "\n".join(made) + "\n"
 

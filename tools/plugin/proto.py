@@ -37,7 +37,7 @@ CALLS = set(
 )
 # As many members of a message that holds itself are proved, and as many of one in blocks.
 MOST = 60
-MOST_IN_BLOCKS = 76
+MOST_IN_BLOCKS = 128
 
 
 class Member:
