@@ -17,8 +17,9 @@ use buffa_wire::{Blank, Buf, DecodeContext, DecodeError, EncodeError, EncodeSink
 use std::alloc::Global;
 
 pub(crate) mod sealed {
-    /// Only types of this crate are codecs of maps: how the wire spells them is nothing that a type of one's own can
-    /// choose.
+    /// The codecs are the scalars of `buffa_wire` and the types of this crate. How the wire spells a value is nothing that
+    /// another crate can choose: its messages, enums, strings and bytes go through `Msg`, `OpenEnum`, `ClosedEnum`,
+    /// `ProtoStringMap` and `ProtoBytesMap`.
     pub trait Sealed {}
 }
 

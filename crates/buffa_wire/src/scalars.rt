@@ -2,11 +2,13 @@
 //!
 //! | Scalar | Form |
 //! |---|---|
-//! | [`Int32`], [`Sint32`], [`Uint32`] | varint of 1 to 5 bytes, of 10 for a negative `Int32` |
-//! | [`Int64`], [`Sint64`], [`Uint64`] | varint of 1 to 10 bytes |
-//! | [`Bool`] | varint of 1 byte |
+//! | [`Int32`], [`Sint32`], [`Uint32`] | varint, written in 1 to 5 bytes, and in 10 for a negative `Int32` |
+//! | [`Int64`], [`Sint64`], [`Uint64`] | varint, written in 1 to 10 bytes |
+//! | [`Bool`] | varint, written in 1 byte |
 //! | [`Fixed32`], [`Sfixed32`], [`Float`] | four bytes |
 //! | [`Fixed64`], [`Sfixed64`], [`Double`] | eight bytes |
+//!
+//! Any varint of 1 to 10 bytes is read as each of the first three rows.
 //!
 //! Source: the protobuf encoding guide, "Message Structure".
 
