@@ -239,7 +239,8 @@ def names_of(message, fields):
         names |= {"take_one_of"} if message.oneofs else set()
         return (names - {"And", "visit_one_of"}) | knots.names_of(message)
     names |= {"Blank", "Fields", "Formed", "Listed", "Listing", "Visitor"} | ({"KeptFields"} if message.is_keeping else set())
-    of_blocks = set().union(*[ands(len(it.members)) for it in blocks.blocks(message)])
+    in_blocks = blocks.blocks(message)
+    of_blocks = set().union(*[ands(len(it.members)) | ({"And"} & k.needs) for it in in_blocks for k in it.members])
     names |= {"MemberBlock"} if of_blocks else set()
     if message.is_opaque:
         return {it for it in names if it != "KeptFields" and not re.fullmatch(r"And\d*", it)} | {"Model"} | of_blocks
