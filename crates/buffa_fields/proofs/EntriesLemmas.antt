@@ -44,14 +44,14 @@ module _ {K V X : Type 0} (r : Rules K V) (does : X → List ℕ → MapEntry K 
   pub entry_ok : (m : MergesEntry r s bs t rest) → new ≡ does old m.entry m.says → IsTaken (entry_taken r.key r.val does) (entry_cost costs) r.depth old n w bs s.left done new t.left rest
   unfolding entry_taken entry_cost
   entry_ok m done =
-      let whole : delimited_at bs ≡ Ok (m.entry, rest) = delimited_taken bs m.entry rest (m.read.0, m.read.1, m.read.2) in
+      let whole : delimited_at bs ≡ Ok (m.entry, rest) = delimited_taken bs m.entry rest m.read.0 in
       let f = delimited_front r.depth n w bs m.entry rest wire whole in
       let same : same_wire LengthDelimited w ≡ true = ap (same_wire LengthDelimited) wire in (
         f.0,
         f.1,
         f.2,
-        rw (same, f.3, entry_complete r.key r.val r.depth m.entry m.says m.read.3) (ap (λ z. Some z) (sym done)),
-        rw (wire, whole, (is_cost m.entry).1 m.says m.read.3) m.pays,
+        rw (same, f.3, entry_complete r.key r.val r.depth m.entry m.says m.read.1) (ap (λ z. Some z) (sym done)),
+        rw (wire, whole, (is_cost m.entry).1 m.says m.read.1) m.pays,
       )
 
   -- or refused
@@ -84,10 +84,10 @@ module _ {K V X : Type 0} (r : Rules K V) (does : X → List ℕ → MapEntry K 
         at : NoLimit f → EntryFault r.key r.val r.depth r.cost (unknown_cost r) s.left bs f →
             Lacks s.left (entry_cost costs r.depth n w bs) ⊎ (Untaken (entry_taken r.key r.val does) r.depth old n w bs × NoLimit f)
         at unlimited (inl len) = inr ((λ p more payload split. absurd (no_payload r.depth n w p more bs f (delimited_faulty bs f len) wire payload split)), unlimited)
-        at unlimited (inr (v, e, more, varint, split, inl (few, is))) = absurd (unlimited (subst (λ z. IsLimit z) (sym is) tt))
-        at unlimited (inr (v, e, more, varint, split, inr (enough, inl lack))) = inl (rw (wire, delimited_taken bs e more (v, varint, split)) (lacked e (inl lack)))
-        at unlimited (inr (v, e, more, varint, split, inr (enough, inr (inl fault)))) = inr (refused_at e f fault more (delimited_taken bs e more (v, varint, split)), unlimited)
-        at unlimited (inr (v, e, more, varint, split, inr (enough, inr (inr (m, entry, known, few, is))))) = absurd (unlimited (subst (λ z. IsLimit z) (sym is) tt))
+        at unlimited (inr (e, more, t, inl (few, is))) = absurd (unlimited (subst (λ z. IsLimit z) (sym is) tt))
+        at unlimited (inr (e, more, t, inr (enough, inl lack))) = inl (rw (wire, delimited_taken bs e more (v, varint, split)) (lacked e (inl lack)))
+        at unlimited (inr (e, more, t, inr (enough, inr (inl fault)))) = inr (refused_at e f fault more (delimited_taken bs e more t), unlimited)
+        at unlimited (inr (e, more, t, inr (enough, inr (inr (m, entry, known, few, is))))) = absurd (unlimited (subst (λ z. IsLimit z) (sym is) tt))
 
     -- what is left then is what the rules say; or the unknown field is given back
     module _ (f : DecodeError) (after : BudgetLeft) (k : RefusesEntry r s bs t rest f) (units : after.memory ≡ t.left.memory) (most : after.unknown ≤ s.left.unknown)

@@ -22,8 +22,8 @@ module _ {K V : Type 0} (key : Reading K) (val : Reading V) (d : ℕ) where
   same_taken bs e a f b h k = ok_same (sym (delimited_taken bs e a h) ∙ delimited_taken bs f b k)
 
   pub same_front : (bs e a : List ℕ) (s : MapEntry K V) (f b : List ℕ) (t : MapEntry K V) → EntryOf key val d bs e s a → EntryOf key val d bs f t b → (e ≡ f) × (a ≡ b) × (s ≡ t)
-  same_front bs e a s f b t (u, v, is, h) (w, x, was, k) =
-      let taken = same_taken bs e a f b (u, v, is) (w, x, was) in
+  same_front bs e a s f b t (taken_e, h) (taken_f, k) =
+      let taken = same_taken bs e a f b taken_e taken_f in
       (ap (λ z. z.0) taken, ap (λ z. z.1) taken, same_entry e s t h (subst (λ z. IsEntry key val d z t) (sym (ap (λ z. z.0) taken)) k))
 
   -- the part of a fault behind the length
@@ -47,7 +47,7 @@ module _ {K V : Type 0} (key : Reading K) (val : Reading V) (d : ℕ) where
 
   pub paid_no_fault : (cost extra : ℕ) (left : BudgetLeft) (bs e rest : List ℕ) (s : MapEntry K V) (f : DecodeError) → EntryOf key val d bs e s rest →
       (need_of key val d cost e).memory ≤ left.memory → (need_of key val d cost e).unknown + cond s.known 0 extra ≤ left.unknown → EntryFault key val d cost extra left bs f → ⊥
-  paid_no_fault cost extra left bs e rest s f (u, v, is, h) units slots (inl bad) = ok_no_err (sym (delimited_taken bs e rest (u, v, is)) ∙ delimited_faulty bs f bad)
-  paid_no_fault cost extra left bs e rest s f (u, v, is, h) units slots (inr (t, g, after, w, was, k)) =
-      let taken = same_taken bs g after e rest (t, w, was) (u, v, is) in
+  paid_no_fault cost extra left bs e rest s f (there, h) units slots (inl bad) = ok_no_err (sym (delimited_taken bs e rest there) ∙ delimited_faulty bs f bad)
+  paid_no_fault cost extra left bs e rest s f (there, h) units slots (inr (g, after, also, k)) =
+      let taken = same_taken bs g after e rest also there in
       none_behind cost extra left e s f h units slots (subst (λ (z : List ℕ). Behind cost extra left f z) (ap (λ z. z.0) taken) k)

@@ -158,7 +158,7 @@ module _ {K V : Type 0} (key : Reading K) (val : Reading V) (d : ℕ) where
   entry_short cost extra left bs f h = inl (agree_err (delimited_at bs) f (delimited_sound bs) h)
 
   pub entry_charged : (cost extra : ℕ) (left : BudgetLeft) (bs e rest : List ℕ) (f : DecodeError) → delimited_at bs ≡ Ok (e, rest) → left.memory < cost → f ≡ ElementMemoryLimitExceeded → EntryFault key val d cost extra left bs f
-  entry_charged cost extra left bs e rest f h l k = let t = agree_ok (delimited_at bs) (e, rest) (delimited_sound bs) h in inr (t.0, e, rest, t.1, t.2, inl (l, k))
+  entry_charged cost extra left bs e rest f h l k = let t = agree_ok (delimited_at bs) (e, rest) (delimited_sound bs) h in inr (e, rest, t, inl (l, k))
 
   pub lacks_after : (cost : ℕ) (left now : BudgetLeft) (e : List ℕ) → now.memory + cost ≡ left.memory → now.unknown ≡ left.unknown → Lacks now (need_at key val d (blanks key val d) e) → Lacks left (need_of key val d cost e)
   lacks_after cost left now e m u (inl few) = inl (omega (arith, u, few))
@@ -167,16 +167,16 @@ module _ {K V : Type 0} (key : Reading K) (val : Reading V) (d : ℕ) where
   pub entry_refused : (cost extra : ℕ) (left : BudgetLeft) (bs e rest : List ℕ) (f : DecodeError) → delimited_at bs ≡ Ok (e, rest) → cost ≤ left.memory →
       Lacks left (need_of key val d cost e) ⊎ FaultOf key val d e f → EntryFault key val d cost extra left bs f
   entry_refused cost extra left bs e rest f h m (inl few) =
-      let t = agree_ok (delimited_at bs) (e, rest) (delimited_sound bs) h in inr (t.0, e, rest, t.1, t.2, inr (m, inl few))
+      let t = agree_ok (delimited_at bs) (e, rest) (delimited_sound bs) h in inr (e, rest, t, inr (m, inl few))
   entry_refused cost extra left bs e rest f h m (inr bad) =
-      let t = agree_ok (delimited_at bs) (e, rest) (delimited_sound bs) h in inr (t.0, e, rest, t.1, t.2, inr (m, inr (inl bad)))
+      let t = agree_ok (delimited_at bs) (e, rest) (delimited_sound bs) h in inr (e, rest, t, inr (m, inr (inl bad)))
 
   pub entry_without : (cost extra : ℕ) (left : BudgetLeft) (bs e rest : List ℕ) (s : MapEntry K V) (f : DecodeError) → delimited_at bs ≡ Ok (e, rest) → cost ≤ left.memory → IsEntry key val d e s → s.known ≡ false → left.unknown < (need_of key val d cost e).unknown + extra →
       f ≡ UnknownFieldLimitExceeded → EntryFault key val d cost extra left bs f
-  entry_without cost extra left bs e rest s f h l k no_value few is = let t = agree_ok (delimited_at bs) (e, rest) (delimited_sound bs) h in inr (t.0, e, rest, t.1, t.2, inr (l, inr (inr (s, k, no_value, few, is))))
+  entry_without cost extra left bs e rest s f h l k no_value few is = let t = agree_ok (delimited_at bs) (e, rest) (delimited_sound bs) h in inr (e, rest, t, inr (l, inr (inr (s, k, no_value, few, is))))
 
   pub entry_found : (bs e rest : List ℕ) (s : MapEntry K V) → delimited_at bs ≡ Ok (e, rest) → IsEntry key val d e s → EntryOf key val d bs e s rest
-  entry_found bs e rest s h k = let t = agree_ok (delimited_at bs) (e, rest) (delimited_sound bs) h in (t.0, t.1, t.2, k)
+  entry_found bs e rest s h k = let t = agree_ok (delimited_at bs) (e, rest) (delimited_sound bs) h in (t, k)
 
   -- where no length and so many bytes begin them, none do
   pub no_length : {P : Type 0} (bs : List ℕ) (f : DecodeError) → delimited_at bs ≡ Err f → (e rest : List ℕ) → TakesDelimited bs e rest → P
@@ -194,11 +194,11 @@ module _ {K V : Type 0} (key : Reading K) (val : Reading V) (d : ℕ) where
         (e : List ℕ) × (rest : List ℕ) × TakesDelimited bs e rest × (Lacks left (need_of key val d cost e)
         ⊎ ((s : MapEntry K V) × IsEntry key val d e s × (s.known ≡ false) × Lacks left (plus (need_of key val d cost e) (unknown_fields extra))))
     entry_limited cost extra left bs f (inl h) l = absurd (length_no_limit bs f h l)
-    entry_limited cost extra left bs f (inr (t, e, rest, v, is, inl h)) l = (e, rest, (t, v, is), inl (inr (omega (arith, h.0))))
-    entry_limited cost extra left bs f (inr (t, e, rest, v, is, inr (many, inl (inl few)))) l = (e, rest, (t, v, is), inl (inl (omega (arith, few))))
-    entry_limited cost extra left bs f (inr (t, e, rest, v, is, inr (many, inl (inr few)))) l = (e, rest, (t, v, is), inl (inr (omega (arith, few))))
-    entry_limited cost extra left bs f (inr (t, e, rest, v, is, inr (many, inr (inl h)))) l = absurd (field_fair h.0 h.1 f h.4 l)
-    entry_limited cost extra left bs f (inr (t, e, rest, v, is, inr (many, inr (inr h)))) l = (e, rest, (t, v, is), inr (h.0, h.1, h.2, inl h.3))
+    entry_limited cost extra left bs f (inr (e, rest, t, inl h)) l = (e, rest, t, inl (inr (omega (arith, h.0))))
+    entry_limited cost extra left bs f (inr (e, rest, t, inr (many, inl (inl few)))) l = (e, rest, t, inl (inl (omega (arith, few))))
+    entry_limited cost extra left bs f (inr (e, rest, t, inr (many, inl (inr few)))) l = (e, rest, t, inl (inr (omega (arith, few))))
+    entry_limited cost extra left bs f (inr (e, rest, t, inr (many, inr (inl h)))) l = absurd (field_fair h.0 h.1 f h.4 l)
+    entry_limited cost extra left bs f (inr (e, rest, t, inr (many, inr (inr h)))) l = (e, rest, t, inr (h.0, h.1, h.2, inl h.3))
 
   -- ---- where no payload is nested, nothing is needed
   module _ (key_free : key.nested ≡ false → (d : ℕ) (c : Content) → key.cost d c ≡ nothing) (val_free : val.nested ≡ false → (d : ℕ) (c : Content) → val.cost d c ≡ nothing) where

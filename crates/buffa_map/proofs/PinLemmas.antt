@@ -63,10 +63,10 @@ module _ {K V : Type 0} (key : Reading K) (val : Reading V) (d n cost extra : �
 
   entry_one : Plain key val d → (left : BudgetLeft) (bs : List ℕ) (f g : DecodeError) → EntryFault key val d cost extra left bs f → EntryFault key val d cost extra left bs g → f ≡ g
   entry_one plain left bs f g (inl h) (inl k) = err_one (delimited_faulty bs f h) (delimited_faulty bs g k)
-  entry_one plain left bs f g (inl h) (inr (t, e, rest, v, is, k)) = absurd (ok_no_err (sym (delimited_taken bs e rest (t, v, is)) ∙ delimited_faulty bs f h))
-  entry_one plain left bs f g (inr (t, e, rest, v, is, h)) (inl k) = absurd (ok_no_err (sym (delimited_taken bs e rest (t, v, is)) ∙ delimited_faulty bs g k))
-  entry_one plain left bs f g (inr (t, e, rest, v, is, h)) (inr (u, x, after, w, was, k)) =
-      let same = same_taken key val d bs e rest x after (t, v, is) (u, w, was) in
+  entry_one plain left bs f g (inl h) (inr (e, rest, t, k)) = absurd (ok_no_err (sym (delimited_taken bs e rest t) ∙ delimited_faulty bs f h))
+  entry_one plain left bs f g (inr (e, rest, t, h)) (inl k) = absurd (ok_no_err (sym (delimited_taken bs e rest t) ∙ delimited_faulty bs g k))
+  entry_one plain left bs f g (inr (e, rest, t, h)) (inr (x, after, u, k)) =
+      let same = same_taken key val d bs e rest x after t u in
       behind_one plain left e f g h (subst (λ (z : List ℕ). InFault key val d n cost extra left z g) (sym (ap (λ z. z.0) same)) k)
 
   inner_none : Plain key val d → (bs : List ℕ) → inner_need key val d bs ≡ nothing

@@ -17,12 +17,12 @@ either a b cost n (inr h) z = inr (omega (arith, h, z))
 module _ {K V : Type 0} (r : Rules K V) (need : (e : List ℕ) → need_of r.key r.val r.depth r.cost e ≡ units r.cost) (old : State K V) (bs : List ℕ) where
   fault_of_plain : (left : BudgetLeft) (f : DecodeError) → EntryFault r.key r.val r.depth r.cost (unknown_cost r) left bs f → PlainFault r.key r.val r.depth r.cost (unknown_cost r) left bs f
   fault_of_plain left f (inl h) = inl h
-  fault_of_plain left f (inr (t, e, rest, v, is, inl h)) = inr (t, e, rest, v, is, inl h)
-  fault_of_plain left f (inr (t, e, rest, v, is, inr (many, inl (inl few)))) = absurd (omega (arith, few, ap (λ (z : BudgetLeft). z.unknown) (need e)))
-  fault_of_plain left f (inr (t, e, rest, v, is, inr (many, inl (inr few)))) = absurd (omega (arith, few, many, ap (λ (z : BudgetLeft). z.memory) (need e)))
-  fault_of_plain left f (inr (t, e, rest, v, is, inr (many, inr (inl h)))) = inr (t, e, rest, v, is, inr (many, inl h))
-  fault_of_plain left f (inr (t, e, rest, v, is, inr (many, inr (inr (s, entry, known, few, which))))) =
-      inr (t, e, rest, v, is, inr (many, inr (s, entry, known, omega (arith, few, ap (λ (z : BudgetLeft). z.unknown) (need e)), which)))
+  fault_of_plain left f (inr (e, rest, t, inl h)) = inr (e, rest, t, inl h)
+  fault_of_plain left f (inr (e, rest, t, inr (many, inl (inl few)))) = absurd (omega (arith, few, ap (λ (z : BudgetLeft). z.unknown) (need e)))
+  fault_of_plain left f (inr (e, rest, t, inr (many, inl (inr few)))) = absurd (omega (arith, few, many, ap (λ (z : BudgetLeft). z.memory) (need e)))
+  fault_of_plain left f (inr (e, rest, t, inr (many, inr (inl h)))) = inr (e, rest, t, inr (many, inl h))
+  fault_of_plain left f (inr (e, rest, t, inr (many, inr (inr (s, entry, known, few, which))))) =
+      inr (e, rest, t, inr (many, inr (s, entry, known, omega (arith, few, ap (λ (z : BudgetLeft). z.unknown) (need e)), which)))
 
   pub exact_merge : (new : State K V) (rest : List ℕ) → MergesExactly r old bs new rest
   exact_merge new rest m = (omega (arith, m.pays.1, ap (λ (z : BudgetLeft). z.memory) (need m.entry)), omega (arith, m.pays.0, ap (λ (z : BudgetLeft). z.unknown) (need m.entry)))

@@ -1,28 +1,28 @@
 -- What the words of entries, runs and rewrites come to.
-use Rattle.std.proofs.Common.{arith, ◌≡◌, ◌≢◌, ◌⊎◌, inl, inr, ℕ, zero, suc, ◌+◌, ◌*◌, ◌<◌, Bool, true, false, List, [], ◌∷◌, ◌++◌, Option, Result, Ok, Err, refl, sym, ap, ◌∙◌, append-nil}
+use Rattle.std.proofs.Common.{arith, ◌≡◌, ◌≢◌, ◌⊎◌, inl, inr, ℕ, zero, suc, ◌+◌, ◌*◌, ◌<◌, ◌≤◌, Bool, true, false, List, [], ◌∷◌, ◌++◌, Option, Result, Ok, Err, refl, sym, ap, ◌∙◌, append-nil}
 use Rattle.std.specs.Prelude.{IsOk, cond, if◌then◌else◌, length}
 use Rattle.buffa_bytes.specs.Gives.{◌>>=◌}
 use Rattle.buffa_bytes.specs.Content.{Content}
 use Rattle.buffa_bytes.specs.Content.Content.{bytes}
 use Rattle.buffa_bytes.specs.Front.{delimited_at, tag_at}
-use Rattle.buffa_bytes.specs.Field.{PayloadFault, TagFault, TakesTag}
+use Rattle.buffa_bytes.specs.Field.{LengthFault, PayloadFault, TagFault, TakesTag}
 use Rattle.buffa_bytes.specs.Sequence.{join}
 use Rattle.buffa_bytes.specs.Values.{tag_encoding}
 use Rattle.buffa_bytes.specs.WireType.{wire_number}
 use Rattle.buffa_bytes.specs.declared.error.DecodeError.{DecodeError}
-use Rattle.buffa_bytes.specs.declared.error.DecodeError.TheVariants.{WireTypeMismatch}
+use Rattle.buffa_bytes.specs.declared.error.DecodeError.TheVariants.{ElementMemoryLimitExceeded, UnknownFieldLimitExceeded, WireTypeMismatch}
 use Rattle.buffa_bytes.specs.declared.wire_type.WireType.{WireType}
 use Rattle.buffa_bytes.specs.declared.error.EncodeError.{EncodeError}
 use Rattle.buffa_bytes.specs.Varint.{IsVarint}
-use Rattle.buffa_wire.specs.BudgetLeft.{BudgetLeft, Pays, plus, unknown_fields}
+use Rattle.buffa_wire.specs.BudgetLeft.{BudgetLeft, Lacks, Pays, plus, unknown_fields}
 use Rattle.buffa_wire.specs.Records as datum
 use Rattle.buffa_wire.specs.Records.{Datum}
 use Rattle.buffa_map.specs.Pairs.{SamePairs, put}
 use Rattle.buffa_map.specs.Codec.{HoldsNothing, IsWhole, Reading, ReadingTakesMemory, RefusesValue, ValueFault, Writing}
 use Rattle.buffa_map.specs.Encoding.{entry_encoding}
-use Rattle.buffa_map.specs.Entry.{EntryFieldFault, FaultOf, IsEntry, need_of}
+use Rattle.buffa_map.specs.Entry.{EntryFault, EntryFieldFault, FaultOf, IsEntry, need_of}
 use Rattle.buffa_map.specs.Fields.{EntryFieldsTakeMemory}
-use Rattle.buffa_map.specs.Merge.{MergesEntry, ReadsRun, Rules, State, kept_of_run, state}
+use Rattle.buffa_map.specs.Merge.{MergesEntry, ReadsRun, Rules, State, state}
 use Rattle.buffa_map.specs.Message.{message_reading}
 use Rattle.buffa_map.specs.Rewrite.{RefusesEncoding, RewritesRun}
 use Rattle.buffa_map.specs.declared.map_entry.MapEntry.{MapEntry}
@@ -132,4 +132,23 @@ pub merged_is : {K V : Type 0} (r : Rules K V) (old new : State K V) (bs rest : 
     × SamePairs r.same (cond s.known (put r.same old.pairs s.key s.value) old.pairs) new.pairs
     × (r.keeps_order ≡ true → new.pairs ≡ cond s.known (put r.same old.pairs s.key s.value) old.pairs)
     × (new.records ≡ old.records ++ (if r.keeps_undeclared then cond s.known [] ((r.number, datum.bytes e) ∷ []) else []))
-merged_is r old new bs rest h = (h.entry, h.says, h.read, h.pays, h.put, h.order, h.keeps)
+merged_is r old new bs rest h = let (t, v, is) = h.read.0 in (h.entry, h.says, (t, v, is, h.read.1), h.pays, h.put, h.order, h.keeps)
+
+-- ---- why an entry is refused
+module _ {K V : Type 0} (key : Reading K) (val : Reading V) (d cost more : ℕ) (left : BudgetLeft) (bs : List ℕ) (f : DecodeError) where
+  abbrev Behind : List ℕ → Type 0
+  Behind e =
+      ((left.memory < cost) × (f ≡ ElementMemoryLimitExceeded))
+      ⊎ ((cost ≤ left.memory) × (Lacks left (need_of key val d cost e) ⊎ (FaultOf key val d e f
+      ⊎ ((s : MapEntry K V) × IsEntry key val d e s × (s.known ≡ false) × (left.unknown < (need_of key val d cost e).unknown + more) × (f ≡ UnknownFieldLimitExceeded)))))
+
+  abbrev EntryFaults : Type 0
+  EntryFaults = LengthFault bs f ⊎ ((t : List ℕ) × (e : List ℕ) × (rest : List ℕ) × IsVarint t (length e) × (bs ≡ t ++ (e ++ rest)) × Behind e)
+
+  pub fault_is : EntryFault key val d cost more left bs f → EntryFaults
+  fault_is (inl h) = inl h
+  fault_is (inr (e, rest, (t, v, is), h)) = inr (t, e, rest, v, is, h)
+
+  pub is_fault : EntryFaults → EntryFault key val d cost more left bs f
+  is_fault (inl h) = inl h
+  is_fault (inr (t, e, rest, v, is, h)) = inr (e, rest, (t, v, is), h)

@@ -81,7 +81,7 @@ module _ {K V : Type 0} (key : Reading K) (val : Reading V) (d n : ℕ) where
   -- a tag, and a length and an entry behind it
   pub record_found : (bs mid rest : List ℕ) (g : ℕ) (w : WireType) (s : MapEntry K V) → tag_at bs ≡ Ok (g, w, mid) → g ≡ n → check_wire g LengthDelimited w ≡ Ok tt → (e : List ℕ) → EntryOf key val d mid e s rest →
       (r : List ℕ) × IsRecord key val d n r (record { bytes = e; parts = s }) × (bs ≡ r ++ rest)
-  record_found bs mid rest g w s h same checked e (l, v, is, entry) =
+  record_found bs mid rest g w s h same checked e ((l, v, is), entry) =
       let u : TakesTag bs g w mid = agree_ok (tag_at bs) (g, w, mid) (tag_sound bs) h in
       let wire : w ≡ LengthDelimited = checked_same g LengthDelimited w checked in
       let tag : IsTag u.0 n LengthDelimited = tag_as u.0 g n w LengthDelimited u.1 same wire in (
@@ -110,7 +110,7 @@ module _ {K V : Type 0} (key : Reading K) (val : Reading V) (d n : ℕ) where
 
   -- what follows a length and an entry is less
   pub entry_falls : (bs e : List ℕ) (s : MapEntry K V) (rest : List ℕ) → EntryOf key val d bs e s rest → length rest ≤ length bs
-  entry_falls bs e s rest (l, v, is, entry) = omega (arith, ap length is, length-append l (e ++ rest), length-append e rest)
+  entry_falls bs e s rest ((l, v, is), entry) = omega (arith, ap length is, length-append l (e ++ rest), length-append e rest)
 
   -- ---- the reading
   module _ (cost extra : ℕ) (left : BudgetLeft) where

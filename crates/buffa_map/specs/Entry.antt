@@ -1,9 +1,8 @@
 -- Map entries: a join of fields, of which those of number 1 are the key and those of number 2 the value.
 -- Source: the protobuf encoding guide, "Maps".
-use Rattle.std.specs.Prelude.{◌≡◌, ◌≢◌, ℕ, ◌+◌, ◌<◌, ◌≤◌, ◌==◌, Bool, false, true, List, [], ◌++◌, length, ◌⊎◌, if◌then◌else◌, Result, Ok}
+use Rattle.std.specs.Prelude.{◌≡◌, ◌≢◌, ℕ, ◌+◌, ◌<◌, ◌≤◌, ◌==◌, Bool, false, true, List, [], ◌++◌, ◌⊎◌, if◌then◌else◌, Result, Ok}
 use Rattle.buffa_bytes.specs.Gives.{◌>>=◌}
-use Rattle.buffa_bytes.specs.Varint.{IsVarint}
-use Rattle.buffa_bytes.specs.Field.{IsTag, Field, TakesTag, TagFault, LengthFault, PayloadFault}
+use Rattle.buffa_bytes.specs.Field.{IsTag, Field, TakesDelimited, TakesTag, TagFault, LengthFault, PayloadFault}
 use Rattle.buffa_bytes.specs.Content.{Content, HasContent}
 use Rattle.buffa_bytes.specs.Front.{tag_at, check_wire, skip_at, delimited_at}
 use Rattle.buffa_bytes.specs.Scan.{scan}
@@ -73,7 +72,7 @@ module _ {K V : Type 0} (key : Reading K) (val : Reading V) (d : ℕ) where
 
   -- a length and the entry e, which says s, begin the bytes, and rest follows
   abbrev pub EntryOf : List ℕ → List ℕ → MapEntry K V → List ℕ → Type 0
-  EntryOf bs e s rest = (t : List ℕ) × IsVarint t (length e) × (bs ≡ t ++ (e ++ rest)) × IsEntry e s
+  EntryOf bs e s rest = TakesDelimited bs e rest × IsEntry e s
 
   -- the readings: of the field at the front, and of a whole entry
   abbrev pub entry_field_at : MapEntry K V → List ℕ → Result (MapEntry K V × List ℕ) DecodeError
@@ -108,7 +107,7 @@ module _ {K V : Type 0} (key : Reading K) (val : Reading V) (d : ℕ) where
   abbrev pub EntryFault : ℕ → ℕ → BudgetLeft → List ℕ → DecodeError → Type 0
   EntryFault cost unknown_cost left bs f =
       LengthFault bs f
-      ⊎ ((t : List ℕ) × (e : List ℕ) × (rest : List ℕ) × IsVarint t (length e) × (bs ≡ t ++ (e ++ rest))
+      ⊎ ((e : List ℕ) × (rest : List ℕ) × TakesDelimited bs e rest
       × (((left.memory < cost) × (f ≡ ElementMemoryLimitExceeded))
       ⊎ ((cost ≤ left.memory) × (Lacks left (need_of cost e) ⊎ (FaultOf e f
       ⊎ ((s : MapEntry K V) × IsEntry e s × (s.known ≡ false) × (left.unknown < (need_of cost e).unknown + unknown_cost) × (f ≡ UnknownFieldLimitExceeded)))))))

@@ -1,8 +1,7 @@
 -- What the promises of entries come to where no payload is a message.
-use Rattle.std.specs.Prelude.{◌≡◌, ◌≢◌, ℕ, ◌+◌, ◌<◌, ◌≤◌, Bool, false, List, ◌++◌, length, cond, ◌⊎◌}
+use Rattle.std.specs.Prelude.{◌≡◌, ◌≢◌, ℕ, ◌+◌, ◌<◌, ◌≤◌, Bool, false, List, cond, ◌⊎◌}
 use Rattle.buffa_bytes.specs.Field.{LengthFault, TakesDelimited}
 use Rattle.buffa_wire.specs.BudgetLeft.{BudgetLeft}
-use Rattle.buffa_bytes.specs.Varint.{IsVarint}
 use Rattle.buffa_bytes.specs.declared.error.DecodeError.{DecodeError}
 use Rattle.buffa_bytes.specs.declared.error.DecodeError.TheVariants.{ElementMemoryLimitExceeded, OutOfMemory, UnknownFieldLimitExceeded}
 use Rattle.buffa_map.specs.Codec.{Reading}
@@ -14,7 +13,7 @@ use Rattle.buffa_map.specs.declared.map_entry.MapEntry.{MapEntry}
 abbrev pub PlainFault : {K V : Type 0} → Reading K → Reading V → ℕ → ℕ → ℕ → BudgetLeft → List ℕ → DecodeError → Type 0
 PlainFault {K} {V} key val d cost unknown_cost left bs f =
     LengthFault bs f
-    ⊎ ((t : List ℕ) × (e : List ℕ) × (rest : List ℕ) × IsVarint t (length e) × (bs ≡ t ++ (e ++ rest))
+    ⊎ ((e : List ℕ) × (rest : List ℕ) × TakesDelimited bs e rest
     × (((left.memory < cost) × (f ≡ ElementMemoryLimitExceeded))
     ⊎ ((cost ≤ left.memory) × (FaultOf key val d e f
     ⊎ ((s : MapEntry K V) × IsEntry key val d e s × (s.known ≡ false) × (left.unknown < unknown_cost) × (f ≡ UnknownFieldLimitExceeded))))))

@@ -93,10 +93,10 @@ module _ {K V : Type 0} (key : Reading K) (val : Reading V) (d n cost extra : �
   -- a fault that is no limit's is one whatever is left
   entry_limit : (left other : BudgetLeft) (bs : List ℕ) (f : DecodeError) → EntryFault key val d cost extra left bs f → IsLimit f ⊎ EntryFault key val d 0 0 other bs f
   entry_limit left other bs f (inl h) = inr (inl h)
-  entry_limit left other bs f (inr (t, e, rest, v, b, inl h)) = inl (subst IsLimit (sym h.1) tt)
-  entry_limit left other bs f (inr (t, e, rest, v, b, inr (some, inl h))) = absurd (enough left cost some (subst (λ z. Lacks left z) (plain e) h))
-  entry_limit left other bs f (inr (t, e, rest, v, b, inr (some, inr (inl h)))) = inr (inr (t, e, rest, v, b, inr (omega arith, inr (inl h))))
-  entry_limit left other bs f (inr (t, e, rest, v, b, inr (some, inr (inr (s, is, known, few, h))))) = inl (subst IsLimit (sym h) tt)
+  entry_limit left other bs f (inr (e, rest, t, inl h)) = inl (subst IsLimit (sym h.1) tt)
+  entry_limit left other bs f (inr (e, rest, t, inr (some, inl h))) = absurd (enough left cost some (subst (λ z. Lacks left z) (plain e) h))
+  entry_limit left other bs f (inr (e, rest, t, inr (some, inr (inl h)))) = inr (inr (e, rest, t, inr (omega arith, inr (inl h))))
+  entry_limit left other bs f (inr (e, rest, t, inr (some, inr (inr (s, is, known, few, h))))) = inl (subst IsLimit (sym h) tt)
 
   record_limit : (left other : BudgetLeft) (bs : List ℕ) (f : DecodeError) → RecordFault key val d n cost extra left bs f → IsLimit f ⊎ RecordFault key val d n 0 0 other bs f
   record_limit left other bs f (inl h) = inr (inl h)

@@ -261,10 +261,10 @@ module _ (d n : ℕ) (w : WireType) (bs : List ℕ) (left : BudgetLeft) (e : Dec
 
     at_fault : NoLimit e → EntryFault int32_reading reads d each 0 left bs e → Why
     at_fault unlimited (inl bad) = inr ((λ p more payload split. absurd (no_payload d n w p more bs e (delimited_faulty bs e bad) wire payload split)), unlimited)
-    at_fault unlimited (inr (v, b, more, varint, split, inl (few, is))) = absurd (unlimited (subst (λ z. IsLimit z) (sym is) tt))
-    at_fault unlimited (inr (v, b, more, varint, split, inr (enough, inl few))) = inl (lacking b more (delimited_taken bs b more (v, varint, split)) few)
-    at_fault unlimited (inr (v, b, more, varint, split, inr (enough, inr (inl fault)))) = inr (faulty b more (delimited_taken bs b more (v, varint, split)) fault, unlimited)
-    at_fault unlimited (inr (v, b, more, varint, split, inr (enough, inr (inr (s, entry, unknown, few, is))))) = absurd (unlimited (subst (λ z. IsLimit z) (sym is) tt))
+    at_fault unlimited (inr (b, more, t, inl (few, is))) = absurd (unlimited (subst (λ z. IsLimit z) (sym is) tt))
+    at_fault unlimited (inr (b, more, t, inr (enough, inl few))) = inl (lacking b more (delimited_taken bs b more t) few)
+    at_fault unlimited (inr (b, more, t, inr (enough, inr (inl fault)))) = inr (faulty b more (delimited_taken bs b more t) fault, unlimited)
+    at_fault unlimited (inr (b, more, t, inr (enough, inr (inr (s, entry, unknown, few, is))))) = absurd (unlimited (subst (λ z. IsLimit z) (sym is) tt))
 
     why : EntryFault int32_reading reads d each 0 left bs e → Why
     why fault = elim (limit_or_not e) [
