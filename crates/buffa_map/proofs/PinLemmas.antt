@@ -142,7 +142,7 @@ module _ {K V : Type 0} (key : Reading K) (val : Reading V) (d n cost extra : �
   record_there over rest f (inr (inr (inr (m, t, inl h)))) =
       let tag = tag_read rest m n LengthDelimited t in
       inl (λ (mid, is, ok). not_ok (delimited_at mid) f (subst (λ z. delimited_at z ≡ Err f) (sym (one_after rest mid m n n LengthDelimited LengthDelimited is tag)) (delimited_faulty m f h)) ok)
-  record_there over rest f (inr (inr (inr (m, t, inr (u, e, after, v, is, h))))) = inr (m, e, after, tag_read rest m n LengthDelimited t, (u, v, is))
+  record_there over rest f (inr (inr (inr (m, t, inr (e, after, there, h))))) = inr (m, e, after, tag_read rest m n LengthDelimited t, there)
 
 -- ---- the laws
 

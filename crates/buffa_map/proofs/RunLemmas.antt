@@ -159,7 +159,7 @@ module _ {K V : Type 0} (key : Reading K) (val : Reading V) (d n : ℕ) where
             h.2,
           );
         })
-        (λ f h. inr (inr (inr (t.2, tag, inr (b.0, e.0, e.1, b.1, b.2, h))))))
+        (λ f h. inr (inr (inr (t.2, tag, inr (e.0, e.1, b, h))))))
         (λ f short. inr (inr (inr (t.2, takes_tag_as bs t.2 t.0 n t.1 LengthDelimited u is wire, inl short)))))
         (λ f bad. inr (inr (inl (t.1, t.2, subst (λ z. TakesTag bs z t.1 t.2) is u, bad.0, bad.1)))))
         (λ other. record { holds = inr (inl (t.0, t.1, t.2, u, eqb-false t.0 n other, refl)) }))
@@ -197,7 +197,7 @@ module _ {K V : Type 0} (key : Reading K) (val : Reading V) (d n : ℕ) where
       said_faulty bs f (inr (inl (g, w, rest, t, other, is))) = answer (rw (tag_read bs rest g w t, ne_eqb g n other) (ap (λ z. Err z) (sym is)))
       said_faulty bs f (inr (inr (inl (w, rest, t, other, is)))) = answer (rw (tag_read bs rest n w t, eq-eqb n n refl, check_differs n LengthDelimited w other) (ap (λ z. Err z) (sym is)))
       said_faulty bs f (inr (inr (inr (rest, t, inl h)))) = answer (rw (tag_read bs rest n LengthDelimited t, eq-eqb n n refl, delimited_faulty rest f h) refl)
-      said_faulty bs f (inr (inr (inr (rest, t, inr (l, e, more, v, is, h))))) =
+      said_faulty bs f (inr (inr (inr (rest, t, inr (e, more, (l, v, is), h))))) =
           answers_as (λ x k. rw (tag_read bs rest n LengthDelimited t, eq-eqb n n refl, ap delimited_at is ∙ delimited_complete l e more v, k) refl) (in_faulty e f h)
 
   record_some : (r : List ℕ) (x : EntryRecord K V) → IsRecord key val d n r x → 0 < length r
