@@ -240,9 +240,9 @@ module _ {K V : Type 0} (r : Rules K V)
         let is = tag_read h.rest m r.number LengthDelimited t in
         let short = delimited_faulty m f bad in
         h_leaves.nothing_there m f is short ∙ sym (k_leaves.nothing_there m f (ap tag_at (sym stopped_same.1) ∙ is) short)
-    one_unread (inr (inr (inr (m, t, inr (u, e, after, v, split, bad))))) =
+    one_unread (inr (inr (inr (m, t, inr (e, after, there, bad))))) =
         let is = tag_read h.rest m r.number LengthDelimited t in
-        h_leaves.past ne m e after is (u, v, split) ∙ sym (k_leaves.past nf m e after (ap tag_at (sym stopped_same.1) ∙ is) (u, v, split))
+        h_leaves.past ne m e after is there ∙ sym (k_leaves.past nf m e after (ap tag_at (sym stopped_same.1) ∙ is) there)
 
     module _ (plain : Plain r.key r.val r.depth) where
       abbrev h_spends : SpendsOnRecord r h.now.left h.rest f a.left
