@@ -35,12 +35,12 @@ module _ {K V : Type 0} (key : Reading K) (val : Reading V) (d n : ℕ)
   at_no_cost cost left bs f (inr (inl h)) = inr (inr (inl h))
   at_no_cost cost left bs f (inr (inr (inl h))) = inr (inr (inr (inl h)))
   at_no_cost cost left bs f (inr (inr (inr (r, t, inl h)))) = inr (inr (inr (inr (r, t, inl h))))
-  at_no_cost cost left bs f (inr (inr (inr (r, t, inr (v, e, rest, len, is, inl h))))) = inl h.1
-  at_no_cost cost left bs f (inr (inr (inr (r, t, inr (v, e, rest, len, is, inr (enough, inl (inl few))))))) = absurd (omega (arith, few, ap (λ (z : BudgetLeft). z.unknown) (needs cost e)))
-  at_no_cost cost left bs f (inr (inr (inr (r, t, inr (v, e, rest, len, is, inr (enough, inl (inr few))))))) = absurd (omega (arith, enough, few, ap (λ (z : BudgetLeft). z.memory) (needs cost e)))
-  at_no_cost cost left bs f (inr (inr (inr (r, t, inr (v, e, rest, len, is, inr (enough, inr (inl h))))))) =
-      inr (inr (inr (inr (r, t, inr (v, e, rest, len, is, inr (omega arith, inr (inl h)))))))
-  at_no_cost cost left bs f (inr (inr (inr (r, t, inr (v, e, rest, len, is, inr (enough, inr (inr h))))))) = absurd (omega (arith, h.3, ap (λ (z : BudgetLeft). z.unknown) (needs cost e)))
+  at_no_cost cost left bs f (inr (inr (inr (r, t, inr (e, rest, there, inl h))))) = inl h.1
+  at_no_cost cost left bs f (inr (inr (inr (r, t, inr (e, rest, there, inr (enough, inl (inl few))))))) = absurd (omega (arith, few, ap (λ (z : BudgetLeft). z.unknown) (needs cost e)))
+  at_no_cost cost left bs f (inr (inr (inr (r, t, inr (e, rest, there, inr (enough, inl (inr few))))))) = absurd (omega (arith, enough, few, ap (λ (z : BudgetLeft). z.memory) (needs cost e)))
+  at_no_cost cost left bs f (inr (inr (inr (r, t, inr (e, rest, there, inr (enough, inr (inl h))))))) =
+      inr (inr (inr (inr (r, t, inr (e, rest, there, inr (omega arith, inr (inl h)))))))
+  at_no_cost cost left bs f (inr (inr (inr (r, t, inr (e, rest, there, inr (enough, inr (inr h))))))) = absurd (omega (arith, h.3, ap (λ (z : BudgetLeft). z.unknown) (needs cost e)))
 
   paid_at : (cost : ℕ) (es : List (EntryRecord K V)) (left over : BudgetLeft) → over.memory + length es * cost ≡ left.memory → over.unknown ≡ left.unknown → ArePaid key val d cost 0 left es over
   paid_at cost es left over m u = (omega (arith, m, ap (λ (z : BudgetLeft). z.memory) (inner es)), omega (arith, u, ap (λ (z : BudgetLeft). z.unknown) (inner es)))
