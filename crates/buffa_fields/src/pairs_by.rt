@@ -51,6 +51,9 @@ where
         cache.old result cache.new }
     ensures some { OnErr result (means KC.Value.meaning M.meaning map.now.entries ≢ []) }
 {
+    if map.is_empty() {
+        return Ok(0);
+    }
     let tag = Tag::new(number, WireType::LengthDelimited).encoded_len() as u64;
     let total = message_field_len_by::<KC, M, BTreeMap<KC::Value, M>, F>(map, tag, cache, size)?;
     Ok(capped(total))
@@ -78,6 +81,9 @@ where
     ensures { WritesPairs cache.old (S.written sink.old) result cache.new (S.written sink.new) M.encoding M.slots number
         KC.writing (means KC.Value.meaning M.meaning map.now.entries) }
 {
+    if map.is_empty() {
+        return Ok(());
+    }
     write_message_field_by::<KC, M, BTreeMap<KC::Value, M>, S, F>(map, number, cache, sink, write)
 }
 
