@@ -32,7 +32,8 @@ use buffa_wire::{
 use std::alloc::Global;
 use std::collections::BTreeMap;
 
-// The length of a map field of messages, or 2^32 - 1 where it is more, by a function that sizes a message.
+// The length of a map field of messages, or 2^32 - 1 where it is more, by a function that sizes a message. Most messages of
+// a tree have no pairs, and are not walked.
 pub(crate) fn pairs_len_by<'a, KC: MapCodec, M: MessageSpec + 'a, F>(
     number: u32,
     map: &'a BTreeMap<KC::Value, M>,
