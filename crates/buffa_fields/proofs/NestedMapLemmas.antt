@@ -2,19 +2,21 @@
 use Rattle.std.proofs.Common.{◌≡◌, ◌≢◌, ℕ, List, [], ◌∷◌, length, Result, Ok, Err, IsOk, OnErr, refl, sym, ap, ◌∙◌, arith}
 use Rattle.buffa_bytes.specs.declared.error.EncodeError.{EncodeError}
 use Rattle.buffa_bytes.specs.declared.wire_type.WireType.TheVariants.{LengthDelimited}
-use Rattle.buffa_wire.proofs.PassLemmas.{written_same}
+use Rattle.buffa_wire.proofs.PassLemmas.{written_none, written_same}
 use Rattle.buffa_wire.proofs.SpentLemmas.{is_there}
 use Rattle.buffa_wire.specs.Cache.{Cache}
 use Rattle.buffa_wire.specs.Passes.{IsSized, IsSmall, IsWritten, cap}
 use Rattle.buffa_wire.specs.Encoding.{records_encoding}
+use Rattle.buffa_wire.specs.Pinned.{done}
 use Rattle.buffa_bytes.specs.Values.{tag_encoding}
 use Rattle.buffa_map.proofs.MessageFieldLemmas.{small_field}
 use Rattle.buffa_map.proofs.SizeLemmas.{length-field_encoding}
 use Rattle.buffa_map.specs.Codec.{Writing}
 use Rattle.buffa_map.specs.MessageField.{IsFieldSized, IsFieldWritten, IsSmallField, field_slots}
+use Rattle.buffa_map.specs.Pairs.{means}
 use Rattle.buffa_map.specs.Scalars.{delimited_writing}
 use Rattle.buffa_map.specs.Encoding.{field_size, field_encoding}
-use Rattle.buffa_fields.specs.facts.LayoutFacts.{failed, sum}
+use Rattle.buffa_fields.specs.facts.LayoutFacts.{failed, sized_free, sum}
 use Rattle.buffa_fields.specs.facts.MapFacts.{map_encoding}
 use Rattle.buffa_fields.specs.NestedMaps.{pair_records, pair_slots}
 
@@ -28,6 +30,20 @@ no_pairs encoding slots (p ∷ ps) none = cc
 pub all_sized : {K X : Type 0} (encoding slots : X → List ℕ) (l : List (K × X)) (r : Result ℕ EncodeError) → OnErr r (l ≢ []) → pair_slots encoding slots l ≡ [] → IsOk r
 all_sized encoding slots l (Ok n) h none = let r : Result ℕ EncodeError = Ok n in is_there r n refl
 all_sized encoding slots l (Err e) h none = absurd (h (no_pairs encoding slots l none))
+
+-- no pairs: an empty encoding, and no slots
+module _ {A B K X : Type 0} (f : A → K) (g : B → X) (key : Writing K) (encoding slots : X → List ℕ) (n : ℕ) where
+  pub none_sized : (es : List (A × B)) (c : Cache) → length es ≡ 0 →
+      IsSized (records_encoding (pair_records key encoding n (means f g es))) (pair_slots encoding slots (means f g es)) c (sum 0) c
+  unfolding pair_records pair_slots
+  none_sized [] c none = sized_free [] 0 c refl
+  none_sized (e ∷ es) c none = cc
+
+  pub none_written : (es : List (A × B)) (c : Cache) (b : List ℕ) → length es ≡ 0 →
+      IsWritten (records_encoding (pair_records key encoding n (means f g es))) (pair_slots encoding slots (means f g es)) c b done c b
+  unfolding pair_records pair_slots
+  none_written [] c b none = written_none (IsSmall []) c b
+  none_written (e ∷ es) c b none = cc
 
 -- the passes
 module _ {K X : Type 0} (key : Writing K) (encoding slots : X → List ℕ) (n : ℕ) (l : List (K × X)) where

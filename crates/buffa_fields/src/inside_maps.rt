@@ -22,7 +22,8 @@ use buffa_wire::{Budget, DecodeContext, DecodeError, EncodeError, EncodeSink, Si
 use std::alloc::Global;
 use std::collections::BTreeMap;
 
-// Adds the length of a map of messages to a sum.
+// Adds the length of a map of messages to a sum. Only memory can run out: an error that is named here, and not handed on, is
+// a constant, which costs a message that is sized nothing on its way out.
 pub(crate) fn map_counted<'a, KC: MapCodec, M: SelfListing + 'a, F>(
     total: u32,
     number: u32,
@@ -44,11 +45,13 @@ where
         (name : ℕ) (z : Seen) → IsCounted name (Ok total) cache.old z →
         IsCounted name result cache.new (visited s number (M.laying.of_pairs (means KC.Value.meaning M.meaning map.now.entries)) z) }
 {
-    let len = pairs_len_by::<KC, M, F>(number, map, cache, size)?;
-    Ok(total.saturating_add(len))
+    match pairs_len_by::<KC, M, F>(number, map, cache, size) {
+        Ok(len) => Ok(total.saturating_add(len)),
+        Err(_) => Err(EncodeError::OutOfMemory),
+    }
 }
 
-// Writes a map of messages behind what was written.
+// Writes a map of messages behind what was written. Here too the one error is named.
 pub(crate) fn map_put<'a, KC: MapCodec, M: SelfListing + 'a, S: EncodeSink, F>(
     number: u32,
     map: &'a BTreeMap<KC::Value, M>,
@@ -78,7 +81,10 @@ where
         (rest : List ℕ) → Follow (s.slots (M.laying.of_pairs (means KC.Value.meaning M.meaning map.now.entries)) ++ rest) (Ok tt) cache.old →
         Follow rest result cache.new }
 {
-    write_pairs_by::<KC, M, S, F>(number, map, cache, sink, write)
+    match write_pairs_by::<KC, M, S, F>(number, map, cache, sink, write) {
+        Ok(()) => Ok(()),
+        Err(_) => Err(EncodeError::OutOfMemory),
+    }
 }
 
 /// Merges the entry of the field whose tag was read: its message into a default one, which takes the place of the key's.

@@ -32,7 +32,8 @@ use buffa_wire::{
 use std::alloc::Global;
 use std::collections::BTreeMap;
 
-// The length of a map field of messages, or 2^32 - 1 where it is more, by a function that sizes a message.
+// The length of a map field of messages, or 2^32 - 1 where it is more, by a function that sizes a message. Most messages of
+// a tree have no pairs, and are not walked.
 pub(crate) fn pairs_len_by<'a, KC: MapCodec, M: MessageSpec + 'a, F>(
     number: u32,
     map: &'a BTreeMap<KC::Value, M>,
@@ -51,6 +52,9 @@ where
         cache.old result cache.new }
     ensures some { OnErr result (means KC.Value.meaning M.meaning map.now.entries ≢ []) }
 {
+    if map.is_empty() {
+        return Ok(0);
+    }
     let tag = Tag::new(number, WireType::LengthDelimited).encoded_len() as u64;
     let total = message_field_len_by::<KC, M, BTreeMap<KC::Value, M>, F>(map, tag, cache, size)?;
     Ok(capped(total))
@@ -78,6 +82,9 @@ where
     ensures { WritesPairs cache.old (S.written sink.old) result cache.new (S.written sink.new) M.encoding M.slots number
         KC.writing (means KC.Value.meaning M.meaning map.now.entries) }
 {
+    if map.is_empty() {
+        return Ok(());
+    }
     write_message_field_by::<KC, M, BTreeMap<KC::Value, M>, S, F>(map, number, cache, sink, write)
 }
 
