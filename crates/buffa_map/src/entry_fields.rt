@@ -10,7 +10,9 @@ ghost use Rattle.buffa_map.specs.Fields.{MergesEntryField, MergesFields, Refuses
 use crate::codec::{MapValueDecode, MapValueDecodeStatus};
 use crate::map_entry::MapEntry;
 use crate::merge_value::MergeValue;
-use buffa_wire::{Blank, Buf, DecodeContext, DecodeError, Tag, WireType, check_wire_type, skip_field_depth};
+use buffa_wire::{
+    Blank, Buf, DecodeContext, DecodeError, Tag, WireType, check_wire_type, skip_field_depth,
+};
 use std::alloc::Global;
 
 // Takes the tag at the front, where it is a byte, that of this number and wire type.
