@@ -1,8 +1,11 @@
 -- A field of an entry that was merged, or refused, at each place where reading it ends; and the fields of an entry.
-use Rattle.std.proofs.Common.{arith, ◌≡◌, ◌≢◌, ◌+◌, ◌<◌, ◌≤◌, inl, inr, ℕ, Bool, false, List, [], Ok, Err, length, ap, refl, subst, sym, ◌∙◌}
-use Rattle.std.proofs.lemmas.List.{nil_from_length}
+use Rattle.std.proofs.Common.{arith, ◌≡◌, ◌≢◌, ◌+◌, ◌*◌, ◌<◌, ◌≤◌, inl, inr, ℕ, Bool, false, List, [], ◌∷◌, ◌++◌, Ok, Err, drop, get_or, length, ap, refl, subst, sym, ◌∙◌}
+use Rattle.std.proofs.lemmas.List.{nil_from_length, take-append-drop}
 use Rattle.buffa_bytes.proofs.SequenceLemmas.{not_nil}
-use Rattle.buffa_bytes.proofs.FieldLemmas.{tag_at_as}
+use Rattle.buffa_bytes.proofs.FieldLemmas.{tag_at_as, tag_read, wire_small}
+use Rattle.buffa_bytes.specs.Unread.{IsChunkOf}
+use Rattle.buffa_bytes.specs.Varint.{IsVarint}
+use Rattle.buffa_bytes.specs.WireType.{wire_number}
 use Rattle.buffa_bytes.proofs.FullLemmas.{skip_no_full, tag_no_full}
 use Rattle.buffa_bytes.specs.declared.error.DecodeError.{DecodeError}
 use Rattle.buffa_bytes.specs.declared.error.DecodeError.TheVariants.{OutOfMemory}
@@ -19,7 +22,31 @@ use Rattle.buffa_map.specs.declared.codec.MapValueDecodeStatus.{MapValueDecodeSt
 use Rattle.buffa_map.specs.declared.codec.MapValueDecodeStatus.TheVariants.{Known, Unknown}
 use Rattle.buffa_map.specs.declared.map_entry.MapEntry.{MapEntry}
 use Rattle.buffa_map.proofs.EntryLemmas.{field_shorter, field_step, refused_in, spent_in, value_free}
-use Rattle.buffa_map.proofs.NeedLemmas.{field_broken, fields_fault, fields_spent, key_mismatch, key_refused, need-key, need-value, need_end, need_step, other_broken, value_merged, value_mismatch, value_refused}
+use Rattle.buffa_map.proofs.NeedLemmas.{field_broken, fields_fault, fields_spent, key_merged, key_mismatch, key_refused, need-key, need-value, need_end, need_step, other_broken, value_merged, value_mismatch, value_refused}
+
+-- ---- a tag of one byte
+-- the first of the bytes that lie together at the front is the first of all
+first_of_chunk : (part all : List ℕ) (b d : ℕ) → IsChunkOf part all → 0 < length part → b ≡ get_or part 0 d → all ≡ b ∷ drop 1 all
+first_of_chunk [] all b d c some is = absurd (omega (arith, some))
+first_of_chunk (x ∷ xs) all b d c some is =
+    let more = drop (length (x ∷ xs)) all in
+    let whole : all ≡ x ∷ (xs ++ more) = sym (ap (λ z. z ++ more) (sym c.front) ∙ take-append-drop (length (x ∷ xs)) all) in
+    whole ∙ ap (λ z. x ∷ z) (sym (ap (drop 1) whole)) ∙ ap (λ z. z ∷ drop 1 all) (sym is)
+
+-- a tag of a number below 16 is read of the byte that spells it
+pub tag_of_byte : (part all : List ℕ) (b d n : ℕ) (w : WireType) → IsChunkOf part all → 0 < length part → b ≡ get_or part 0 d → b ≡ n * 8 + wire_number w → (0 < n) × (n < 16) → tag_at all ≡ Ok (n, w, drop 1 all)
+tag_of_byte part all b d n w c some first is small =
+    let spelled : IsVarint (b ∷ []) (8 * n + wire_number w) = record {
+      front = [];
+      last = b;
+      spelled = refl;
+      continue = tt;
+      ends = omega (arith, is, small.1, wire_small w);
+      short = omega arith;
+      value = omega (arith, is, small.1, wire_small w);
+      fits = omega (arith, small.1, wire_small w);
+    } in
+    tag_read all (drop 1 all) n w (b ∷ [], ((small.0, omega (arith, small.1)), spelled), first_of_chunk part all b d c some first)
 
 module _ {K V : Type 0} (key : Reading K) (val : Reading V) (d : ℕ) (s : MapEntry K V) (left : BudgetLeft) (bs : List ℕ) where
   -- nothing was spent
@@ -44,6 +71,13 @@ module _ {K V : Type 0} (key : Reading K) (val : Reading V) (d : ℕ) (s : MapEn
             full = λ out. inl (rest, tag_at_as bs rest n 1 w key.wire tag one same, full out);
             pays = subst (λ z. PaysAtMost left z over) (sym (need-key key val d bs rest n w tag one same)) paid;
           }
+
+      pub good_key : {T : Type 0} (x : T) (over : BudgetLeft) (after : List ℕ) (new : K) (known : Bool) → check_wire n v w ≡ Ok tt → (key.nested ≡ false → (c : Content) → key.cost d c ≡ nothing) →
+          value_at key d s.key rest ≡ Ok ((new, known), after) → Spends {T = T} key.nested (Ok x) left (value_need key d rest) over → MergesEntryField key val d s left bs (record s { key = new }) over after
+      good_key {T = T} x over after new known wire free reads spent =
+          let paid : Pays left (value_need key d rest) over = spent_in {T = T} key.nested (Ok x) left (value_need key d rest) over (λ plain. value_free key d s.key rest (free plain)) spent in
+          let both = key_merged key val d s bs rest after n w new known left over tag one (checked_same n v w wire ∙ is) reads paid in
+          record { field = both.0; pays = both.1 }
 
     module _ (not_one : n ≢ 1) (two : n ≡ 2) (v : WireType) (is : v ≡ val.wire) where
       pub wrong_value : (f : DecodeError) → check_wire n v w ≡ Err f → RefusesEntryField key val d s left bs left f

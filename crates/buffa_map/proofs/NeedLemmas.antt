@@ -79,6 +79,14 @@ module _ {K V : Type 0} (key : Reading K) (val : Reading V) (d : ℕ) where
   other_broken s bs rest n w e h not_one not_two bad = field_broken s bs e (rw (h, ne_eqb n 1 not_one, ne_eqb n 2 not_two, bad) refl)
 
   -- a value field is merged, and paid
+  pub key_merged : (s : MapEntry K V) (bs rest x : List ℕ) (n : ℕ) (w : WireType) (k : K) (known : Bool) (left over : BudgetLeft) → tag_at bs ≡ Ok (n, w, rest) → n ≡ 1 → w ≡ key.wire →
+      value_at key d s.key rest ≡ Ok ((k, known), x) → Pays left (value_need key d rest) over →
+      (entry_field_at key val d s bs ≡ Ok (record s { key = k }, x)) × Pays left (field_need key val d bs) over
+  key_merged s bs rest x n w k known left over h one same e paid = (
+    rw (h, eq-eqb n 1 one, check_same 1 key.wire w same, e) refl,
+    subst (λ z. Pays left z over) (sym (need-key bs rest n w h one same)) paid,
+  )
+
   pub value_merged : (s : MapEntry K V) (bs rest x : List ℕ) (n : ℕ) (w : WireType) (v : V) (known now : Bool) (left over : BudgetLeft) → tag_at bs ≡ Ok (n, w, rest) → n ≢ 1 → n ≡ 2 → w ≡ val.wire →
       value_at val d s.value rest ≡ Ok ((v, known), x) → known ≡ now → Pays left (value_need val d rest) over →
       (entry_field_at key val d s bs ≡ Ok (record s { value = v; known = now }, x)) × Pays left (field_need key val d bs) over

@@ -1,6 +1,8 @@
 //! The fields of an entry.
 
-ghost use Rattle.std.specs.Prelude.{◌≡◌, IfErr, IfOk, OnOk};
+ghost use Rattle.std.specs.Prelude.{◌≡◌, ◌<◌, IfErr, IfOk, MatchOption, Ok, OnOk};
+ghost use Rattle.buffa_bytes.specs.Front.{tag_at};
+ghost use Rattle.buffa_bytes.specs.Gives.{Gives};
 ghost use Rattle.buffa_wire.specs.BudgetLeft.{budget_left};
 ghost use Rattle.buffa_map.specs.Entry.{meant_entry};
 ghost use Rattle.buffa_map.specs.Fields.{MergesEntryField, MergesFields, RefusesEntryField, RefusesFields};
@@ -8,8 +10,42 @@ ghost use Rattle.buffa_map.specs.Fields.{MergesEntryField, MergesFields, Refuses
 use crate::codec::{MapValueDecode, MapValueDecodeStatus};
 use crate::map_entry::MapEntry;
 use crate::merge_value::MergeValue;
-use buffa_wire::{Blank, Buf, DecodeContext, DecodeError, Tag, check_wire_type, skip_field_depth};
+use buffa_wire::{
+    Blank, Buf, DecodeContext, DecodeError, Tag, WireType, check_wire_type, skip_field_depth,
+};
 use std::alloc::Global;
+
+// Takes the tag at the front, where it is a byte, that of this number and wire type.
+#[inline(always)]
+fn take_tag<B: Buf>(buf: &mut B, number: u32, wire_type: WireType) -> Option<Tag>
+    requires { (0 < number) × (number < 16) }
+    ensures taken { MatchOption result (B.unread buf.new ≡ B.unread buf.old)
+        (λ tag. tag_at (B.unread buf.old) ≡ Ok (tag.number, tag.wire_type, B.unread buf.new)) }
+    ensures kept { B.beyond buf.new ≡ B.beyond buf.old }
+{
+    let byte = *buf.chunk().first()?;
+    if u32::from(byte) != number * 8 + wire_type.number() {
+        return None;
+    }
+    buf.advance(1);
+    Some(Tag::new(number, wire_type))
+}
+
+// Reads the tag at the front. It is compared first with those of a byte that a key and a value have as a rule.
+#[inline(always)]
+fn read_tag<KC: MapValueDecode, W: MergeValue, B: Buf>(buf: &mut B) -> Result<Tag, DecodeError>
+    ensures reads { Gives (λ tag. (tag.number, tag.wire_type, B.unread buf.new)) result
+        (tag_at (B.unread buf.old)) }
+    ensures kept { B.beyond buf.new ≡ B.beyond buf.old }
+{
+    if let Some(tag) = take_tag(buf, 1, KC::WIRE_TYPE) {
+        return Ok(tag);
+    }
+    if let Some(tag) = take_tag(buf, 2, W::WIRE_TYPE) {
+        return Ok(tag);
+    }
+    Tag::decode(buf)
+}
 
 // Merges the field at the front.
 fn merge_field<KC: MapValueDecode, W: MergeValue, B: Buf>(
@@ -26,7 +62,7 @@ fn merge_field<KC: MapValueDecode, W: MergeValue, B: Buf>(
         ctx.entry.budget.now (B.unread buf.old) (budget_left ctx.exit)) }
     ensures kept { B.beyond buf.new ≡ B.beyond buf.old }
 {
-    let tag = Tag::decode(buf)?;
+    let tag = read_tag::<KC, W, B>(buf)?;
     if tag.field_number() == 1 {
         check_wire_type(tag, KC::WIRE_TYPE)?;
         KC::merge(alloc, &mut parts.key, buf, ctx)?;

@@ -2,7 +2,7 @@ use Rattle.std.proofs.Common.{◌≡◌, ◌∙◌, sym, ap}
 use Rattle.buffa_map.specs.declared.codec.MapValueDecodeStatus.{MapValueDecodeStatus}
 use Rattle.std.proofs.lemmas.Result.{err_from_is_err_and}
 use Rattle.buffa_map.specs.Codec.{is_known}
-use Rattle.buffa_map.proofs.FieldsLemmas.{bad_key, bad_other, bad_value, good_value, no_tag, not_known, wrong_key, wrong_value}
+use Rattle.buffa_map.proofs.FieldsLemmas.{bad_key, bad_other, bad_value, good_key, good_value, no_tag, not_known, wrong_key, wrong_value}
 use Rattle.buffa_map.proofs.entry_fields.merge_field.Goals as goal
 use Rattle.buffa_map.proofs.entry_fields.merge_field.Goals.{in-Known, in_default}
 
@@ -45,6 +45,13 @@ returns-in_err-skip_field_depth-clause-err g c =
     let p = err_from_is_err_and c.from_residual-in_err-skip_field_depth.result c.from_residual-in_err-skip_field_depth.ensures.1 in
     rw (p.1, p.2) (bad_other _ _ _ _ _ _ _ _ _ c.in_ok-tag.ensures.reads c.in_err-skip_field_depth.field-0.0 (λ e. c.if-field_number-eq1.false (c.field_number.ensures ∙ e))
     (λ e. c.if-field_number-eq2.false (c.field_number-else-field_number-eq1.ensures ∙ e)) c.in_err-skip_field_depth.ensures.reads)
+
+pub returns-in_ok-merge-clause-ok : goal.returns-in_ok-merge-clause-ok
+returns-in_ok-merge-clause-ok g c =
+    let one = sym c.field_number.ensures ∙ c.if-field_number-eq1.true in
+    let wire = c.WIRE_TYPE.ensures ∙ sym g.met.KC.MapValueDecode.wire in
+    good_key _ _ _ _ _ _ _ _ _ c.in_ok-tag.ensures.reads one c.WIRE_TYPE.result wire c.in_ok-merge.field-0 _ _ _ _ c.in_ok-check_wire_type.ensures
+    (λ plain. g.met.KC.MapValueDecode.free plain c.args.ctx.depth) c.in_ok-merge.ensures.ok c.in_ok-merge.ensures.spends
 
 pub returns-after-status-clause-ok : goal.returns-after-status-clause-ok
 returns-after-status-clause-ok g c =
