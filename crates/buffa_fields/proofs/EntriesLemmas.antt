@@ -84,10 +84,10 @@ module _ {K V X : Type 0} (r : Rules K V) (does : X → List ℕ → MapEntry K 
         at : NoLimit f → EntryFault r.key r.val r.depth r.cost (unknown_cost r) s.left bs f →
             Lacks s.left (entry_cost costs r.depth n w bs) ⊎ (Untaken (entry_taken r.key r.val does) r.depth old n w bs × NoLimit f)
         at unlimited (inl len) = inr ((λ p more payload split. absurd (no_payload r.depth n w p more bs f (delimited_faulty bs f len) wire payload split)), unlimited)
-        at unlimited (inr (e, more, t, inl (few, is))) = absurd (unlimited (subst (λ z. IsLimit z) (sym is) tt))
-        at unlimited (inr (e, more, t, inr (enough, inl lack))) = inl (rw (wire, delimited_taken bs e more (v, varint, split)) (lacked e (inl lack)))
-        at unlimited (inr (e, more, t, inr (enough, inr (inl fault)))) = inr (refused_at e f fault more (delimited_taken bs e more t), unlimited)
-        at unlimited (inr (e, more, t, inr (enough, inr (inr (m, entry, known, few, is))))) = absurd (unlimited (subst (λ z. IsLimit z) (sym is) tt))
+        at unlimited (inr (e, more, there, inl (few, is))) = absurd (unlimited (subst (λ z. IsLimit z) (sym is) tt))
+        at unlimited (inr (e, more, there, inr (enough, inl lack))) = inl (rw (wire, delimited_taken bs e more there) (lacked e (inl lack)))
+        at unlimited (inr (e, more, there, inr (enough, inr (inl fault)))) = inr (refused_at e f fault more (delimited_taken bs e more there), unlimited)
+        at unlimited (inr (e, more, there, inr (enough, inr (inr (m, entry, known, few, is))))) = absurd (unlimited (subst (λ z. IsLimit z) (sym is) tt))
 
     -- what is left then is what the rules say; or the unknown field is given back
     module _ (f : DecodeError) (after : BudgetLeft) (k : RefusesEntry r s bs t rest f) (units : after.memory ≡ t.left.memory) (most : after.unknown ≤ s.left.unknown)
