@@ -3,15 +3,17 @@ from blocks import Block, blocks, holds_messages, lends, pieces
 from names import snake
 from oneof import OneOf
 
-# As many members that hold messages by one member type are proved without an answer, and as many by any.
+# As many members that hold messages by one member type are proved without an answer, as many by any, and as many members in front of the
+# second one that holds messages.
 ALIKE = 2
 IN_ALL = 3
+IN_FRONT = 4
 # Of as many blocks it is proved without an answer that they were visited in turn.
 MOST_SEEN = 10
 
 
 def to_answer(message):
-    """The places of the members whose call of `visit` is answered: behind two that hold messages by the same member type, or three in all; and all behind a block."""
+    """The places of the members whose call of `visit` is answered: behind two that hold messages by the same member type, or three in all, or one and some others; and all behind a block."""
     seen, found, is_behind = {}, [], False
     for at, member in enumerate(pieces(message)):
         if is_behind and lends(message, member):
@@ -21,7 +23,7 @@ def to_answer(message):
             continue
         kind = "OneOf" if isinstance(member, OneOf) else member.member_type.split("<")[0]
         seen[kind] = seen.get(kind, 0) + 1
-        if max(seen.values()) > ALIKE or sum(seen.values()) > IN_ALL:
+        if max(seen.values()) > ALIKE or sum(seen.values()) > IN_ALL or sum(seen.values()) > 1 and at > IN_FRONT:
             found.append(at)
     return found
 

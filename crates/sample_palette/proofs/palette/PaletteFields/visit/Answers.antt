@@ -1,0 +1,4 @@
+use Rattle.sample_palette.proofs.palette.PaletteFields.visit.Goals as goal
+
+pub visit-requires-3-clause-comes : goal.visit-requires-3-clause-comes
+visit-requires-3-clause-comes g c = g.V.Visitor.begins _ _ _ (c.visit-2.ensures.waits _ (c.visit_keeping-5.ensures.waits _ (c.visit_keeping-4.ensures.waits _ (c.visit_keeping-3.ensures.waits _ (c.visit_keeping-2.ensures.waits _ (c.visit_keeping.ensures.waits _ (c.visit.ensures.waits _ c.requires)))))))
