@@ -1,5 +1,5 @@
 -- The last record that is read.
-use Rattle.std.proofs.Common.{◌≡◌, ◌≢◌, ℕ, ◌+◌, ◌-◌, ◌<◌, ◌≤◌, List, [], ◌∷◌, ◌++◌, Option, Some, None, Result, Ok, Err, refl, sym, ◌∙◌, ap, take, drop, length, get_or, arith}
+use Rattle.std.proofs.Common.{◌≡◌, ◌≢◌, ℕ, ◌+◌, ◌-◌, ◌<◌, ◌≤◌, List, [], ◌∷◌, ◌++◌, Option, Some, None, Result, Ok, Err, sym, ◌∙◌, ap, take, drop, length, get_or, arith}
 use Rattle.std.specs.Result.{OnErr}
 use Rattle.std.specs.List.{filter_map, last_or, cons_option}
 use Rattle.std.proofs.lemmas.List.{drop_more}

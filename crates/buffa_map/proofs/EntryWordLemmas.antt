@@ -6,7 +6,7 @@ use Rattle.std.specs.Prelude.{IsOk}
 use Rattle.std.specs.List.{filter}
 use Rattle.std.specs.Map.{lookup_entry}
 use Rattle.buffa_bytes.proofs.DelimitedLemmas.{delimited_sound}
-use Rattle.buffa_bytes.proofs.FieldLemmas.{same_refl, tag_complete, tag_falls, tag_sound}
+use Rattle.buffa_bytes.proofs.FieldLemmas.{same_refl, tag_complete, tag_falls}
 use Rattle.buffa_bytes.proofs.ContentLemmas.{content_complete}
 use Rattle.buffa_bytes.proofs.FullLemmas.{delimited_full}
 use Rattle.buffa_bytes.proofs.LeftLemmas.{no_delimited_cut, no_number}

@@ -19,7 +19,7 @@ use Rattle.buffa_map.specs.Entry.{EntryFault, inner_need, need_at, need_of, blan
 use Rattle.buffa_map.specs.Merge.{RefusesEntry, Rules, State, RefusesRun, unknown_cost, kept_of_entry, kept_of_run}
 use Rattle.buffa_map.specs.Pairs.{SamePairs}
 use Rattle.buffa_map.specs.Pinned.{SameState, EntryIsPinned, RunIsPinned, ValueIsPinned}
-use Rattle.buffa_map.specs.Run.{EntryRecord, ArePaid, RecordFault, Run, RunFault, fold_entries, inner_needs, record_at, step, undeclared}
+use Rattle.buffa_map.specs.Run.{EntryRecord, ArePaid, RecordFault, Run, fold_entries, inner_needs, record_at, step, undeclared}
 use Rattle.buffa_map.proofs.EntryLemmas.{Plain, need_by-nothing, value_faulty}
 use Rattle.buffa_map.proofs.FrontLemmas.{paid_no_fault, same_front, same_taken}
 use Rattle.buffa_map.proofs.NeedLemmas.{need_free}

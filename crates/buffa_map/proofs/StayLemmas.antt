@@ -1,5 +1,5 @@
 -- What each payload keeps of a value, all bytes keep.
-use Rattle.std.proofs.Common.{◌≡◌, ℕ, List, ◌++◌, Option, None, Some, refl, sym, ap, subst, ◌∙◌, append_assoc}
+use Rattle.std.proofs.Common.{◌≡◌, ℕ, List, ◌++◌, Option, Some, refl, sym, ap, subst, ◌∙◌, append_assoc}
 use Rattle.buffa_bytes.specs.Number.{IsNumber}
 use Rattle.buffa_bytes.specs.Varint.{IsByte}
 use Rattle.buffa_wire.proofs.JoinLemmas.{join_records, payload_of_record}

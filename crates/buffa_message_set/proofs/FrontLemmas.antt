@@ -1,7 +1,7 @@
 -- What stands in front of an Item makes another one.
 use Rattle.std.proofs.Common.{◌≡◌, ◌≢◌, ◌⊎◌, inl, inr, ℕ, ◌<◌, ◌==◌, Bool, true, false, Err, if◌then◌else◌, List, [], ◌∷◌, ◌++◌, length, Option, None, Some, refl, sym, ap, subst, ◌∙◌, arith, append_assoc, append-nil}
 use Rattle.std.proofs.lemmas.Bool.{eqb-true}
-use Rattle.buffa_bytes.specs.Field.{Field, IsTag, LengthFault, PayloadFault, TagFault, TakesDelimited, TakesTag}
+use Rattle.buffa_bytes.specs.Field.{Field, IsTag, LengthFault, PayloadFault, TagFault}
 use Rattle.buffa_bytes.specs.Field.{SomeField}
 use Rattle.buffa_bytes.specs.Join.{Join}
 use Rattle.buffa_bytes.specs.Sequence.{ParsesEach, join}

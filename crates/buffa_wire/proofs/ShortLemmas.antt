@@ -1,18 +1,11 @@
 -- Varints of one to three bytes.
-use Rattle.std.proofs.Common.{◌≡◌, ℕ, ◌+◌, ◌*◌, ◌/◌, ◌%◌, ◌<◌, ◌≤◌, List, [], ◌∷◌, ◌++◌, Ok, length, drop, get_or, refl, sym, ap, subst, ◌∙◌, arith}
+use Rattle.std.proofs.Common.{◌≡◌, ℕ, ◌+◌, ◌/◌, ◌%◌, ◌<◌, ◌≤◌, List, [], ◌∷◌, ◌++◌, get_or, refl, sym, ap, subst, ◌∙◌, arith}
 use Rattle.std.specs.Prelude.{Result}
-use Rattle.std.proofs.lemmas.Bool.{lt-ltb, le-ltb}
-use Rattle.std.proofs.lemmas.List.{take-append-drop, drop-append-le}
 use Rattle.buffa_bytes.specs.declared.error.EncodeError.{EncodeError}
-use Rattle.buffa_bytes.specs.Front.{varint_at, varint_within}
 use Rattle.buffa_bytes.specs.Scalars.{fixed32_encoding, fixed64_encoding}
-use Rattle.buffa_bytes.specs.Unread.{IsChunkOf}
 use Rattle.buffa_bytes.specs.Varint.{varint_encoding}
 use Rattle.buffa_bytes.specs.Written.{UsesRoom, Writes}
-use Rattle.buffa_bytes.proofs.StepLemmas.{agree_ok}
 use Rattle.buffa_bytes.proofs.ShortestLemmas.{varint_encoding-last, varint_encoding-more}
-use Rattle.buffa_bytes.proofs.VarintLemmas.{varint_sound, varint_complete}
-use Rattle.buffa_bytes.proofs.FieldLemmas.{onward}
 
 pub encoding_one : (n a : ℕ) → n < 128 → a ≡ n → a ∷ [] ≡ varint_encoding n
 encoding_one n a h e = ap (λ z. z ∷ []) e ∙ sym (varint_encoding-last n h)

@@ -1,5 +1,5 @@
 -- Writes one after another, on known bytes.
-use Rattle.std.proofs.Common.{◌≡◌, ◌+◌, ℕ, List, [], ◌++◌, Option, Some, None, Bool, true, false, ◌⊎◌, inl, inr, sym, ap, ◌∙◌, take, drop, length, arith}
+use Rattle.std.proofs.Common.{◌≡◌, ◌+◌, ℕ, List, [], ◌++◌, Option, Some, None, Bool, true, false, inl, inr, sym, ap, ◌∙◌, take, drop, length, arith}
 use Rattle.std.specs.Prelude.{IfSome}
 use Rattle.std.proofs.Math.Seq.{take-add}
 use Rattle.std.proofs.lemmas.List.{take-append-drop, append-nil}
