@@ -106,6 +106,11 @@ def variant(name, type_name):
     return name if name[:1].isalpha() else "Value" + name
 
 
+def is_variant(name, type_name):
+    """Whether a value of the enum can have this name."""
+    return name.isalnum() and name[0].isupper() and name not in VALUES and name != type_name
+
+
 def member(name):
     """The name of a member: with `_` behind it where it is a word of the language, or that of the fields that are kept."""
     return name + "_" if name in KEYWORDS | {"rest"} else name

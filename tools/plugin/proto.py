@@ -7,7 +7,7 @@ from google.protobuf.descriptor_pb2 import FieldDescriptorProto as Field
 from blocks import blocks
 from depths import own_depth
 from files import Name, Refused, clean, quoted
-from names import ESCAPED, TAKEN, member, snake, variant
+from names import ESCAPED, TAKEN, is_variant, member, snake, variant
 from oneof import MOST_CASES, OneOf
 from world import FIELD_KEYS, MESSAGES
 
@@ -412,5 +412,5 @@ class Variants:
         if rust in names:
             way = f"give it another by --buffa_opt=rename={value.full}:NAME"
             value.refuse(f"its name is that of {names[rust][0].it.name}, too", way)
-        if variant(rust, self.rust) != rust:
+        if not is_variant(rust, self.rust):
             value.refuse(f"no value of an enum can be called {rust}", "write another name behind its rename=")

@@ -40,8 +40,9 @@ def use_line(module, names):
     if len(line) < WIDTH - 1:
         return [line]
     made, row = [f"use {module}::{{"], "   "
-    for name in names:
-        if len(row) + len(name) + 2 >= WIDTH:
+    for at, name in enumerate(names):
+        # the comma of the last one isn't counted
+        if len(row) + len(name) + (1 if at + 1 == len(names) else 2) >= WIDTH:
             made.append(row)
             row = "   "
         row += f" {name},"
