@@ -3,28 +3,22 @@ from blocks import Block, blocks, holds_messages, lends, pieces
 from names import snake
 from oneof import OneOf
 
-# As many members that hold messages by one member type are proved without an answer, as many by any, and as many members in front of the
-# second one that holds messages.
-ALIKE = 2
-IN_ALL = 3
-IN_FRONT = 4
 # Of as many blocks it is proved without an answer that they were visited in turn.
 MOST_SEEN = 10
 
 
 def to_answer(message):
-    """The places of the members whose call of `visit` is answered: behind two that hold messages by the same member type, or three in all, or one and some others; and all behind a block."""
-    seen, found, is_behind = {}, [], False
+    """The places of the members that hold messages and whose call of `visit` is answered: all but the first, and all behind a block."""
+    found, is_second, is_behind = [], False, False
     for at, member in enumerate(pieces(message)):
         if is_behind and lends(message, member):
             found.append(at)
         is_behind = is_behind or isinstance(member, Block)
         if is_behind or not holds_messages(message, member):
             continue
-        kind = "OneOf" if isinstance(member, OneOf) else member.member_type.split("<")[0]
-        seen[kind] = seen.get(kind, 0) + 1
-        if max(seen.values()) > ALIKE or sum(seen.values()) > IN_ALL or sum(seen.values()) > 1 and at > IN_FRONT:
+        if is_second:
             found.append(at)
+        is_second = True
     return found
 
 

@@ -1,5 +1,8 @@
 use Rattle.buffa_descriptor.proofs.messages.file_descriptor_proto.FileDescriptorProtoFields.visit.Goals as goal
 
+pub visit-requires-5-clause-comes : goal.visit-requires-5-clause-comes
+visit-requires-5-clause-comes g c = g.V.Visitor.begins _ _ _ (c.visit-4.ensures.waits _ (c.visit-3.ensures.waits _ (c.visit-2.ensures.waits _ (c.visit.ensures.waits _ c.requires))))
+
 pub visit-requires-6-clause-comes : goal.visit-requires-6-clause-comes
 visit-requires-6-clause-comes g c = g.V.Visitor.begins _ _ _ (c.visit-5.ensures.waits _ (c.visit-4.ensures.waits _ (c.visit-3.ensures.waits _ (c.visit-2.ensures.waits _ (c.visit.ensures.waits _ c.requires)))))
 
