@@ -3,8 +3,8 @@ from blocks import Block, blocks, holds_messages, lends, pieces
 from names import snake
 from oneof import OneOf
 
-# Of as many blocks it is proved without an answer that they were visited in turn.
-MOST_SEEN = 10
+# Of as many members and blocks it is proved without an answer that they were visited in turn.
+MOST_SEEN = 7
 
 
 def to_answer(message):
@@ -77,7 +77,7 @@ def answers_of_block(world, message, block):
 def answers(world, message):
     """The file of the answers, by its name beside `src`, where one is needed."""
     places, order = to_answer(message), calls(pieces(message))
-    is_long = len(blocks(message)) > MOST_SEEN
+    is_long = len(pieces(message)) > MOST_SEEN
     if not places and not is_long:
         return None
     head = ".".join(it for it in ("Rattle", world.crate, "proofs", world.module, snake(message.rust)) if it)
