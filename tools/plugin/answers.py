@@ -5,6 +5,8 @@ from oneof import OneOf
 
 # Of as many members and blocks it is proved without an answer that they were visited in turn.
 MOST_SEEN = 7
+# Of as many cases it is proved without an answer that a refused message leaves what stands.
+MOST_REFUSED = 4
 
 
 def to_answer(message):
@@ -98,29 +100,49 @@ def answers(world, message):
 
 
 def answers_of_oneof(world, one):
-    """The file of the answers of `take`, by its name beside `src`: of each case that is a number, that it is no case before it."""
-    if len(one.cases) < 2 or not any(k.is_number for k in one.cases):
+    """The file of the answers of `take`, by its name beside `src`: of each case that is a number, that it is no case before it; and of each
+    message, if there are some cases, that a refused one leaves what stands."""
+    numbers = [at for at, it in enumerate(one.cases) if it.is_number and len(one.cases) > 1]
+    messages = [at for at, it in enumerate(one.cases) if it.is_message and len(one.cases) > MOST_REFUSED]
+    if not numbers and not messages:
         return None
     head = ".".join(it for it in ("Rattle", world.crate, "proofs", world.module, snake(one.enum)) if it)
-    is_behind = any(k.is_number for k in one.cases[1:])
+    is_behind = any(numbers + messages)
     common = "rules, refl, sym, ap, ◌∙◌, ◌==◌" if is_behind else "rules, sym, ◌∙◌"
     made = [f"use Rattle.std.proofs.Common.{{{common}}}"]
+    made += ["use Rattle.std.proofs.lemmas.Result.{err_from_is_err_and}"] * bool(messages)
     if world.over == "buffa":
         made.append(f"use Rattle.buffa.specs.Members.{{chosen{', not_here' * is_behind}}}")
     else:
         made += ["use Rattle.buffa_fields.specs.facts.LayoutFacts.{chosen}"] + ["use Rattle.buffa_fields.specs.facts.BlockFacts.{not_here}"] * is_behind
     made += [f"use {head}.{one.enum}OneOf.take.Goals as goal"]
-    for at, case in enumerate(one.cases):
-        if not case.is_number:
-            continue
-        name, read = f"returns-in_ok-it-in-{case.number}", f"c.in_ok-it-in-{case.number}.ensures.ok"
-        term = f"chosen _ n {case.number} is (let read = {read} in search (rules, read))"
-        for before in reversed(one.cases[:at]):
-            term = f"not_here _ (sym (ap (λ z. z == {before.number}) is)) refl ({term})"
-        made += ["", f"pub {name} : goal.{name}", f"{name} c =", "    let n = c.args.tag.number in"]
-        made += [f"    let is = sym c.field_number.ensures ∙ c.in-{case.number}.is in", f"    {term}"]
+    for at in numbers:
+        branch = f"in_ok-it-in-{one.cases[at].number}"
+        term = taken_by(one, at, f"let read = c.{branch}.ensures.ok in search (rules, read)")
+        made += answer_of_case(one, at, branch, term)
+    for count, at in enumerate(messages, 1):
+        branch = f"in_err-it-{place('in_default-slot', count)}"
+        term = taken_by(one, at, f"let refused = c.{branch}.ensures.err in search (rules, refused)")
+        residual = f"c.from_residual{f'-{branch}' * (at > 0)}"
+        told = f"    let told = err_from_is_err_and {residual}.result {residual}.ensures.1 in"
+        made += answer_of_case(one, at, branch, f"rw (told.1, told.2) ({term})", [told])
     folder = "/".join(it for it in ("../proofs", world.module, snake(one.enum)) if it)
     return f"{folder}/{one.enum}OneOf/take/Answers.antt", "\n".join(made) + "\n"
+
+
+def taken_by(one, at, term):
+    """The proof that a case took the field, and none before it did."""
+    term = f"chosen _ n {one.cases[at].number} is ({term})"
+    for before in reversed(one.cases[:at]):
+        term = f"not_here _ (sym (ap (λ z. z == {before.number}) is)) refl ({term})"
+    return term
+
+
+def answer_of_case(one, at, branch, term, more=()):
+    """The answer of where a case was read, or was refused."""
+    made = ["", f"pub returns-{branch} : goal.returns-{branch}", f"returns-{branch} c =", "    let n = c.args.tag.number in"]
+    made += [f"    let is = sym c.field_number.ensures ∙ c.in-{one.cases[at].number}.is in"]
+    return [*made, *more, f"    {term}"]
 
 
 def answers_of_take(world, message):
