@@ -1,4 +1,5 @@
-"""The answers where the checker finds no proof by itself: of `visit` behind several messages, and of `take` of a oneof's numbers."""
+"""The answers where the checker finds no proof by itself: of `visit` behind a message and of many members, and of `take` of a oneof's numbers
+and messages."""
 from blocks import Block, blocks, holds_messages, lends, pieces
 from names import snake
 from oneof import OneOf
@@ -107,7 +108,7 @@ def answers_of_oneof(world, one):
     if not numbers and not messages:
         return None
     head = ".".join(it for it in ("Rattle", world.crate, "proofs", world.module, snake(one.enum)) if it)
-    is_behind = any(numbers + messages)
+    is_behind = any(at > 0 for at in numbers + messages)
     common = "rules, refl, sym, ap, ◌∙◌, ◌==◌" if is_behind else "rules, sym, ◌∙◌"
     made = [f"use Rattle.std.proofs.Common.{{{common}}}"]
     made += ["use Rattle.std.proofs.lemmas.Result.{err_from_is_err_and}"] * bool(messages)
