@@ -25,7 +25,7 @@ RELATION = re.compile(r"Type [01]\s*$")
 
 # a file, and texts in it with what stands in their place
 FACADE = "crates/buffa/specs/"
-GIVES = "pub use Rattle.buffa_bytes.specs.Gives.{FullOnlyIf, Gives, GivesUnlessFull}"
+GIVES = "FullOnlyIf, Gives, GivesUnlessFull}"
 REFUSED = [
     (FACADE + "Wire.antt", (GIVES, GIVES.replace("Gives, GivesUnlessFull", "Gives as GivesUnlessFull, GivesUnlessFull as Gives"))),
     (FACADE + "Wire.antt", (" uint32_at,", " uint32_at as uint64_at,"), (" uint64_at,", " uint64_at as uint32_at,")),

@@ -3,9 +3,8 @@
 ghost use Rattle.std.specs.Prelude.{◌≡◌, ◌∷◌, ◌++◌, ◌-◌, ◌^◌, [], ℕ, List, Ok, Some, false, map, option_map, pos, take, true};
 ghost use Rattle.buffa_bytes.specs.Scalars.{bool_of, fixed32_of, fixed64_of, int64_of, sfixed32_of, sfixed64_of};
 ghost use Rattle.buffa_bytes.specs.Scalars.{sint32_of, sint64_of, uint32_of, uint64_of};
-ghost use Rattle.buffa_bytes.specs.Front.{delimited_at};
+ghost use Rattle.buffa_bytes.specs.Front.{delimited_at, same_wire};
 ghost use Rattle.buffa_bytes.specs.Values.{int32_of};
-ghost use Rattle.buffa_bytes.specs.WireType.{same_wire};
 ghost use Rattle.buffa_bytes.specs.declared.wire_type.WireType.TheVariants as wire;
 ghost use Rattle.buffa_wire.specs.BudgetLeft.{BudgetLeft};
 ghost use Rattle.buffa_wire.specs.ByField.{value_of};

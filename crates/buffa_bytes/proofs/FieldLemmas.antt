@@ -3,8 +3,6 @@ use Rattle.std.proofs.Common.{◌≡◌, ◌≢◌, inl, inr, ℕ, zero, suc, �
 use Rattle.std.proofs.lemmas.Bool.{lt-ltb, le-ltb, ltb-true, ltb-false, cond_both, eqb-true, eqb-false, eq-eqb, ne_eqb}
 use Rattle.std.proofs.lemmas.List.{take-append-drop, append_cancel_right}
 use Rattle.std.proofs.Math.Seq.{drop-append_seam}
-use Rattle.buffa_bytes.specs.WireType.{same_wire, wire_kind, wire_number}
-use Rattle.buffa_bytes.specs.Gives.{◌>>=◌}
 use Rattle.buffa_bytes.specs.declared.wire_type.WireType.{WireType}
 use Rattle.buffa_bytes.specs.declared.wire_type.WireType.TheVariants.{Varint, Fixed64, LengthDelimited, StartGroup, EndGroup, Fixed32}
 use Rattle.buffa_bytes.specs.declared.error.DecodeError.{DecodeError}
@@ -14,10 +12,9 @@ use Rattle.buffa_bytes.specs.Join.{Join}
 use Rattle.buffa_bytes.specs.Number.{IsNumber}
 use Rattle.buffa_bytes.specs.Join.Join.{none, more}
 use Rattle.buffa_bytes.specs.Field.{IsTag, PayloadOver, SomeFieldOver, SomeField, Group, TakesTag, TakesPayload, BadTag, TagFault, PayloadFaultOver, FieldFaultOver, GroupFault, PayloadFault, TakesBytes}
-use Rattle.buffa_bytes.specs.Front.{varint_at, tag_of, tag_at, past, skip_by, is_end, fields_at, fields_step, group_at, group_step, passed, skip_at}
-use Rattle.buffa_bytes.specs.Scan.{Scanned, scan, step_then}
+use Rattle.buffa_bytes.specs.Front.{varint_at, tag_of, tag_at, past, skip_by, fields_at, fields_step, group_at, group_step, passed, skip_at, same_wire, wire_kind, wire_number, ◌>>=◌}
+use Rattle.buffa_bytes.specs.Scan.{Scanned, scan, step_then, join, ParsesEach}
 use Rattle.buffa_bytes.specs.Scan.Scanned.{ends, goes}
-use Rattle.buffa_bytes.specs.Sequence.{join, ParsesEach}
 use Rattle.buffa_bytes.proofs.SequenceLemmas.{Ends, Meets, if_meets, upto_agrees, upto_complete, upto_sound, upto_turn}
 use Rattle.buffa_bytes.proofs.StepLemmas.{Agrees, agree_bind, agree_err, agree_if, agree_ok, agree_weaker}
 pub use Rattle.buffa_bytes.proofs.StepLemmas.{err_same, ok_no_err, ok_same}
@@ -166,7 +163,7 @@ Inner = ℕ → List ℕ → Result (List ℕ) DecodeError
 abbrev pub Takes : (ℕ → List ℕ → Type 0) → ℕ → List ℕ → List ℕ → Type 0
 Takes G f bs rest = (p : List ℕ) × G f p × (bs ≡ p ++ rest)
 
-pub end_true : (w : WireType) → is_end w ≡ true → w ≡ EndGroup
+pub end_true : (w : WireType) → same_wire EndGroup w ≡ true → w ≡ EndGroup
 end_true EndGroup e = refl
 end_true Varint e = cc
 end_true Fixed64 e = cc
@@ -174,10 +171,10 @@ end_true LengthDelimited e = cc
 end_true StartGroup e = cc
 end_true Fixed32 e = cc
 
-pub end_false : (w : WireType) → is_end w ≡ false → w ≢ EndGroup
-end_false w e h = let k : is_end EndGroup ≡ false = subst (λ v. is_end v ≡ false) h e in cc
+pub end_false : (w : WireType) → same_wire EndGroup w ≡ false → w ≢ EndGroup
+end_false w e h = let k : same_wire EndGroup EndGroup ≡ false = subst (λ v. same_wire EndGroup v ≡ false) h e in cc
 
-pub not_end : (w : WireType) → w ≢ EndGroup → is_end w ≡ false
+pub not_end : (w : WireType) → w ≢ EndGroup → same_wire EndGroup w ≡ false
 not_end EndGroup h = absurd (h refl)
 not_end Varint h = refl
 not_end Fixed64 h = refl
@@ -277,7 +274,7 @@ module _ (inner : Inner) (G : ℕ → List ℕ → Type 0) (F : ℕ → List ℕ
     step_meets : (f : ℕ) (bs : List ℕ) (r : Result (ℕ × WireType × List ℕ) DecodeError) → tag_at bs ≡ r → Meets Passes (Ends (EndsAt f) (Breaks f)) (fields_step inner f r) tt bs
     step_meets f bs (Ok t) e =
         let u = agree_ok (tag_at bs) t (tag_sound bs) e in
-        if_meets Passes (Ends (EndsAt f) (Breaks f)) (is_end t.1) (if t.0 == f then Ok t.2 else Err (InvalidEndGroup t.0)) (passed (skip_by inner t.0 t.1 t.2)) tt bs
+        if_meets Passes (Ends (EndsAt f) (Breaks f)) (same_wire EndGroup t.1) (if t.0 == f then Ok t.2 else Err (InvalidEndGroup t.0)) (passed (skip_by inner t.0 t.1 t.2)) tt bs
         (λ last. let end : IsTag u.0 t.0 EndGroup = subst (λ w. IsTag u.0 t.0 w) (end_true t.1 last) u.1 in
         (agree_if {Q = EndsAt f tt bs} {E = Breaks f tt bs} (t.0 == f)
         (λ m. record { holds = (u.0, subst (λ g. IsTag u.0 g EndGroup) (eqb-true t.0 f m) end, u.2) })
@@ -367,7 +364,7 @@ group_by : (d f : ℕ) (bs : List ℕ) (r : Result (ℕ × WireType × List ℕ)
 unfolding group_at
 group_by d f bs (Ok t) e =
     fields_turn (group_at d) (Group d) (GroupFault d) (group_sound d) f bs (Ok t) e
-    ∙ step_is (fields_at (group_at d) f) (is_end t.1) (if t.0 == f then Ok t.2 else Err (InvalidEndGroup t.0)) (skip_at d t.0 t.1 t.2)
+    ∙ step_is (fields_at (group_at d) f) (same_wire EndGroup t.1) (if t.0 == f then Ok t.2 else Err (InvalidEndGroup t.0)) (skip_at d t.0 t.1 t.2)
 group_by d f bs (Err x) e = fields_turn (group_at d) (Group d) (GroupFault d) (group_sound d) f bs (Err x) e
 
 pub group_is : (d f : ℕ) (bs : List ℕ) → group_at (suc d) f bs ≡ (tag_at bs >>= group_step d f)

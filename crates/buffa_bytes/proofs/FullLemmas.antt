@@ -5,9 +5,8 @@ use Rattle.buffa_bytes.specs.declared.error.DecodeError.{DecodeError}
 use Rattle.buffa_bytes.specs.declared.error.DecodeError.TheVariants.{OutOfMemory, UnexpectedEof}
 use Rattle.buffa_bytes.specs.Content.{ContentFault, content_at}
 use Rattle.buffa_bytes.specs.Field.{TagFault, PayloadFault}
-use Rattle.buffa_bytes.specs.Front.{varint_at, tag_at, taken, delimited_at, skip_at}
+use Rattle.buffa_bytes.specs.Front.{varint_at, tag_at, taken, delimited_at, skip_at, ◌>>=◌}
 use Rattle.buffa_bytes.specs.Scalars.{fixed32_at, fixed64_at}
-use Rattle.buffa_bytes.specs.Gives.{◌>>=◌}
 use Rattle.std.specs.Int.{from_le_bytes, w32, w64}
 use Rattle.buffa_bytes.proofs.StepLemmas.{Agrees, agree_bind, agree_err}
 use Rattle.buffa_bytes.proofs.VarintLemmas.{varint_sound}

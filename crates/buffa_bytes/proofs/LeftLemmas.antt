@@ -8,10 +8,8 @@ use Rattle.buffa_bytes.specs.declared.wire_type.WireType.{WireType}
 use Rattle.buffa_bytes.specs.declared.wire_type.WireType.TheVariants.{Varint, Fixed64, LengthDelimited, EndGroup, Fixed32}
 use Rattle.buffa_bytes.specs.declared.error.DecodeError.{DecodeError}
 use Rattle.buffa_bytes.specs.declared.error.DecodeError.TheVariants.{OutOfMemory}
-use Rattle.buffa_bytes.specs.Gives.{Gives, GivesUnlessFull}
-use Rattle.buffa_bytes.specs.Left.{LeavesUnlessFull, past_no_varint, past_no_payload, past_no_tag, past_no_delimited}
-use Rattle.buffa_bytes.specs.Front.{varint_at, past, taken, delimited_at}
-use Rattle.buffa_bytes.specs.Unread.{IsFrontOf, IsTailOf}
+use Rattle.buffa_bytes.specs.Left.{LeavesUnlessFull, past_no_varint, past_no_payload, past_no_tag, past_no_delimited, IsFrontOf, IsTailOf}
+use Rattle.buffa_bytes.specs.Front.{varint_at, past, taken, delimited_at, Gives, GivesUnlessFull}
 use Rattle.buffa_bytes.specs.Varint.{TakesVarint, VarintFault}
 use Rattle.buffa_bytes.proofs.DelimitedLemmas.{delimited_sound, taken_complete, taken_sound}
 use Rattle.buffa_bytes.proofs.StepLemmas.{agree_ok}

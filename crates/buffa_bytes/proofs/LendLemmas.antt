@@ -6,12 +6,11 @@ use Rattle.std.specs.Fn.{Called, CalledAt}
 use Rattle.std.specs.Prelude.{IsOk}
 use Rattle.buffa_bytes.specs.declared.error.DecodeError.{DecodeError}
 use Rattle.buffa_bytes.specs.declared.error.DecodeError.TheVariants.{OutOfMemory}
-use Rattle.buffa_bytes.specs.Front.{varint_at, taken, delimited_at}
-use Rattle.buffa_bytes.specs.Unread.{IsFrontOf}
+use Rattle.buffa_bytes.specs.Front.{varint_at, taken, delimited_at, FullOnlyIf}
+use Rattle.buffa_bytes.specs.Left.{IsFrontOf}
 use Rattle.buffa_bytes.specs.Delimited.{Lends}
 use Rattle.buffa_bytes.proofs.DelimitedLemmas.{after_length}
 use Rattle.buffa_bytes.proofs.FullLemmas.{delimited_full}
-use Rattle.buffa_bytes.specs.Gives.{FullOnlyIf}
 use Rattle.buffa_bytes.proofs.OwnLemmas.{front_taken, none_taken}
 
 -- a length, and so many bytes at the front of what follows it

@@ -3,11 +3,10 @@ use Rattle.std.proofs.Common.{◌≡◌, ◌≢◌, ℕ, ◌<◌, Bool, true, fa
 use Rattle.std.specs.Prelude.{MatchResult}
 use Rattle.buffa_bytes.specs.declared.error.DecodeError.{DecodeError}
 use Rattle.buffa_bytes.specs.declared.error.DecodeError.TheVariants.{UnexpectedEof}
-use Rattle.buffa_bytes.specs.Scan.{Scanned, parsed, scan, step_then}
+use Rattle.buffa_bytes.specs.Scan.{Scanned, parsed, scan, step_then, join, ParsesEach, ParsesTo, ParseStops, parse_all, parse_step}
 use Rattle.buffa_bytes.specs.Scan.Scanned.{ends, goes}
 use Rattle.buffa_bytes.proofs.StepLemmas.{Agrees, agree_weaker}
 use Rattle.buffa_bytes.proofs.ScanLemmas.{Leads, Shortens, parsed_leads, parsed_short, scan_keeps, scan_leads, scan_step}
-use Rattle.buffa_bytes.specs.Sequence.{join, ParsesEach, ParsesTo, ParseStops, parse_all, parse_step}
 pub use Rattle.buffa_bytes.proofs.StepLemmas.{err_same, ok_no_err, ok_same}
 
 -- lists that are the same have the same first, and the same others

@@ -3,8 +3,7 @@ use Rattle.std.proofs.Common.{◌≡◌, ◌≢◌, ℕ, false, Ok, Err, refl, s
 use Rattle.std.proofs.lemmas.Bool.{false_from_ne_true}
 use Rattle.buffa_bytes.proofs.FieldLemmas.{same_refl, same_true}
 use Rattle.buffa_bytes.proofs.StepLemmas.{Agrees, agree_err, agree_if, agree_ok}
-use Rattle.buffa_bytes.specs.Front.{check_wire}
-use Rattle.buffa_bytes.specs.WireType.{same_wire}
+use Rattle.buffa_bytes.specs.Front.{check_wire, same_wire}
 use Rattle.buffa_bytes.specs.declared.error.DecodeError.{DecodeError}
 use Rattle.buffa_bytes.specs.declared.error.DecodeError.TheVariants.{OutOfMemory, WireTypeMismatch}
 use Rattle.buffa_bytes.specs.declared.wire_type.WireType.{WireType}

@@ -2,14 +2,13 @@
 -- Source: the protobuf encoding guide, "Message Structure".
 use Rattle.std.specs.Prelude.{◌≡◌, ℕ, ◌<◌, List, [], ◌++◌, length, Result, Ok, Err}
 use Rattle.std.specs.Int.{from_le_bytes, w32, w64}
-use Rattle.buffa_bytes.specs.Gives.{◌>>=◌}
 use Rattle.buffa_bytes.specs.declared.wire_type.WireType.{WireType}
 use Rattle.buffa_bytes.specs.declared.wire_type.WireType.TheVariants.{Varint, Fixed64, LengthDelimited, StartGroup, EndGroup, Fixed32}
 use Rattle.buffa_bytes.specs.declared.error.DecodeError.{DecodeError}
 use Rattle.buffa_bytes.specs.declared.error.DecodeError.TheVariants.{UnexpectedEof, InvalidWireType}
 use Rattle.buffa_bytes.specs.Varint.{IsVarint, VarintFault}
 use Rattle.buffa_bytes.specs.Field.{LengthFault}
-use Rattle.buffa_bytes.specs.Front.{varint_at, taken, delimited_at}
+use Rattle.buffa_bytes.specs.Front.{varint_at, taken, delimited_at, ◌>>=◌}
 
 pub data Content : Type 0 where
   number : ℕ → Content

@@ -1,13 +1,66 @@
 -- What is read at the front of bytes: what stands there and the bytes that follow, or the first fault.
-use Rattle.std.specs.Prelude.{ℕ, zero, suc, ◌+◌, ◌*◌, ◌/◌, ◌%◌, ◌^◌, ◌==◌, nat_lt, Bool, true, false, List, [], ◌∷◌, length, take, drop, None, Some, Result, Ok, Err, if◌then◌else◌}
-use Rattle.buffa_bytes.specs.WireType.{wire_kind, same_wire}
-use Rattle.buffa_bytes.specs.Gives.{◌>>=◌}
-use Rattle.buffa_bytes.specs.Scan.{Scanned, scan}
-use Rattle.buffa_bytes.specs.Scan.Scanned.{ends, goes}
+use Rattle.std.specs.Prelude.{ℕ, nat_eq, Bool, true, false, Option, None, Some, if◌then◌else◌, ◌≡◌, ◌≢◌, Result, Ok, Err, IfErr, zero, suc, ◌+◌, ◌*◌, ◌/◌, ◌%◌, ◌^◌, ◌==◌, nat_lt, List, [], ◌∷◌, length, take, drop}
 use Rattle.buffa_bytes.specs.declared.wire_type.WireType.{WireType}
 use Rattle.buffa_bytes.specs.declared.wire_type.WireType.TheVariants.{Varint, Fixed64, LengthDelimited, StartGroup, EndGroup, Fixed32}
 use Rattle.buffa_bytes.specs.declared.error.DecodeError.{DecodeError}
-use Rattle.buffa_bytes.specs.declared.error.DecodeError.TheVariants.{UnexpectedEof, VarintTooLong, InvalidFieldNumber, InvalidWireType, WireTypeMismatch, RecursionLimitExceeded, InvalidEndGroup}
+use Rattle.buffa_bytes.specs.declared.error.DecodeError.TheVariants.{OutOfMemory, UnexpectedEof, VarintTooLong, InvalidFieldNumber, InvalidWireType, WireTypeMismatch, RecursionLimitExceeded, InvalidEndGroup}
+use Rattle.buffa_bytes.specs.Scan.{Scanned, scan}
+use Rattle.buffa_bytes.specs.Scan.Scanned.{ends, goes}
+
+-- ---- wire types and their numbers; source: the protobuf encoding guide, "Message Structure"
+
+-- the number of a wire type in a tag
+abbrev pub wire_number : WireType → ℕ
+wire_number Varint = 0
+wire_number Fixed64 = 1
+wire_number LengthDelimited = 2
+wire_number StartGroup = 3
+wire_number EndGroup = 4
+wire_number Fixed32 = 5
+
+-- the wire type of a number in a tag
+abbrev pub wire_kind : ℕ → Option WireType
+wire_kind n =
+    if nat_eq n 0 then Some Varint else
+    if nat_eq n 1 then Some Fixed64 else
+    if nat_eq n 2 then Some LengthDelimited else
+    if nat_eq n 3 then Some StartGroup else
+    if nat_eq n 4 then Some EndGroup else
+    if nat_eq n 5 then Some Fixed32 else None
+
+-- whether two wire types are one
+abbrev pub same_wire : WireType → WireType → Bool
+same_wire Varint Varint = true
+same_wire Fixed64 Fixed64 = true
+same_wire LengthDelimited LengthDelimited = true
+same_wire StartGroup StartGroup = true
+same_wire EndGroup EndGroup = true
+same_wire Fixed32 Fixed32 = true
+same_wire _ _ = false
+
+-- ---- what a call gives, beside what is read
+
+infixl 10 ◌>>=◌
+-- goes on with what the first gives
+abbrev pub ◌>>=◌ : {A B : Type 0} → Result A DecodeError → (A → Result B DecodeError) → Result B DecodeError
+(Ok x) >>= f = f x
+(Err e) >>= f = Err e
+
+-- what a call answered, seen by view, is what is read
+abbrev pub Gives : {X Y : Type 0} → (X → Y) → Result X DecodeError → Result Y DecodeError → Type 0
+Gives view (Ok x) read = read ≡ Ok (view x)
+Gives view (Err e) read = read ≡ Err e
+
+-- the same, unless memory ran out
+abbrev pub GivesUnlessFull : {X Y : Type 0} → (X → Y) → Result X DecodeError → Result Y DecodeError → Type 0
+GivesUnlessFull view (Ok x) read = read ≡ Ok (view x)
+GivesUnlessFull view (Err e) read = e ≢ OutOfMemory → read ≡ Err e
+
+-- memory ran out only where P holds
+abbrev pub FullOnlyIf : {X : Type 0} → Result X DecodeError → Type 0 → Type 0
+FullOnlyIf r P = IfErr r (λ e. e ≡ OutOfMemory → P)
+
+-- ---- the readings
 
 -- a varint of k bytes at most and one more, which is 0 or 1 where all k come before it
 unfoldable pub varint_within : ℕ → List ℕ → Result (ℕ × List ℕ) DecodeError
@@ -53,10 +106,6 @@ skip_by inner f StartGroup bs = inner f bs
 skip_by inner f EndGroup bs = Err (InvalidEndGroup f)
 skip_by inner f Fixed32 bs = past 4 bs
 
-abbrev pub is_end : WireType → Bool
-is_end EndGroup = true
-is_end _ = false
-
 -- what is behind a payload is scanned next
 abbrev pub passed : Result (List ℕ) DecodeError → Scanned (Unit {0}) (Result (List ℕ) DecodeError)
 passed (Ok rest) = goes tt rest (λ r. r)
@@ -64,7 +113,7 @@ passed (Err e) = ends (Err e)
 
 -- a tag in group f: its end tag ends it, and any other field's payload is passed
 abbrev pub fields_step : (ℕ → List ℕ → Result (List ℕ) DecodeError) → ℕ → Result (ℕ × WireType × List ℕ) DecodeError → Scanned (Unit {0}) (Result (List ℕ) DecodeError)
-fields_step inner f (Ok t) = if is_end t.1 then ends (if t.0 == f then Ok t.2 else Err (InvalidEndGroup t.0)) else passed (skip_by inner t.0 t.1 t.2)
+fields_step inner f (Ok t) = if same_wire EndGroup t.1 then ends (if t.0 == f then Ok t.2 else Err (InvalidEndGroup t.0)) else passed (skip_by inner t.0 t.1 t.2)
 fields_step inner f (Err e) = ends (Err e)
 
 -- what follows the fields and the end tag of group f
@@ -82,7 +131,7 @@ skip_at d = skip_by (group_at d)
 
 -- what follows the rest of group f, where t is what was read of the next tag
 abbrev pub group_step : ℕ → ℕ → ℕ × WireType × List ℕ → Result (List ℕ) DecodeError
-group_step d f t = if is_end t.1 then (if t.0 == f then Ok t.2 else Err (InvalidEndGroup t.0)) else (skip_at d t.0 t.1 t.2 >>= group_at (suc d) f)
+group_step d f t = if same_wire EndGroup t.1 then (if t.0 == f then Ok t.2 else Err (InvalidEndGroup t.0)) else (skip_at d t.0 t.1 t.2 >>= group_at (suc d) f)
 
 abbrev pub group_by_field : ℕ → ℕ → List ℕ → Result (List ℕ) DecodeError
 group_by_field d f bs = tag_at bs >>= group_step d f

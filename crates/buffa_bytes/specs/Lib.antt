@@ -1,18 +1,14 @@
 -- The words that this crate hands out.
-pub mod Gives
-pub mod WireType
+pub mod Scan
+pub mod Front
 pub mod ErrorText
-pub mod Unread
 pub mod Pieces
 pub mod Adapted
 pub mod Written
 pub mod Varint
 pub mod Join
 pub mod Number
-pub mod Scan
-pub mod Sequence
 pub mod Field
-pub mod Front
 pub mod Left
 pub mod Content
 pub mod Values

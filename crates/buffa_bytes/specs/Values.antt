@@ -3,13 +3,11 @@
 use Rattle.std.specs.Prelude.{ℕ, ℤ, ◌+◌, ◌*◌, ◌%◌, ◌^◌, List, ◌++◌, length, Result, Ok, Err, if◌then◌else◌}
 use Rattle.std.specs.Int.{cast_unsigned, cast_signed, w32, w64}
 use Rattle.std.specs.Str.{is_utf8}
-use Rattle.buffa_bytes.specs.WireType.{wire_number}
-use Rattle.buffa_bytes.specs.Gives.{◌>>=◌}
 use Rattle.buffa_bytes.specs.declared.wire_type.WireType.{WireType}
 use Rattle.buffa_bytes.specs.declared.error.DecodeError.{DecodeError}
 use Rattle.buffa_bytes.specs.declared.error.DecodeError.TheVariants.{InvalidUtf8}
 use Rattle.buffa_bytes.specs.Varint.{varint_encoding}
-use Rattle.buffa_bytes.specs.Front.{varint_at, delimited_at}
+use Rattle.buffa_bytes.specs.Front.{varint_at, delimited_at, wire_number, ◌>>=◌}
 
 -- the shortest tag
 abbrev pub tag_encoding : ℕ → WireType → List ℕ

@@ -1,9 +1,8 @@
 //! Bytes in: reading from the front of a buffer.
 
 ghost use Rattle.std.specs.Prelude.{◌≡◌, ℕ, ◌<◌, ◌≤◌, List, [], length, drop, IsOk, MatchOption};
-ghost use Rattle.buffa_bytes.specs.Gives.{FullOnlyIf, GivesUnlessFull};
-ghost use Rattle.buffa_bytes.specs.Front.{taken};
-ghost use Rattle.buffa_bytes.specs.Unread.{IsChunkOf, IsFrontOf, IsTailOf, MayBeCut, MovesUnlessFull};
+ghost use Rattle.buffa_bytes.specs.Front.{taken, FullOnlyIf, GivesUnlessFull};
+ghost use Rattle.buffa_bytes.specs.Left.{IsChunkOf, IsFrontOf, IsTailOf, MayBeCut, MovesUnlessFull};
 
 use crate::error::DecodeError;
 use bytes::Bytes;

@@ -1,7 +1,6 @@
 //! Whether a field has the wire type that it is declared with.
 
-ghost use Rattle.buffa_bytes.specs.Gives.{Gives};
-ghost use Rattle.buffa_bytes.specs.Front.{check_wire};
+ghost use Rattle.buffa_bytes.specs.Front.{check_wire, Gives};
 
 use crate::error::DecodeError;
 use crate::tag::Tag;

@@ -1,10 +1,8 @@
 //! Passing over a field that is not looked at.
 
 ghost use Rattle.std.specs.Prelude.{◌≡◌, ◌≢◌, ◌<◌, length, OnErr};
-ghost use Rattle.buffa_bytes.specs.Gives.{Gives};
-ghost use Rattle.buffa_bytes.specs.Left.{past_no_payload};
-ghost use Rattle.buffa_bytes.specs.Front.{past, skip_at, group_at};
-ghost use Rattle.buffa_bytes.specs.Unread.{IsTailOf};
+ghost use Rattle.buffa_bytes.specs.Left.{past_no_payload, IsTailOf};
+ghost use Rattle.buffa_bytes.specs.Front.{past, skip_at, group_at, Gives};
 
 use crate::buf::Buf;
 use crate::error::DecodeError;

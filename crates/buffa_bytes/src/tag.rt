@@ -34,13 +34,11 @@ pub struct Tag {
 
 impl Tag {
     ghost use Rattle.std.specs.Prelude.{◌≡◌, OnErr};
-    ghost use Rattle.buffa_bytes.specs.Gives.{Gives};
-    ghost use Rattle.buffa_bytes.specs.Left.{past_no_tag};
+    ghost use Rattle.buffa_bytes.specs.Left.{past_no_tag, IsTailOf};
     ghost use Rattle.buffa_bytes.specs.Number.{IsNumber};
-    ghost use Rattle.buffa_bytes.specs.Front.{tag_at};
+    ghost use Rattle.buffa_bytes.specs.Front.{tag_at, Gives};
     ghost use Rattle.buffa_bytes.specs.Values.{tag_encoding};
     ghost use Rattle.buffa_bytes.specs.Written.{UsesRoom, Writes};
-    ghost use Rattle.buffa_bytes.specs.Unread.{IsTailOf};
 
     /// A tag of a number from 1 to [`MAX_FIELD_NUMBER`].
     ///

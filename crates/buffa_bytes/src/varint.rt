@@ -1,12 +1,10 @@
 //! Varints: seven bits a byte, the lowest first.
 
 ghost use Rattle.std.specs.Prelude.{◌≡◌, ◌<◌, ◌≤◌, ◌∷◌, [], Ok, drop, length, IfSome, MatchOption, OnErr};
-ghost use Rattle.buffa_bytes.specs.Gives.{Gives};
-ghost use Rattle.buffa_bytes.specs.Left.{past_no_varint};
-ghost use Rattle.buffa_bytes.specs.Front.{varint_at};
+ghost use Rattle.buffa_bytes.specs.Left.{past_no_varint, IsTailOf};
+ghost use Rattle.buffa_bytes.specs.Front.{varint_at, Gives};
 ghost use Rattle.buffa_bytes.specs.Varint.{varint_encoding};
 ghost use Rattle.buffa_bytes.specs.Written.{UsesRoom, Writes};
-ghost use Rattle.buffa_bytes.specs.Unread.{IsTailOf};
 
 use crate::buf::Buf;
 use crate::error::{DecodeError, EncodeError};

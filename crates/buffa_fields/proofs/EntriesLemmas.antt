@@ -5,8 +5,7 @@ use Rattle.buffa_bytes.specs.declared.error.DecodeError.{DecodeError}
 use Rattle.buffa_bytes.specs.declared.error.DecodeError.TheVariants as error
 use Rattle.buffa_bytes.specs.declared.wire_type.WireType.{WireType}
 use Rattle.buffa_bytes.specs.declared.wire_type.WireType.TheVariants.{LengthDelimited}
-use Rattle.buffa_bytes.specs.WireType.{same_wire}
-use Rattle.buffa_bytes.specs.Front.{check_wire, delimited_at}
+use Rattle.buffa_bytes.specs.Front.{check_wire, delimited_at, same_wire}
 use Rattle.buffa_bytes.proofs.WireLemmas.{same_false, checked_same}
 use Rattle.buffa_wire.proofs.MessageLemmas.{NoLimit}
 use Rattle.buffa_wire.specs.BudgetLeft.{BudgetLeft, Covers, Lacks, PaysAtMost, plus, unknown_fields}

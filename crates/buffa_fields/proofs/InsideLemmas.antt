@@ -5,9 +5,7 @@ use Rattle.buffa_bytes.proofs.DelimitedLemmas.{delimited_complete, delimited_sou
 use Rattle.buffa_bytes.proofs.FieldLemmas.{same_refl, same_true}
 use Rattle.buffa_bytes.proofs.StepLemmas.{agree_ok}
 use Rattle.buffa_bytes.specs.Field.{Payload}
-use Rattle.buffa_bytes.specs.Front.{check_wire, delimited_at}
-use Rattle.buffa_bytes.specs.Gives.{FullOnlyIf}
-use Rattle.buffa_bytes.specs.WireType.{same_wire}
+use Rattle.buffa_bytes.specs.Front.{check_wire, delimited_at, FullOnlyIf, same_wire}
 use Rattle.buffa_bytes.specs.declared.error.DecodeError.{DecodeError}
 use Rattle.buffa_bytes.specs.declared.error.DecodeError.TheVariants.{ElementMemoryLimitExceeded}
 use Rattle.buffa_bytes.specs.declared.error.EncodeError.{EncodeError}

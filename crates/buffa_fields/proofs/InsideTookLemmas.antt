@@ -1,7 +1,6 @@
 -- What is proved of the calls that take a field into a member that holds messages of the message's own type.
 use Rattle.std.proofs.Common.{◌+◌, ◌≡◌, ℕ, List, Option, Result, Err, sym, ap, subst}
-use Rattle.buffa_bytes.specs.Front.{check_wire}
-use Rattle.buffa_bytes.specs.Gives.{FullOnlyIf}
+use Rattle.buffa_bytes.specs.Front.{check_wire, FullOnlyIf}
 use Rattle.buffa_bytes.specs.declared.error.DecodeError.{DecodeError}
 use Rattle.buffa_bytes.specs.declared.wire_type.WireType.{WireType}
 use Rattle.buffa_bytes.specs.declared.wire_type.WireType.TheVariants.{LengthDelimited}

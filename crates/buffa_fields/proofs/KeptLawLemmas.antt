@@ -5,7 +5,7 @@ use Rattle.std.specs.Option.{option_map}
 use Rattle.buffa_bytes.proofs.FieldLemmas.{same_true}
 use Rattle.buffa_bytes.proofs.VarintLemmas.{varint_complete}
 use Rattle.buffa_bytes.specs.Field.{Payload}
-use Rattle.buffa_bytes.specs.WireType.{same_wire}
+use Rattle.buffa_bytes.specs.Front.{same_wire}
 use Rattle.buffa_bytes.specs.declared.error.DecodeError.{DecodeError}
 use Rattle.buffa_bytes.specs.declared.wire_type.WireType.{WireType}
 use Rattle.buffa_bytes.specs.declared.wire_type.WireType.TheVariants.{LengthDelimited, Varint}

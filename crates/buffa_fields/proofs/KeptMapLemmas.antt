@@ -11,8 +11,7 @@ use Rattle.buffa_wire.specs.BudgetLeft.{BudgetLeft}
 use Rattle.buffa_wire.specs.Takes.{IsTaken}
 use Rattle.buffa_map.proofs.EntryLemmas.{entry_complete}
 use Rattle.buffa_map.specs.Codec.{Reading}
-use Rattle.buffa_map.specs.Entry.{EntryFault}
-use Rattle.buffa_map.specs.Fields.{EntryFieldsTakeMemory}
+use Rattle.buffa_map.specs.Entry.{EntryFault, EntryFieldsTakeMemory}
 use Rattle.buffa_map.specs.Merge.{EntryTakesMemory, MergesEntry, RefusesEntry, Rules, State}
 use Rattle.buffa_map.proofs.ReaderRules.{keeping}
 use Rattle.buffa_map.specs.Laws.{LimitsAreTrue}

@@ -11,12 +11,10 @@ use Rattle.buffa_bytes.specs.declared.wire_type.WireType.TheVariants.{Varint}
 use Rattle.buffa_bytes.proofs.FieldLemmas.{payload_sound}
 use Rattle.buffa_bytes.proofs.FullLemmas.{payload_full}
 use Rattle.buffa_bytes.specs.Varint.{IsVarint, TakesVarint}
-use Rattle.buffa_bytes.specs.Gives.{FullOnlyIf}
 use Rattle.buffa_wire.proofs.MessageLemmas.{payload_no_limit}
 use Rattle.buffa_bytes.proofs.SequenceLemmas.{err_same, ok_same}
 use Rattle.buffa_wire.proofs.TakesLemmas.{full_weaker}
-use Rattle.buffa_bytes.specs.Front.{check_wire, skip_at, varint_at}
-use Rattle.buffa_bytes.specs.Gives.{◌>>=◌}
+use Rattle.buffa_bytes.specs.Front.{check_wire, skip_at, varint_at, FullOnlyIf, ◌>>=◌}
 use Rattle.buffa_bytes.specs.Values.{int32_at, int32_of}
 use Rattle.buffa_wire.specs.BudgetLeft.{BudgetLeft, Lacks, Pays, PaysAtMost, unknown_fields}
 use Rattle.buffa_wire.specs.Enums.{Numbers}

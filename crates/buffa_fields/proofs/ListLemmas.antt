@@ -5,7 +5,6 @@ use Rattle.buffa_bytes.proofs.DelimitedLemmas.{delimited_sound}
 use Rattle.buffa_bytes.proofs.FieldLemmas.{same_refl}
 use Rattle.buffa_bytes.proofs.StepLemmas.{agree_err, agree_ok}
 use Rattle.buffa_bytes.specs.Content.{Content, content_at}
-use Rattle.buffa_bytes.specs.WireType.{same_wire}
 use Rattle.buffa_bytes.specs.declared.error.DecodeError.{DecodeError}
 use Rattle.buffa_bytes.specs.declared.error.DecodeError.TheVariants.{OutOfMemory, UnexpectedEof}
 use Rattle.buffa_bytes.specs.declared.wire_type.WireType.{WireType}
@@ -14,9 +13,8 @@ use Rattle.buffa_wire.proofs.MessageLemmas.{NoLimit, length_no_limit, as_no_limi
 use Rattle.buffa_wire.proofs.SpentLemmas.{PaysAtMost_nothing}
 use Rattle.buffa_bytes.proofs.SequenceLemmas.{along_err, err_same, parse_keeps}
 use Rattle.buffa_wire.specs.BudgetLeft.{BudgetLeft, nothing}
-use Rattle.buffa_bytes.specs.Gives.{◌>>=◌, FullOnlyIf, GivesUnlessFull}
 use Rattle.buffa_wire.specs.Message.{IsLimit}
-use Rattle.buffa_bytes.specs.Front.{check_wire, delimited_at}
+use Rattle.buffa_bytes.specs.Front.{check_wire, delimited_at, same_wire, ◌>>=◌, FullOnlyIf, GivesUnlessFull}
 use Rattle.buffa_bytes.proofs.WireLemmas.{same_false}
 use Rattle.buffa_map.proofs.EntryLemmas.{value_complete}
 use Rattle.buffa_map.specs.Codec.{Reading, value_at}

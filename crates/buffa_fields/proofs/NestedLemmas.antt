@@ -13,11 +13,9 @@ use Rattle.buffa_wire.proofs.MessageLemmas.{NoLimit, length_no_limit}
 use Rattle.buffa_wire.proofs.SpentLemmas.{takes_bytes}
 use Rattle.buffa_wire.specs.BudgetLeft.{BudgetLeft, Lacks, PaysAtMost}
 use Rattle.buffa_wire.specs.Cache.{Cache, advanced}
-use Rattle.buffa_bytes.specs.Gives.{FullOnlyIf}
 use Rattle.buffa_wire.specs.Message.{IsInside, MessageFault, cost_of_payload}
 use Rattle.buffa_wire.specs.Passes.{IsWritten, cap}
-use Rattle.buffa_bytes.specs.WireType.{same_wire}
-use Rattle.buffa_bytes.specs.Front.{check_wire, delimited_at}
+use Rattle.buffa_bytes.specs.Front.{check_wire, delimited_at, FullOnlyIf, same_wire}
 use Rattle.buffa_wire.specs.Records.{bytes}
 use Rattle.buffa_wire.specs.Encoding.{records_encoding}
 use Rattle.buffa_fields.specs.Nested.{MessageTakesMemory, message_cost, message_merged, inside}

@@ -13,12 +13,10 @@ use Rattle.buffa_bytes.proofs.StepLemmas.{agree_ok}
 use Rattle.buffa_bytes.proofs.WireLemmas.{checked_same, same_false}
 use Rattle.buffa_bytes.specs.Content.{Content, HasContent, content_at}
 use Rattle.buffa_bytes.specs.Field.{IsTag, SomeField}
-use Rattle.buffa_bytes.specs.Front.{check_wire, delimited_at}
-use Rattle.buffa_bytes.specs.Gives.{◌>>=◌}
+use Rattle.buffa_bytes.specs.Front.{check_wire, delimited_at, ◌>>=◌, same_wire}
 use Rattle.buffa_bytes.specs.Join.{Join}
-use Rattle.buffa_bytes.specs.Sequence.{parse_all}
+use Rattle.buffa_bytes.specs.Scan.{parse_all}
 use Rattle.buffa_bytes.specs.Varint.{IsVarint}
-use Rattle.buffa_bytes.specs.WireType.{same_wire}
 use Rattle.buffa_bytes.specs.declared.error.DecodeError.{DecodeError}
 use Rattle.buffa_bytes.specs.declared.wire_type.WireType.{WireType}
 use Rattle.buffa_bytes.specs.declared.wire_type.WireType.TheVariants.{EndGroup, LengthDelimited, StartGroup}

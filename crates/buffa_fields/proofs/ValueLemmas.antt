@@ -4,8 +4,7 @@ use Rattle.buffa_bytes.proofs.FieldLemmas.{same_refl}
 use Rattle.buffa_bytes.proofs.StepLemmas.{agree_err, agree_ok}
 use Rattle.buffa_bytes.specs.Content.{Content, HasContent, content_at}
 use Rattle.buffa_bytes.specs.Field.{Payload}
-use Rattle.buffa_bytes.specs.Front.{check_wire}
-use Rattle.buffa_bytes.specs.WireType.{same_wire}
+use Rattle.buffa_bytes.specs.Front.{check_wire, same_wire}
 use Rattle.buffa_bytes.specs.declared.error.DecodeError.{DecodeError}
 use Rattle.buffa_bytes.specs.declared.error.DecodeError.TheVariants.{OutOfMemory, WireTypeMismatch}
 use Rattle.buffa_bytes.specs.declared.wire_type.WireType.{WireType}

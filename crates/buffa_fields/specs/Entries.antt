@@ -5,8 +5,7 @@ use Rattle.std.specs.Option.{option_map}
 use Rattle.buffa_bytes.specs.declared.error.DecodeError.{DecodeError}
 use Rattle.buffa_bytes.specs.declared.wire_type.WireType.TheVariants.{LengthDelimited}
 use Rattle.buffa_wire.specs.BudgetLeft.{BudgetLeft, need_by, nothing}
-use Rattle.buffa_bytes.specs.Front.{delimited_at}
-use Rattle.buffa_bytes.specs.WireType.{same_wire}
+use Rattle.buffa_bytes.specs.Front.{delimited_at, same_wire}
 use Rattle.buffa_map.specs.Codec.{Reading}
 use Rattle.buffa_map.specs.Entry.{entry_of}
 use Rattle.buffa_map.specs.declared.map_entry.MapEntry.{MapEntry}

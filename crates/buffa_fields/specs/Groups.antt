@@ -2,8 +2,8 @@
 use Rattle.std.specs.Prelude.{◌≡◌, ◌<◌, ℕ, ◌-◌, List, [], ◌++◌, Option, Result, Ok, Err, if◌then◌else◌}
 use Rattle.buffa_bytes.specs.declared.error.DecodeError.{DecodeError}
 use Rattle.buffa_bytes.specs.declared.wire_type.WireType.{WireType}
-use Rattle.buffa_bytes.specs.declared.wire_type.WireType.TheVariants.{StartGroup}
-use Rattle.buffa_bytes.specs.Front.{is_end, skip_at, tag_at}
+use Rattle.buffa_bytes.specs.declared.wire_type.WireType.TheVariants.{EndGroup, StartGroup}
+use Rattle.buffa_bytes.specs.Front.{same_wire, skip_at, tag_at}
 use Rattle.buffa_bytes.specs.Scan.{Scanned, scan}
 use Rattle.buffa_bytes.specs.Scan.Scanned.{ends, goes}
 use Rattle.buffa_wire.specs.BudgetLeft.{BudgetLeft}
@@ -19,7 +19,7 @@ body_behind bs (Ok rest) = goes tt rest (λ more. front_of bs rest ++ more)
 body_behind bs (Err e) = ends bs
 
 abbrev pub body_step : ℕ → List ℕ → Result (ℕ × WireType × List ℕ) DecodeError → Scanned (Unit {0}) (List ℕ)
-body_step d bs (Ok t) = if is_end t.1 then ends [] else body_behind bs (skip_at d t.0 t.1 t.2)
+body_step d bs (Ok t) = if same_wire EndGroup t.1 then ends [] else body_behind bs (skip_at d t.0 t.1 t.2)
 body_step d bs (Err e) = ends bs
 
 -- The body of the group whose start tag was read: the fields before its end tag, with groups nested at most d deep; all

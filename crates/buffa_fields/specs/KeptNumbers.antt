@@ -4,10 +4,8 @@ use Rattle.std.specs.Prelude.{◌≡◌, ◌≢◌, ◌⊎◌, ℕ, ℤ, false, 
 use Rattle.buffa_bytes.specs.declared.error.DecodeError.{DecodeError}
 use Rattle.buffa_bytes.specs.declared.error.DecodeError.TheVariants.{OutOfMemory}
 use Rattle.buffa_bytes.specs.declared.wire_type.WireType.TheVariants.{Varint}
-use Rattle.buffa_bytes.specs.Front.{check_wire, varint_at}
-use Rattle.buffa_bytes.specs.Gives.{◌>>=◌}
+use Rattle.buffa_bytes.specs.Front.{check_wire, varint_at, ◌>>=◌, same_wire}
 use Rattle.buffa_bytes.specs.Values.{int32_of}
-use Rattle.buffa_bytes.specs.WireType.{same_wire}
 use Rattle.buffa_bytes.specs.declared.tag.Tag.{Tag}
 use Rattle.buffa_fields.specs.Exit.{Exit}
 use Rattle.buffa_wire.specs.RecordReading.{field_at}

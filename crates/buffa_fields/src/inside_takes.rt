@@ -2,8 +2,7 @@
 
 ghost use Rattle.std.specs.Prelude.{◌≡◌, ◌≢◌, ◌<◌, ◌+◌, [], ℕ, List, IfErr, IsOk, Ok, OnErr, OnOk};
 ghost use Rattle.std.specs.Option.{option_map};
-ghost use Rattle.buffa_bytes.specs.Front.{delimited_at};
-ghost use Rattle.buffa_bytes.specs.Gives.{FullOnlyIf, Gives};
+ghost use Rattle.buffa_bytes.specs.Front.{delimited_at, FullOnlyIf, Gives};
 ghost use Rattle.buffa_bytes.specs.declared.error.DecodeError.TheVariants.{OutOfMemory};
 ghost use Rattle.buffa_wire.specs.BudgetLeft.{PaysAtMost, budget_left};
 ghost use Rattle.buffa_wire.specs.Message.{IsInside, MessageFault, cost_of_payload};

@@ -2,7 +2,7 @@
 
 ghost use Rattle.std.specs.Prelude.{◌≡◌, ◌≢◌, ◌<◌, IfOk, length};
 ghost use Rattle.buffa_wire.specs.BudgetLeft.{budget_left};
-ghost use Rattle.buffa_bytes.specs.Gives.{FullOnlyIf, GivesUnlessFull};
+ghost use Rattle.buffa_bytes.specs.Front.{FullOnlyIf, GivesUnlessFull};
 ghost use Rattle.buffa_bytes.specs.Left.{LeavesUnlessFull, past_no_payload};
 ghost use Rattle.buffa_bytes.specs.declared.wire_type.WireType.TheVariants.{StartGroup};
 ghost use Rattle.buffa_wire.specs.Passes.{cap};

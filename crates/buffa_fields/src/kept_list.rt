@@ -2,7 +2,7 @@
 
 ghost use Rattle.std.specs.Prelude.{◌≡◌, ◌∷◌, ◌++◌, List, Err, OnErr, [], map};
 ghost use Rattle.buffa_bytes.specs.declared.wire_type.WireType.TheVariants.{Varint};
-ghost use Rattle.buffa_bytes.specs.Gives.{FullOnlyIf};
+ghost use Rattle.buffa_bytes.specs.Front.{FullOnlyIf};
 ghost use Rattle.buffa_bytes.specs.Values.{int32_of};
 ghost use Rattle.buffa_wire.specs.Enums.{numbers};
 ghost use Rattle.buffa_fields.specs.KeptLists.{PutsNumbers, RefusesKeptNumbers, TakesKeptNumbers, kept_numbers_cost, kept_numbers_taken, varints};

@@ -3,8 +3,7 @@
 ghost use Rattle.std.specs.Prelude.{◌≡◌, ◌+◌, Err, [], OnErr};
 ghost use Rattle.std.proofs.Common.{sym, ◌∙◌};
 ghost use Rattle.buffa_bytes.specs.declared.wire_type.WireType.TheVariants.{LengthDelimited};
-ghost use Rattle.buffa_bytes.specs.Front.{check_wire};
-ghost use Rattle.buffa_bytes.specs.Gives.{FullOnlyIf};
+ghost use Rattle.buffa_bytes.specs.Front.{check_wire, FullOnlyIf};
 ghost use Rattle.buffa_map.proofs.BackLemmas.{plain_back};
 ghost use Rattle.buffa_map.specs.Pairs.{means, put};
 ghost use Rattle.buffa_fields.specs.KeptMaps.{IsAsideEntry, KeptPairTakesMemory, RefusesKeptPair, TakesKeptEntry, aside_entry_levels, kept_pair_cost, kept_pair_taken};

@@ -3,8 +3,7 @@
 ghost use Rattle.std.specs.Prelude.{◌≡◌, Err, OnErr};
 ghost use Rattle.std.specs.Option.{option_map};
 ghost use Rattle.buffa_bytes.specs.declared.wire_type.WireType.TheVariants.{Varint};
-ghost use Rattle.buffa_bytes.specs.Front.{check_wire};
-ghost use Rattle.buffa_bytes.specs.Gives.{FullOnlyIf};
+ghost use Rattle.buffa_bytes.specs.Front.{check_wire, FullOnlyIf};
 ghost use Rattle.buffa_wire.specs.Enums.{numbers};
 ghost use Rattle.buffa_fields.specs.KeptNumbers.{IsAsideNumber, KeptNumberTakesMemory, RefusesKeptNumber, TakesKeptNumber, kept_number_cost, kept_number_taken};
 ghost use Rattle.buffa_fields.specs.facts.KeptNumberFacts.{kept_number_again, kept_number_back, kept_number_behind, kept_number_stays};

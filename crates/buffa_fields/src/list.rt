@@ -2,8 +2,7 @@
 
 ghost use Rattle.std.specs.Prelude.{◌≡◌, IfErr, IsOk, OnErr, length, map};
 ghost use Rattle.buffa_bytes.specs.Content.{content_at};
-ghost use Rattle.buffa_bytes.specs.Gives.{FullOnlyIf, Gives, GivesUnlessFull};
-ghost use Rattle.buffa_bytes.specs.Front.{delimited_at};
+ghost use Rattle.buffa_bytes.specs.Front.{delimited_at, FullOnlyIf, Gives, GivesUnlessFull};
 ghost use Rattle.buffa_bytes.specs.Number.{IsNumber};
 ghost use Rattle.buffa_wire.specs.Passes.{cap};
 ghost use Rattle.buffa_wire.specs.Encoding.{records_encoding};

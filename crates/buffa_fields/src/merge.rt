@@ -1,8 +1,8 @@
 //! Merging all fields, and what a message holds after a refusal.
 
 ghost use Rattle.std.specs.Prelude.{◌≡◌, [], IfErr, OnOk};
-ghost use Rattle.buffa_bytes.specs.Gives.{FullOnlyIf};
-ghost use Rattle.buffa_bytes.specs.Unread.{IsTailOf};
+ghost use Rattle.buffa_bytes.specs.Front.{FullOnlyIf};
+ghost use Rattle.buffa_bytes.specs.Left.{IsTailOf};
 ghost use Rattle.buffa_wire.specs.Message.{BeginsField, Stands};
 ghost use Rattle.buffa_wire.specs.Takes.{cost_of, merged_of};
 ghost use Rattle.buffa_fields.specs.Calls.{MergesAll};

@@ -1,7 +1,7 @@
 //! Merging messages that hold themselves.
 
 ghost use Rattle.std.specs.Prelude.{◌≡◌, ◌+◌, [], IfErr, IsOk, OnOk};
-ghost use Rattle.buffa_bytes.specs.Gives.{FullOnlyIf};
+ghost use Rattle.buffa_bytes.specs.Front.{FullOnlyIf};
 ghost use Rattle.buffa_wire.specs.Message.{BeginsField, MergesBytes, Stands};
 ghost use Rattle.buffa_map.specs.Calls.{MergesMessages};
 ghost use Rattle.buffa_fields.specs.SelfRefused.{IsSelfRefused};

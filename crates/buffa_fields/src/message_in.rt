@@ -2,9 +2,8 @@
 
 ghost use Rattle.std.specs.Prelude.{None, ◌≡◌, ◌∷◌, [], length, true, refl};
 ghost use Rattle.std.specs.Option.{option_map};
-ghost use Rattle.buffa_bytes.specs.Gives.{FullOnlyIf};
 ghost use Rattle.buffa_bytes.specs.Number.{IsNumber};
-ghost use Rattle.buffa_bytes.specs.Front.{check_wire};
+ghost use Rattle.buffa_bytes.specs.Front.{check_wire, FullOnlyIf};
 ghost use Rattle.buffa_wire.specs.Passes.{IsNext, IsSized, cap};
 ghost use Rattle.buffa_wire.specs.Encoding.{records_encoding};
 ghost use Rattle.buffa_wire.proofs.ByPayloadLemmas.{by_payload, merged_fields};

@@ -3,8 +3,7 @@
 ghost use Rattle.std.specs.Prelude.{◌+◌, [], not};
 ghost use Rattle.std.specs.BTreeMap.{insert_entry};
 ghost use Rattle.std.proofs.Common.{sym, ◌∙◌};
-ghost use Rattle.buffa_bytes.specs.Gives.{FullOnlyIf};
-ghost use Rattle.buffa_bytes.specs.Front.{check_wire};
+ghost use Rattle.buffa_bytes.specs.Front.{check_wire, FullOnlyIf};
 ghost use Rattle.buffa_bytes.specs.declared.wire_type.WireType.TheVariants.{LengthDelimited};
 ghost use Rattle.buffa_map.proofs.BackLemmas.{plain_back};
 ghost use Rattle.buffa_map.specs.Encoding.{AllHold};

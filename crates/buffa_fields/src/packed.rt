@@ -6,7 +6,7 @@ ghost use Rattle.buffa_bytes.specs.declared.wire_type.WireType.TheVariants.{Leng
 ghost use Rattle.buffa_bytes.specs.Number.{IsNumber};
 ghost use Rattle.buffa_wire.specs.Passes.{IsWritten, cap};
 ghost use Rattle.buffa_wire.specs.Encoding.{records_encoding, encodings};
-ghost use Rattle.buffa_bytes.specs.WireType.{same_wire};
+ghost use Rattle.buffa_bytes.specs.Front.{same_wire};
 ghost use Rattle.buffa_bytes.specs.Written.{Writes};
 ghost use Rattle.buffa_map.specs.Encoding.{saturated};
 ghost use Rattle.buffa_fields.specs.Lists.{ElementsTakeMemory, check_list_wire, elements_taken, packed_records};

@@ -2,8 +2,8 @@
 
 ghost use Rattle.std.specs.Prelude.{◌≡◌, ◌≢◌, [], IfErr, IsOk, OnOk, refl};
 ghost use Rattle.std.proofs.Common.{ap, sym, ◌∙◌};
-ghost use Rattle.buffa_bytes.specs.Gives.{FullOnlyIf};
-ghost use Rattle.buffa_bytes.specs.Unread.{IsTailOf};
+ghost use Rattle.buffa_bytes.specs.Front.{FullOnlyIf};
+ghost use Rattle.buffa_bytes.specs.Left.{IsTailOf};
 ghost use Rattle.buffa_wire.specs.BudgetLeft.{budget_left};
 ghost use Rattle.buffa_wire.specs.Encoding.{records_encoding};
 ghost use Rattle.buffa_wire.specs.Message.{BeginsField, MergesBytes, MergesField, Stands, TakesMessageField};

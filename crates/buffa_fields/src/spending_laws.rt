@@ -12,8 +12,7 @@ ghost use Rattle.buffa_bytes.specs.declared.wire_type.WireType.TheVariants.{EndG
 ghost use Rattle.buffa_wire.specs.BudgetLeft.{BudgetLeft, nothing, plus, units};
 ghost use Rattle.buffa_wire.specs.Parse.{TakesField};
 ghost use Rattle.buffa_wire.specs.Records.{Datum};
-ghost use Rattle.buffa_map.specs.Entry.{EntryFault, IsEntry};
-ghost use Rattle.buffa_map.specs.Fields.{EntryFieldsTakeMemory};
+ghost use Rattle.buffa_map.specs.Entry.{EntryFault, IsEntry, EntryFieldsTakeMemory};
 ghost use Rattle.buffa_map.specs.Message.{message_reading};
 ghost use Rattle.buffa_map.specs.declared.map_entry.MapEntry.{MapEntry};
 ghost use Rattle.buffa_fields.specs.Keep.{IsFieldThere};

@@ -7,8 +7,7 @@ use Rattle.std.specs.Prelude.{is_some, pos, IsOk}
 use Rattle.std.specs.Str.{is_utf8}
 use Rattle.buffa_bytes.specs.Content.{Content, content_at, number_in, bytes_in}
 use Rattle.buffa_bytes.specs.Delimited.{bytes_as, string_as, text_as}
-use Rattle.buffa_bytes.specs.Front.{delimited_at, varint_at, taken}
-use Rattle.buffa_bytes.specs.Gives.{◌>>=◌}
+use Rattle.buffa_bytes.specs.Front.{delimited_at, varint_at, taken, ◌>>=◌}
 use Rattle.buffa_bytes.specs.Values.{int32_of}
 use Rattle.buffa_bytes.specs.Scalars.{eight_as, four_as, varint_as}
 use Rattle.buffa_bytes.specs.declared.wire_type.WireType.{WireType}

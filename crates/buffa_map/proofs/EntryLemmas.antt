@@ -2,7 +2,7 @@
 use Rattle.std.proofs.Common.{◌≡◌, ◌⊎◌, inl, inr, ℕ, ◌==◌, ◌<◌, Bool, true, false, List, ◌++◌, length, Result, Ok, Err, refl, sym, ap, subst, ◌∙◌, arith, append_assoc, length-append}
 use Rattle.std.proofs.lemmas.Bool.{eqb-true, eqb-false, ne_eqb}
 use Rattle.buffa_bytes.proofs.ListLemmas.{cut_twice}
-use Rattle.buffa_bytes.specs.Gives.{◌>>=◌}
+use Rattle.buffa_bytes.specs.Front.{◌>>=◌}
 use Rattle.buffa_bytes.specs.Field.{IsTag, TakesTag}
 use Rattle.buffa_bytes.specs.Content.{Content, HasContent, content_at}
 use Rattle.buffa_bytes.specs.declared.wire_type.WireType.{WireType}
@@ -13,7 +13,7 @@ use Rattle.buffa_bytes.proofs.ContentLemmas.{content_sound, content_complete, co
 use Rattle.buffa_bytes.proofs.WireLemmas.{check_sound, check_same, check_differs}
 use Rattle.buffa_wire.specs.BudgetLeft.{BudgetLeft, Lacks, need_by, nothing}
 use Rattle.buffa_wire.proofs.SpentLemmas.{PaysAtMost_nothing, Pays_nothing}
-use Rattle.buffa_bytes.specs.Sequence.{ParsesTo}
+use Rattle.buffa_bytes.specs.Scan.{ParsesTo}
 use Rattle.buffa_map.specs.Codec.{Reading, RefusesValue, Spends, Tells, ValueFault, level, value_at, value_need}
 use Rattle.buffa_map.specs.Entry.{CodecFault, IsCodecField, codec_at, blanks, IsEntryField, EntryFieldFault, IsEntry, FaultOf, entry_field_at, entry_of}
 use Rattle.buffa_map.specs.declared.map_entry.MapEntry.{MapEntry}

@@ -16,11 +16,9 @@ use Rattle.buffa_bytes.proofs.StepLemmas.{agree_err, agree_ok}
 use Rattle.buffa_bytes.proofs.TailLemmas.{tail_dropped}
 use Rattle.buffa_bytes.proofs.WireLemmas.{check_differs, check_same, same_false}
 use Rattle.buffa_bytes.specs.Field.{LengthFault}
-use Rattle.buffa_bytes.specs.Front.{delimited_at, skip_at, tag_at}
-use Rattle.buffa_bytes.specs.Gives.{◌>>=◌}
-use Rattle.buffa_bytes.specs.Left.{past_no_delimited, past_no_tag}
-use Rattle.buffa_bytes.specs.Sequence.{ParsesEach, ParsesTo, join}
-use Rattle.buffa_bytes.specs.Unread.{IsTailOf}
+use Rattle.buffa_bytes.specs.Front.{delimited_at, skip_at, tag_at, ◌>>=◌}
+use Rattle.buffa_bytes.specs.Left.{past_no_delimited, past_no_tag, IsTailOf}
+use Rattle.buffa_bytes.specs.Scan.{ParsesEach, ParsesTo, join}
 use Rattle.buffa_bytes.specs.declared.wire_type.WireType.{WireType}
 use Rattle.buffa_bytes.specs.declared.wire_type.WireType.TheVariants.{LengthDelimited}
 use Rattle.buffa_bytes.specs.declared.error.DecodeError.{DecodeError}
@@ -28,9 +26,8 @@ use Rattle.buffa_bytes.specs.declared.error.DecodeError.TheVariants.{ElementMemo
 use Rattle.buffa_wire.specs.BudgetLeft.{BudgetLeft, Pays, nothing, plus, units, unknown_fields}
 use Rattle.buffa_wire.specs.Records.{Datum, bytes}
 use Rattle.buffa_map.specs.Codec.{Reading, value_at, value_need}
-use Rattle.buffa_map.specs.Entry.{FaultOf, IsEntry, IsEntryField, blanks, entry_field_at, field_need, inner_need, need_at, need_of}
+use Rattle.buffa_map.specs.Entry.{FaultOf, IsEntry, IsEntryField, blanks, entry_field_at, field_need, inner_need, need_at, need_of, EntryFieldTakesMemory, EntryFieldsTakeMemory}
 use Rattle.buffa_map.specs.EntryWords.{EntriesAreFields, EntriesAreMerged, EntriesNeed, FieldTakesMemory, PairsAreLists, RefusedEntriesStay, RulesAreMet, RunsAreEntries}
-use Rattle.buffa_map.specs.Fields.{EntryFieldTakesMemory, EntryFieldsTakeMemory}
 use Rattle.buffa_map.specs.Merge.{EntryTakesMemory, MergesEntry, ReadsRun, RefusesRun, Rules, State, kept_of_entry, kept_of_run, unknown_cost}
 use Rattle.buffa_map.specs.Pairs.{SamePairs, put}
 use Rattle.buffa_map.specs.Parts.{RefusesParts}

@@ -3,21 +3,19 @@ use Rattle.std.proofs.Common.{arith, ◌≡◌, ◌≢◌, ◌+◌, ◌*◌, ◌
 use Rattle.std.proofs.lemmas.List.{nil_from_length, take-append-drop}
 use Rattle.buffa_bytes.proofs.SequenceLemmas.{not_nil}
 use Rattle.buffa_bytes.proofs.FieldLemmas.{tag_at_as, tag_read, wire_small}
-use Rattle.buffa_bytes.specs.Unread.{IsChunkOf}
+use Rattle.buffa_bytes.specs.Left.{IsChunkOf}
 use Rattle.buffa_bytes.specs.Varint.{IsVarint}
-use Rattle.buffa_bytes.specs.WireType.{wire_number}
 use Rattle.buffa_bytes.proofs.FullLemmas.{skip_no_full, tag_no_full}
 use Rattle.buffa_bytes.specs.declared.error.DecodeError.{DecodeError}
 use Rattle.buffa_bytes.specs.declared.error.DecodeError.TheVariants.{OutOfMemory}
 use Rattle.buffa_bytes.specs.declared.wire_type.WireType.{WireType}
 use Rattle.buffa_bytes.specs.Content.{Content}
 use Rattle.buffa_wire.specs.BudgetLeft.{BudgetLeft, Pays, PaysAtMost, nothing}
-use Rattle.buffa_bytes.specs.Front.{check_wire, skip_at, tag_at}
+use Rattle.buffa_bytes.specs.Front.{check_wire, skip_at, tag_at, wire_number}
 use Rattle.buffa_bytes.proofs.WireLemmas.{checked_same, other_not_full}
-use Rattle.buffa_bytes.specs.Sequence.{ParsesTo}
+use Rattle.buffa_bytes.specs.Scan.{ParsesTo}
 use Rattle.buffa_map.specs.Codec.{Reading, RefusesValue, Spends, ReadingTakesMemory, is_known, value_at, value_need}
-use Rattle.buffa_map.specs.Entry.{EntryFieldFault, IsEntryField, blanks, need_at}
-use Rattle.buffa_map.specs.Fields.{EntryFieldTakesMemory, MergesEntryField, MergesFields, RefusesEntryField, RefusesFields}
+use Rattle.buffa_map.specs.Entry.{EntryFieldFault, IsEntryField, blanks, need_at, EntryFieldTakesMemory, MergesEntryField, MergesFields, RefusesEntryField, RefusesFields}
 use Rattle.buffa_map.specs.declared.codec.MapValueDecodeStatus.{MapValueDecodeStatus}
 use Rattle.buffa_map.specs.declared.codec.MapValueDecodeStatus.TheVariants.{Known, Unknown}
 use Rattle.buffa_map.specs.declared.map_entry.MapEntry.{MapEntry}

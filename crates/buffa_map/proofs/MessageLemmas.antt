@@ -1,11 +1,10 @@
 -- What merging a message promises is what its codec promises.
 use Rattle.std.proofs.Common.{◌≡◌, ◌<◌, ◌⊎◌, inl, inr, ℕ, zero, suc, arith, List, [], ◌++◌, Option, Result, Ok, Err, refl, sym, ap, subst, ◌∙◌, append_assoc}
-use Rattle.buffa_bytes.specs.Gives.{◌>>=◌}
 use Rattle.buffa_bytes.specs.Content.{Content, bytes_in}
 use Rattle.buffa_bytes.specs.Content.Content.{bytes}
 use Rattle.buffa_bytes.proofs.SequenceLemmas.{ok_same}
 use Rattle.buffa_bytes.specs.Field.{TakesDelimited}
-use Rattle.buffa_bytes.specs.Front.{delimited_at}
+use Rattle.buffa_bytes.specs.Front.{delimited_at, ◌>>=◌}
 use Rattle.buffa_wire.specs.BudgetLeft.{BudgetLeft, Lacks, need_by}
 use Rattle.buffa_wire.specs.Message.{MessageFault, cost_in, cost_of_payload}
 use Rattle.buffa_bytes.specs.declared.error.DecodeError.{DecodeError}

@@ -16,7 +16,7 @@ use Rattle.buffa_bytes.specs.Varint.{varint_encoding}
 use Rattle.buffa_wire.specs.BudgetLeft.{BudgetLeft, nothing, plus}
 use Rattle.buffa_bytes.specs.declared.wire_type.WireType.TheVariants.{LengthDelimited}
 use Rattle.buffa_bytes.proofs.VarintLemmas.{IsVarint-varint_encoding}
-use Rattle.buffa_bytes.specs.Sequence.{ParsesEach}
+use Rattle.buffa_bytes.specs.Scan.{ParsesEach}
 use Rattle.buffa_map.specs.Codec.{Reading, Writing}
 use Rattle.buffa_map.specs.Entry.{IsEntry, IsEntryField, blanks}
 use Rattle.buffa_map.specs.EnumFacts.{closed_reads_back}

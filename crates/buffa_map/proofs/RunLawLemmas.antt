@@ -1,14 +1,12 @@
 -- What the words of entries, runs and rewrites come to.
 use Rattle.std.proofs.Common.{arith, ◌≡◌, ◌≢◌, ◌⊎◌, inl, inr, ℕ, zero, suc, ◌+◌, ◌*◌, ◌<◌, ◌≤◌, Bool, true, false, List, [], ◌∷◌, ◌++◌, Option, Result, Ok, Err, refl, sym, ap, ◌∙◌, append-nil}
 use Rattle.std.specs.Prelude.{IsOk, cond, if◌then◌else◌, length}
-use Rattle.buffa_bytes.specs.Gives.{◌>>=◌}
 use Rattle.buffa_bytes.specs.Content.{Content}
 use Rattle.buffa_bytes.specs.Content.Content.{bytes}
-use Rattle.buffa_bytes.specs.Front.{delimited_at, tag_at}
+use Rattle.buffa_bytes.specs.Front.{delimited_at, tag_at, ◌>>=◌, wire_number}
 use Rattle.buffa_bytes.specs.Field.{LengthFault, PayloadFault, TagFault, TakesTag}
-use Rattle.buffa_bytes.specs.Sequence.{join}
+use Rattle.buffa_bytes.specs.Scan.{join}
 use Rattle.buffa_bytes.specs.Values.{tag_encoding}
-use Rattle.buffa_bytes.specs.WireType.{wire_number}
 use Rattle.buffa_bytes.specs.declared.error.DecodeError.{DecodeError}
 use Rattle.buffa_bytes.specs.declared.error.DecodeError.TheVariants.{ElementMemoryLimitExceeded, UnknownFieldLimitExceeded, WireTypeMismatch}
 use Rattle.buffa_bytes.specs.declared.wire_type.WireType.{WireType}
@@ -20,8 +18,7 @@ use Rattle.buffa_wire.specs.Records.{Datum}
 use Rattle.buffa_map.specs.Pairs.{SamePairs, put}
 use Rattle.buffa_map.specs.Codec.{HoldsNothing, IsWhole, Reading, ReadingTakesMemory, RefusesValue, ValueFault, Writing}
 use Rattle.buffa_map.specs.Encoding.{entry_encoding}
-use Rattle.buffa_map.specs.Entry.{EntryFault, EntryFieldFault, FaultOf, IsEntry, need_of}
-use Rattle.buffa_map.specs.Fields.{EntryFieldsTakeMemory}
+use Rattle.buffa_map.specs.Entry.{EntryFault, EntryFieldFault, FaultOf, IsEntry, need_of, EntryFieldsTakeMemory}
 use Rattle.buffa_map.specs.Merge.{MergesEntry, ReadsRun, Rules, State, state}
 use Rattle.buffa_map.specs.Message.{message_reading}
 use Rattle.buffa_map.specs.Rewrite.{RefusesEncoding, RewritesRun}

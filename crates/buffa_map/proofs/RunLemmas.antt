@@ -16,7 +16,7 @@ use Rattle.buffa_wire.specs.BudgetLeft.{BudgetLeft, Lacks, Pays, nothing, plus, 
 use Rattle.buffa_bytes.specs.Content.{Content}
 use Rattle.buffa_bytes.proofs.WireLemmas.{check_sound, check_differs, checked_same, checked_other}
 use Rattle.buffa_wire.specs.Records.{Datum, bytes}
-use Rattle.buffa_bytes.specs.Sequence.{join, ParsesEach}
+use Rattle.buffa_bytes.specs.Scan.{join, ParsesEach}
 use Rattle.buffa_map.specs.Codec.{Reading}
 use Rattle.buffa_map.specs.Entry.{IsEntry, FaultOf, EntryOf, EntryFault, blanks, need_at, need_of}
 use Rattle.buffa_map.specs.Pairs.{InOrder, put, SamePairs}

@@ -8,8 +8,7 @@ use Rattle.buffa_bytes.proofs.TailLemmas.{tail_more}
 use Rattle.buffa_bytes.proofs.WireLemmas.{check_differs, check_same}
 use Rattle.buffa_bytes.specs.Field.{TakesDelimited}
 use Rattle.buffa_bytes.specs.Front.{check_wire, delimited_at, tag_at}
-use Rattle.buffa_bytes.specs.Left.{past_no_delimited, past_no_tag}
-use Rattle.buffa_bytes.specs.Unread.{IsTailOf}
+use Rattle.buffa_bytes.specs.Left.{past_no_delimited, past_no_tag, IsTailOf}
 use Rattle.buffa_bytes.specs.declared.error.DecodeError.{DecodeError}
 use Rattle.buffa_bytes.specs.declared.error.DecodeError.TheVariants.{OutOfMemory}
 use Rattle.buffa_bytes.specs.declared.wire_type.WireType.{WireType}

@@ -8,8 +8,7 @@ use Rattle.buffa_bytes.proofs.LeftLemmas.{no_number, past_cut}
 use Rattle.buffa_bytes.proofs.LeftLemmas as at_left
 use Rattle.buffa_bytes.proofs.StepLemmas.{agree_err, agree_ok}
 use Rattle.buffa_bytes.proofs.TailLemmas.{tail_dropped}
-use Rattle.buffa_bytes.specs.Left.{past_no_delimited, past_no_tag, past_no_varint}
-use Rattle.buffa_bytes.specs.Unread.{IsTailOf}
+use Rattle.buffa_bytes.specs.Left.{past_no_delimited, past_no_tag, past_no_varint, IsTailOf}
 use Rattle.buffa_bytes.specs.declared.error.DecodeError.{DecodeError}
 use Rattle.buffa_bytes.specs.declared.error.DecodeError.TheVariants.{UnexpectedEof}
 use Rattle.buffa_bytes.proofs.LendLemmas.{delimited_front}

@@ -1,6 +1,6 @@
 -- What a codec makes of payloads and of values.
 use Rattle.std.specs.Prelude.{◌≡◌, ◌↔◌, ℕ, zero, suc, ◌⊎◌, Bool, true, false, List, [], Option, Result, Ok, Err, IsOk, MatchResult}
-use Rattle.buffa_bytes.specs.Gives.{◌>>=◌}
+use Rattle.buffa_bytes.specs.Front.{◌>>=◌}
 use Rattle.buffa_bytes.specs.Content.{Content, TakesContent, ContentFault, content_at}
 use Rattle.buffa_bytes.specs.Content.Content.{bytes}
 use Rattle.buffa_wire.specs.BudgetLeft.{BudgetLeft, Lacks, Pays, PaysAtMost, need_by}

@@ -1,7 +1,6 @@
 -- What the laws say of codecs in the words of bytes: varints, lengths and texts, as the layer below reads them.
 use Rattle.std.specs.Prelude.{◌≡◌, ◌↔◌, ℕ, ℤ, suc, true, false, Bool, cond, List, [], Option, None, Some, is_some, Result, Ok, Err, IsOk}
-use Rattle.buffa_bytes.specs.Gives.{◌>>=◌}
-use Rattle.buffa_bytes.specs.Front.{delimited_at}
+use Rattle.buffa_bytes.specs.Front.{delimited_at, ◌>>=◌}
 use Rattle.buffa_bytes.specs.Values.{int32_at}
 use Rattle.buffa_bytes.specs.declared.wire_type.WireType.{WireType}
 use Rattle.buffa_bytes.specs.declared.error.DecodeError.{DecodeError}

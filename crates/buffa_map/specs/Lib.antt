@@ -4,11 +4,9 @@ pub mod Codec
 pub mod Scalars
 pub mod ScalarFacts
 pub mod Entry
-pub mod Fields
 pub mod Run
 pub mod Merge
 pub mod Parts
-pub mod Lent
 pub mod Encoding
 pub mod Message
 pub mod MessageFacts

@@ -1,18 +1,18 @@
 -- What reading entries does to a map, to the records that are kept beside it, and to a budget.
-use Rattle.std.specs.Prelude.{◌≡◌, ◌≢◌, ℕ, ◌+◌, ◌<◌, ◌≤◌, Bool, List, [], ◌++◌, ◌⊎◌, cond, if◌then◌else◌, true, Ok, Err, IsOk}
+use Rattle.std.specs.Prelude.{ℕ, ◌+◌, length, List, [], Option, None, Some, ◌≡◌, ◌≢◌, ◌<◌, ◌≤◌, Bool, ◌++◌, ◌⊎◌, cond, if◌then◌else◌, true, Ok, Err, IsOk}
+use Rattle.std.proofs.Common.{inl, inr}
+use Rattle.buffa_wire.specs.Records.{Datum, Held}
+use denote.Ref.{MutBor}
 use Rattle.buffa_bytes.specs.declared.error.DecodeError.{DecodeError}
 use Rattle.buffa_bytes.specs.declared.error.DecodeError.TheVariants.{OutOfMemory, UnexpectedField, WireTypeMismatch}
-use Rattle.buffa_bytes.specs.Left.{past_no_tag, past_no_delimited}
-use Rattle.buffa_bytes.specs.Unread.{IsTailOf}
+use Rattle.buffa_bytes.specs.Left.{past_no_tag, past_no_delimited, IsTailOf}
 use Rattle.buffa_bytes.specs.declared.wire_type.WireType.{WireType}
 use Rattle.buffa_bytes.specs.Field.{TakesDelimited}
 use Rattle.buffa_wire.specs.BudgetLeft.{BudgetLeft, Pays, plus, unknown_fields}
 use Rattle.buffa_bytes.specs.Front.{delimited_at, tag_at}
-use Rattle.buffa_wire.specs.Records.{Datum}
 use Rattle.buffa_bytes.specs.declared.wire_type.WireType.TheVariants.{LengthDelimited}
 use Rattle.buffa_map.specs.Codec.{Reading}
-use Rattle.buffa_map.specs.Entry.{EntryFault, EntryOf, IsEntry, inner_need, need_of}
-use Rattle.buffa_map.specs.Fields.{EntryFieldsTakeMemory}
+use Rattle.buffa_map.specs.Entry.{EntryFault, EntryOf, IsEntry, inner_need, need_of, EntryFieldsTakeMemory}
 use Rattle.buffa_map.specs.Pairs.{InOrder, SamePairs}
 use Rattle.buffa_map.specs.Run.{fold_entries, ArePaid, Run, EntryRecord, step, undeclared_record, undeclared_records}
 use Rattle.buffa_map.specs.declared.map_entry.MapEntry.{MapEntry}
@@ -74,10 +74,6 @@ pub record MergesEntry {K V : Type 0} (r : Rules K V) (old : State K V) (bytes :
   pub keeps : new.records ≡ old.records ++ kept_of_entry r entry says
   pub pays : Pays old.left (plus (need_of r.key r.val r.depth r.cost entry) (unknown_fields (cond says.known 0 (unknown_cost r)))) new.left
 
--- what keeping an entry takes is left: an unknown field, behind what its fields cost
-abbrev pub HasUnknownLeft : {K V : Type 0} → Rules K V → BudgetLeft → List ℕ → Type 0
-HasUnknownLeft r left e = (r.keeps_undeclared ≡ true) × ((need_of r.key r.val r.depth r.cost e).unknown < left.unknown)
-
 -- Memory may run out while an entry is merged only where a length and so many bytes, the entry, are there, and then at one of
 -- these: the entry is copied before it is read, which it is if it has bytes and one that is undeclared would be kept; or its
 -- units are left, and a field of it takes memory, of which f is told, or it is whole, and is put into the map, or kept, for
@@ -87,7 +83,7 @@ EntryTakesMemory {K} {V} r left bs f =
     (e : List ℕ) × (rest : List ℕ) × (delimited_at bs ≡ Ok (e, rest))
     × (((r.keeps_undeclared ≡ true) × (r.val.undeclared ≡ true) × (e ≢ []))
     ⊎ ((r.cost ≤ left.memory) × (EntryFieldsTakeMemory r.key r.val r.depth e f
-    ⊎ ((s : MapEntry K V) × IsEntry r.key r.val r.depth e s × ((s.known ≡ true) ⊎ HasUnknownLeft r left e)))))
+    ⊎ ((s : MapEntry K V) × IsEntry r.key r.val r.depth e s × ((s.known ≡ true) ⊎ ((r.keeps_undeclared ≡ true) × ((need_of r.key r.val r.depth r.cost e).unknown < left.unknown)))))))
 
 -- what a refused entry leaves unread
 pub record LeavesEntry (bytes : List ℕ) (f : DecodeError) (unread : List ℕ) : Type 0 where
@@ -161,3 +157,30 @@ pub record RefusesRun {K V : Type 0} (r : Rules K V) (old : State K V) (bytes : 
   pub read : ReadsRun r old front now []
   pub refused : (RefusesTag r.number rest tail f × (new ≡ now))
       ⊎ ((mid : List ℕ) × (tag_at rest ≡ Ok (r.number, LengthDelimited, mid)) × RefusesEntry r now mid new tail f)
+
+-- ---- a list that may be passed, before a call and after it
+
+-- the records of the list at the return, none where no list was passed
+abbrev pub records_after : Unit {0} ⊎ ((MutBor Held × Unit {0}) ⊎ ⊥) → List (ℕ × Datum)
+records_after (inl u) = []
+records_after (inr (inl s)) = s.0.now.records
+records_after (inr (inr s)) = []
+
+-- the records of the list at the call, none where no list was passed
+abbrev pub records_before : Option (MutBor Held) → List (ℕ × Datum)
+records_before None = []
+records_before (Some list) = list.now.records
+
+-- how many records a list can hold: those that it has, and its room
+abbrev pub capacity_of : Held → ℕ
+capacity_of list = length list.records + list.spare
+
+-- the same of a list that may be passed, at the call, and at the return
+abbrev pub capacity_before : Option (MutBor Held) → ℕ
+capacity_before None = 0
+capacity_before (Some list) = capacity_of list.now
+
+abbrev pub capacity_after : Unit {0} ⊎ ((MutBor Held × Unit {0}) ⊎ ⊥) → ℕ
+capacity_after (inl u) = 0
+capacity_after (inr (inl s)) = capacity_of s.0.now
+capacity_after (inr (inr s)) = 0

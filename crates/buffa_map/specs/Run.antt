@@ -1,16 +1,15 @@
 -- Runs of map records, and what they mean. Source: the protobuf encoding guide, "Maps".
 use Rattle.std.specs.Prelude.{◌≡◌, ◌≢◌, ℕ, ◌+◌, ◌-◌, ◌*◌, nat_lt, ◌==◌, ◌&&◌, ◌||◌, not, Bool, true, List, [], ◌∷◌, ◌++◌, length, map, cond, ◌⊎◌, if◌then◌else◌, Result, Ok, Err}
-use Rattle.buffa_bytes.specs.Gives.{◌>>=◌}
 use Rattle.buffa_bytes.specs.Varint.{IsVarint}
 use Rattle.buffa_bytes.specs.Field.{IsTag, TakesTag, TagFault}
-use Rattle.buffa_bytes.specs.Front.{tag_at, check_wire, delimited_at}
+use Rattle.buffa_bytes.specs.Front.{tag_at, check_wire, delimited_at, ◌>>=◌}
 use Rattle.buffa_bytes.specs.declared.wire_type.WireType.{WireType}
 use Rattle.buffa_bytes.specs.declared.wire_type.WireType.TheVariants.{LengthDelimited}
 use Rattle.buffa_bytes.specs.declared.error.DecodeError.{DecodeError}
 use Rattle.buffa_bytes.specs.declared.error.DecodeError.TheVariants.{ElementMemoryLimitExceeded, UnexpectedField, UnknownFieldLimitExceeded, WireTypeMismatch}
 use Rattle.buffa_wire.specs.BudgetLeft.{BudgetLeft, nothing, plus}
 use Rattle.buffa_wire.specs.Records.{Datum, bytes}
-use Rattle.buffa_bytes.specs.Sequence.{parse_all}
+use Rattle.buffa_bytes.specs.Scan.{parse_all}
 use Rattle.buffa_map.specs.Codec.{Reading}
 use Rattle.buffa_map.specs.Entry.{IsEntry, EntryFault, blanks, entry_of, need_at, need_of}
 use Rattle.buffa_map.specs.Pairs.{put}
@@ -91,14 +90,12 @@ module _ {K V : Type 0} (key : Reading K) (val : Reading V) (d n : ℕ) where
       ⊎ (((w : WireType) × (rest : List ℕ) × TakesTag bs n w rest × (w ≢ LengthDelimited) × (f ≡ WireTypeMismatch n LengthDelimited w))
       ⊎ ((rest : List ℕ) × TakesTag bs n LengthDelimited rest × EntryFault key val d cost unknown_cost left rest f)))
 
-  -- records of the entries es begin the bytes, rest follows, and they are paid
-  abbrev pub RunBegins : ℕ → ℕ → BudgetLeft → List ℕ → List (EntryRecord K V) → List ℕ → BudgetLeft → Type 0
-  RunBegins cost unknown_cost left bs es rest left_after = (front : List ℕ) × (bs ≡ front ++ rest) × Run front es × ArePaid key val d cost unknown_cost left es left_after
-
-  -- after the records of some entries, f is the first fault of what is left
+  -- the records of some entries begin the bytes, and are paid; f is the first fault of what is left
   abbrev pub RunFault : ℕ → ℕ → BudgetLeft → List ℕ → DecodeError → Type 0
   RunFault cost unknown_cost left bs f =
-      (es : List (EntryRecord K V)) × (rest : List ℕ) × (left_after : BudgetLeft) × RunBegins cost unknown_cost left bs es rest left_after × (rest ≢ []) × RecordFault cost unknown_cost left_after rest f
+      (es : List (EntryRecord K V)) × (rest : List ℕ) × (left_after : BudgetLeft)
+      × ((front : List ℕ) × (bs ≡ front ++ rest) × Run front es × ArePaid key val d cost unknown_cost left es left_after)
+      × (rest ≢ []) × RecordFault cost unknown_cost left_after rest f
 
   -- the readings: of the record at the front, and of a whole run, which answers the entries and what is left after them
   abbrev pub record_at : ℕ → ℕ → BudgetLeft → List ℕ → Result (EntryRecord K V × List ℕ) DecodeError

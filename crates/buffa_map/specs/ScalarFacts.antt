@@ -1,7 +1,7 @@
 -- What the codecs of scalars, strings and bytes owe: one law for each shape.
 use Rattle.std.proofs.Common.{◌≡◌, ℕ, Bool, true, false, List, length, Result, Ok, Err, refl, sym, ap, if◌then◌else◌}
 use Rattle.std.specs.Str.{is_utf8}
-use Rattle.buffa_bytes.specs.Gives.{◌>>=◌}
+use Rattle.buffa_bytes.specs.Front.{◌>>=◌}
 use Rattle.buffa_bytes.specs.Content.{Content, HasContent, bytes_in}
 use Rattle.buffa_bytes.specs.Content.Content.{bytes}
 use Rattle.buffa_wire.specs.Message.{IsLimit}

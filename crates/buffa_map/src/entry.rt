@@ -4,8 +4,7 @@ ghost use Rattle.std.specs.Prelude.{◌≡◌, ◌+◌, ◌<◌, ◌≤◌, [], 
 ghost use Rattle.buffa_bytes.specs.declared.error.DecodeError.TheVariants.{ElementMemoryLimitExceeded, OutOfMemory};
 ghost use Rattle.buffa_wire.specs.BudgetLeft.{budget_left};
 ghost use Rattle.buffa_map.specs.Entry.{meant_entry};
-ghost use Rattle.buffa_map.specs.Lent.{records_before, records_after, capacity_before, capacity_after};
-ghost use Rattle.buffa_map.specs.Merge.{MergesEntry, MergesWhole, RefusesEntry, RefusesWhole, rules, state};
+ghost use Rattle.buffa_map.specs.Merge.{MergesEntry, MergesWhole, RefusesEntry, RefusesWhole, rules, state, records_before, records_after, capacity_before, capacity_after};
 ghost use Rattle.buffa_map.specs.Pairs.{InOrder, SamePairs, put};
 ghost use Rattle.buffa_map.specs.Parts.{ReadsCut, ReadsParts, RefusesCut, RefusesParts};
 

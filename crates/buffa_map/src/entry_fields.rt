@@ -1,11 +1,9 @@
 //! The fields of an entry.
 
 ghost use Rattle.std.specs.Prelude.{◌≡◌, ◌<◌, IfErr, IfOk, MatchOption, Ok, OnOk};
-ghost use Rattle.buffa_bytes.specs.Front.{tag_at};
-ghost use Rattle.buffa_bytes.specs.Gives.{Gives};
+ghost use Rattle.buffa_bytes.specs.Front.{tag_at, Gives};
 ghost use Rattle.buffa_wire.specs.BudgetLeft.{budget_left};
-ghost use Rattle.buffa_map.specs.Entry.{meant_entry};
-ghost use Rattle.buffa_map.specs.Fields.{MergesEntryField, MergesFields, RefusesEntryField, RefusesFields};
+ghost use Rattle.buffa_map.specs.Entry.{meant_entry, MergesEntryField, MergesFields, RefusesEntryField, RefusesFields};
 
 use crate::codec::{MapValueDecode, MapValueDecodeStatus};
 use crate::map_entry::MapEntry;

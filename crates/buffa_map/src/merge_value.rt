@@ -4,7 +4,7 @@ ghost use Rattle.std.specs.Prelude.{◌≡◌, ◌≢◌, ◌+◌, ℕ, Bool, fa
 ghost use Rattle.buffa_bytes.specs.declared.error.DecodeError.TheVariants.{OutOfMemory};
 ghost use Rattle.buffa_bytes.specs.declared.wire_type.WireType.{WireType};
 ghost use Rattle.buffa_bytes.specs.declared.wire_type.WireType.TheVariants.{LengthDelimited};
-ghost use Rattle.buffa_bytes.specs.Gives.{FullOnlyIf};
+ghost use Rattle.buffa_bytes.specs.Front.{FullOnlyIf};
 ghost use Rattle.buffa_bytes.specs.Content.{Content, bytes_in};
 ghost use Rattle.buffa_wire.specs.BudgetLeft.{budget_left, nothing};
 ghost use Rattle.buffa_wire.specs.Message.{merged_in};

@@ -1,8 +1,7 @@
 //! Entries of messages, merged by a function.
 
 ghost use Rattle.std.specs.Prelude.{◌≡◌, ◌≢◌, ◌+◌, ◌<◌, [], IfErr, IsOk, Ok, OnErr, OnOk, true, false};
-ghost use Rattle.buffa_bytes.specs.Gives.{FullOnlyIf};
-ghost use Rattle.buffa_bytes.specs.Front.{delimited_at};
+ghost use Rattle.buffa_bytes.specs.Front.{delimited_at, FullOnlyIf};
 ghost use Rattle.buffa_bytes.specs.declared.error.DecodeError.TheVariants.{OutOfMemory};
 ghost use Rattle.buffa_wire.specs.BudgetLeft.{PaysAtMost, budget_left};
 ghost use Rattle.buffa_wire.specs.Message.{MergesBytes, MergesInside, MessageFault, cost_of_payload};

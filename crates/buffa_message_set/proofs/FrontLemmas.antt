@@ -4,7 +4,7 @@ use Rattle.std.proofs.lemmas.Bool.{eqb-true}
 use Rattle.buffa_bytes.specs.Field.{Field, IsTag, LengthFault, PayloadFault, TagFault}
 use Rattle.buffa_bytes.specs.Field.{SomeField}
 use Rattle.buffa_bytes.specs.Join.{Join}
-use Rattle.buffa_bytes.specs.Sequence.{ParsesEach, join}
+use Rattle.buffa_bytes.specs.Scan.{ParsesEach, join}
 use Rattle.buffa_bytes.specs.Varint.{IsVarint, VarintFault}
 use Rattle.buffa_bytes.specs.declared.error.DecodeError.{DecodeError}
 use Rattle.buffa_bytes.specs.declared.error.DecodeError.TheVariants.{InvalidMessageSet, UnknownFieldLimitExceeded}

@@ -1,21 +1,18 @@
 -- The Items of a MessageSet: what follows an Item's start tag, up to and with its end tag.
 -- Source: the documentation of buffa, "MessageSet wire format helpers"; the protobuf encoding guide, "Groups".
 use Rattle.std.specs.Prelude.{◌≡◌, ◌≢◌, ℕ, suc, ◌+◌, ◌^◌, ◌<◌, ◌≤◌, ◌==◌, ◌&&◌, nat_lt, ◌⊎◌, Bool, List, [], ◌++◌, length, Option, None, Some, Result, Ok, Err, if◌then◌else◌}
-use Rattle.buffa_bytes.specs.Gives.{◌>>=◌}
 use Rattle.buffa_bytes.specs.Varint.{IsVarint, TakesVarint, VarintFault, varint_encoding}
 use Rattle.buffa_bytes.specs.Values.{delimited_encoding, tag_encoding}
 use Rattle.buffa_bytes.specs.Field.{Field, Group, IsTag, LengthFault, PayloadFault, TagFault, TakesDelimited, TakesTag}
-use Rattle.buffa_bytes.specs.Front.{delimited_at, skip_at, tag_at, varint_at}
-use Rattle.buffa_bytes.specs.Scan.{Scanned, parsed, scan}
+use Rattle.buffa_bytes.specs.Front.{delimited_at, skip_at, tag_at, varint_at, ◌>>=◌, same_wire}
+use Rattle.buffa_bytes.specs.Scan.{Scanned, parsed, scan, ParsesTo}
 use Rattle.buffa_bytes.specs.Scan.Scanned.{ends}
-use Rattle.buffa_bytes.specs.WireType.{same_wire}
 use Rattle.buffa_wire.specs.BudgetLeft.{BudgetLeft}
 use Rattle.buffa_bytes.specs.declared.wire_type.WireType.{WireType}
 use Rattle.buffa_bytes.specs.declared.wire_type.WireType.TheVariants.{Varint, LengthDelimited, StartGroup, EndGroup}
 use Rattle.buffa_bytes.specs.declared.error.DecodeError.{DecodeError}
 use Rattle.buffa_bytes.specs.declared.error.DecodeError.TheVariants.{InvalidMessageSet, UnexpectedEof, UnknownFieldLimitExceeded}
 use Rattle.buffa_bytes.specs.declared.error.MessageSetFault.TheVariants.{MissingTypeId, TypeIdOutOfRange}
-use Rattle.buffa_bytes.specs.Sequence.{ParsesTo}
 use Rattle.buffa_message_set.specs.declared.message_set.ItemParts.{ItemParts}
 
 -- the numbers that a type id may be, and the others

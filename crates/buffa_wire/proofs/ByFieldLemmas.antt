@@ -1,11 +1,10 @@
 -- What a message owes follows from what each of its fields does.
 use Rattle.std.proofs.Common.{◌≡◌, ◌⊎◌, inl, inr, ℕ, ◌<◌, List, [], ◌∷◌, ◌++◌, length, Some, None, Result, Ok, Err, refl, sym, ap, subst, ◌∙◌, arith, append_assoc, append-nil, length-append}
 use Rattle.std.specs.Option.{option_and_then}
-use Rattle.buffa_bytes.specs.Gives.{◌>>=◌, Gives}
 use Rattle.buffa_bytes.specs.Field.{IsTag, Payload, SomeField}
 use Rattle.buffa_bytes.specs.Join.{Join}
 use Rattle.buffa_bytes.specs.Join.Join.{none, more}
-use Rattle.buffa_bytes.specs.Front.{tag_at}
+use Rattle.buffa_bytes.specs.Front.{tag_at, ◌>>=◌, Gives}
 use Rattle.buffa_wire.specs.BudgetLeft.{BudgetLeft, nothing}
 use Rattle.buffa_wire.specs.Message.{IsFieldMerged, IsJudged}
 use Rattle.buffa_bytes.specs.declared.wire_type.WireType.{WireType}
@@ -13,7 +12,7 @@ use Rattle.buffa_bytes.specs.declared.error.DecodeError.{DecodeError}
 use Rattle.buffa_bytes.proofs.StepLemmas.{Agrees, agree_bind, agree_err, agree_ok, agree_weaker}
 use Rattle.buffa_bytes.proofs.FieldLemmas.{tag_complete, tag_some, tag_sound}
 use Rattle.buffa_wire.proofs.MessageLemmas.{NoLimit, tag_no_limit}
-use Rattle.buffa_bytes.specs.Sequence.{parse_all}
+use Rattle.buffa_bytes.specs.Scan.{parse_all}
 use Rattle.buffa_bytes.proofs.SequenceLemmas.{Falls, along_err, along_none, along_ok, ok_same, parse_leads}
 use Rattle.buffa_wire.specs.ByField.{FieldReader, merged_by, next_at, value_of}
 

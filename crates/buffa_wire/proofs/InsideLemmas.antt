@@ -6,8 +6,7 @@ use Rattle.std.specs.Fn.{Called}
 use Rattle.std.specs.Prelude.{IfErr, OnErr, OnOk}
 use Rattle.buffa_bytes.specs.declared.error.DecodeError.{DecodeError}
 use Rattle.buffa_bytes.specs.declared.error.DecodeError.TheVariants as error
-use Rattle.buffa_bytes.specs.Gives.{FullOnlyIf}
-use Rattle.buffa_bytes.specs.Front.{delimited_at}
+use Rattle.buffa_bytes.specs.Front.{delimited_at, FullOnlyIf}
 use Rattle.buffa_bytes.specs.Delimited.{Lends}
 use Rattle.buffa_bytes.proofs.LendLemmas.{lent_full}
 use Rattle.buffa_bytes.proofs.FieldLemmas.{tag_falls}

@@ -1,11 +1,10 @@
 -- The loops that read fields, step by step.
 use Rattle.std.proofs.Common.{◌≡◌, ◌≢◌, ℕ, zero, suc, ◌+◌, ◌-◌, ◌<◌, ◌≤◌, List, [], ◌∷◌, ◌++◌, length, Result, Ok, Err, refl, sym, ap, subst, ◌∙◌, arith, length-append, append-nil}
-use Rattle.buffa_bytes.specs.Gives.{◌>>=◌}
 use Rattle.buffa_bytes.specs.declared.wire_type.WireType.{WireType}
 use Rattle.buffa_bytes.specs.declared.wire_type.WireType.TheVariants as wire
 use Rattle.buffa_bytes.specs.declared.error.DecodeError.{DecodeError}
 use Rattle.buffa_bytes.specs.declared.error.DecodeError.TheVariants.{RecursionLimitExceeded, UnknownFieldLimitExceeded, InvalidEndGroup}
-use Rattle.buffa_bytes.specs.Front.{tag_at}
+use Rattle.buffa_bytes.specs.Front.{tag_at, ◌>>=◌}
 use Rattle.buffa_bytes.specs.Scan.{step_then}
 use Rattle.buffa_bytes.proofs.StepLemmas.{Agrees, agree_ok, agree_bind}
 use Rattle.buffa_wire.specs.Records.{Datum, group, records_of}

@@ -10,7 +10,7 @@ use Rattle.buffa_bytes.proofs.TailLemmas.{tail_dropped}
 use Rattle.buffa_bytes.specs.Field.{Payload, SomeField, TakesTag}
 use Rattle.buffa_bytes.specs.Front.{tag_at}
 use Rattle.buffa_bytes.specs.Join.{Join}
-use Rattle.buffa_bytes.specs.Unread.{IsTailOf}
+use Rattle.buffa_bytes.specs.Left.{IsTailOf}
 use Rattle.buffa_bytes.specs.Join.Join.{none, more}
 use Rattle.buffa_bytes.specs.declared.error.DecodeError.{DecodeError}
 use Rattle.buffa_bytes.specs.declared.error.DecodeError.TheVariants.{OutOfMemory}

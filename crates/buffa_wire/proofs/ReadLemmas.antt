@@ -2,15 +2,14 @@
 use Rattle.std.proofs.Common.{◌≡◌, ◌≢◌, inl, inr, ℕ, zero, suc, ◌+◌, ◌-◌, ◌==◌, ◌<◌, ◌&&◌, true, false, true≢false, List, [], ◌∷◌, ◌++◌, length, Result, Ok, Err, refl, sym, ap, subst, ◌∙◌, arith, append_assoc, append-nil, length-append}
 use Rattle.std.specs.Int.{from_le_bytes, w32, w64}
 use Rattle.std.proofs.lemmas.Bool.{eqb-true, eqb-false, eq-eqb, ne_eqb}
-use Rattle.buffa_bytes.specs.Gives.{◌>>=◌}
 use Rattle.buffa_bytes.specs.declared.wire_type.WireType.{WireType}
 use Rattle.buffa_bytes.specs.declared.wire_type.WireType.TheVariants as wire
 use Rattle.buffa_bytes.specs.declared.error.DecodeError.{DecodeError}
 use Rattle.buffa_bytes.specs.declared.error.DecodeError.TheVariants.{UnexpectedEof}
 use Rattle.buffa_bytes.specs.Field.{IsTag, TakesTag}
 use Rattle.buffa_bytes.specs.Content.{ContentFault}
-use Rattle.buffa_bytes.specs.Front.{is_end, tag_at}
-use Rattle.buffa_bytes.specs.Scan.{parsed, scan, step_then}
+use Rattle.buffa_bytes.specs.Front.{same_wire, tag_at, ◌>>=◌}
+use Rattle.buffa_bytes.specs.Scan.{parsed, scan, step_then, ParsesEach, ParsesTo, join}
 use Rattle.buffa_bytes.specs.Scan.Scanned.{ends, goes}
 use Rattle.buffa_bytes.proofs.StepLemmas.{Agrees, agree_bind, agree_err, agree_if, agree_ok, agree_weaker}
 use Rattle.buffa_bytes.proofs.ListLemmas.{cut_twice}
@@ -19,7 +18,6 @@ use Rattle.buffa_bytes.proofs.DelimitedLemmas.{taken_sound, taken_complete, take
 use Rattle.buffa_bytes.proofs.FieldLemmas.{tag_sound, tag_complete, tag_faulty, tag_read, tag_some, takes_tag_as, not_end, end_false, end_true}
 use Rattle.buffa_wire.specs.Records.{Datum, varint, fixed32, fixed64, bytes, group, Records, no_records, one, list_of, records_of}
 use Rattle.buffa_wire.specs.Encoding.{wire_of}
-use Rattle.buffa_bytes.specs.Sequence.{ParsesEach, ParsesTo, join}
 use Rattle.buffa_wire.specs.Parse.{FieldOf, Parse, IsPayload, field_count, fields_inside, TakesField, TakesRecords, InsideFault, FieldFaultOf, NextFault, GroupRecordsFault}
 use Rattle.buffa_wire.specs.RecordReading.{GroupReader, HaveRead, field_by, group_records_at, group_records_behind, payload_by, plain_at, record_next, record_step, record_then, records_behind}
 use Rattle.buffa_wire.proofs.JoinLemmas.{one_deeper}
@@ -34,7 +32,7 @@ payload_no_end (fixed64 v) e = cc
 payload_no_end (bytes v) e = cc
 payload_no_end (group v) e = cc
 
-closes_true : (w : WireType) (m n : ℕ) → (is_end w && (m == n)) ≡ true → (w ≡ wire.EndGroup) × (m ≡ n)
+closes_true : (w : WireType) (m n : ℕ) → (same_wire wire.EndGroup w && (m == n)) ≡ true → (w ≡ wire.EndGroup) × (m ≡ n)
 closes_true wire.EndGroup m n e = (refl, eqb-true m n e)
 closes_true wire.Varint m n e = cc
 closes_true wire.Fixed64 m n e = cc
@@ -42,12 +40,12 @@ closes_true wire.LengthDelimited m n e = cc
 closes_true wire.StartGroup m n e = cc
 closes_true wire.Fixed32 m n e = cc
 
-closes_false : (w : WireType) (m n : ℕ) → (is_end w && (m == n)) ≡ false → w ≡ wire.EndGroup → m ≡ n → ⊥
+closes_false : (w : WireType) (m n : ℕ) → (same_wire wire.EndGroup w && (m == n)) ≡ false → w ≡ wire.EndGroup → m ≡ n → ⊥
 closes_false w m n e p q =
-    let k : (is_end wire.EndGroup && (m == n)) ≡ false = subst (λ v. (is_end v && (m == n)) ≡ false) p e in
+    let k : (same_wire wire.EndGroup wire.EndGroup && (m == n)) ≡ false = subst (λ v. (same_wire wire.EndGroup v && (m == n)) ≡ false) p e in
     true≢false (sym (eq-eqb m n q) ∙ k)
 
-pub closes_no : (w : WireType) (m n : ℕ) → (w ≡ wire.EndGroup → m ≡ n → ⊥) → (is_end w && (m == n)) ≡ false
+pub closes_no : (w : WireType) (m n : ℕ) → (w ≡ wire.EndGroup → m ≡ n → ⊥) → (same_wire wire.EndGroup w && (m == n)) ≡ false
 closes_no wire.EndGroup m n h = ne_eqb m n (h refl)
 closes_no wire.Varint m n h = refl
 closes_no wire.Fixed64 m n h = refl
@@ -55,7 +53,7 @@ closes_no wire.LengthDelimited m n h = refl
 closes_no wire.StartGroup m n h = refl
 closes_no wire.Fixed32 m n h = refl
 
-pub closes_yes : (w : WireType) (m n : ℕ) → w ≡ wire.EndGroup → m ≡ n → (is_end w && (m == n)) ≡ true
+pub closes_yes : (w : WireType) (m n : ℕ) → w ≡ wire.EndGroup → m ≡ n → (same_wire wire.EndGroup w && (m == n)) ≡ true
 closes_yes w m n e q = rw (e, eq-eqb m n q) refl
 
 abbrev pub Group : Type 0
@@ -142,7 +140,7 @@ module _ (d : ℕ) (inner : GroupReader) (F : ℕ → ℕ → List ℕ → Decod
   -- ---- a field after its tag
   pub field_sound : Sound → (s n : ℕ) (w : WireType) (bs : List ℕ) → Agrees (field_by inner s n w bs) (λ v. TakesField d s n w bs v.0 v.1 v.2) (FieldFaultOf F s n w bs)
   unfolding field_by
-  field_sound h s n w bs = agree_if (is_end w)
+  field_sound h s n w bs = agree_if (same_wire wire.EndGroup w)
       (λ e. record { holds = inl (end_true w e, refl) })
       (λ e. agree_if (s == 0)
       (λ z. record { holds = inr (inl (end_false w e, eqb-true s 0 z, refl)) })
@@ -217,7 +215,7 @@ module _ (d : ℕ) (inner : GroupReader) (F : ℕ → ℕ → List ℕ → Decod
       meets : (s : HaveRead) (bs : List ℕ) (r : Result (ℕ × WireType × List ℕ) DecodeError) → tag_at bs ≡ r → Meets Step (Ends GroupEnds GroupStops) (record_step inner n s r) s bs
       meets s bs (Ok t) e =
           let u = agree_ok (tag_at bs) t (tag_sound bs) e in
-          if_meets Step (Ends GroupEnds GroupStops) (is_end t.1 && (t.0 == n)) (Ok (records_of s.0, s.1, t.2)) (parsed (record_then inner s t)) s bs
+          if_meets Step (Ends GroupEnds GroupStops) (same_wire wire.EndGroup t.1 && (t.0 == n)) (Ok (records_of s.0, s.1, t.2)) (parsed (record_then inner s t)) s bs
           (λ last. let c = closes_true t.1 t.0 n last in (refl, refl, takes_tag_as bs t.2 t.0 n t.1 wire.EndGroup u c.1 c.0))
           (λ other. parsed_meets Step GroupEnds GroupStops (record_then inner s t) s bs (agree_weaker (then_sound h s bs t u) (λ x p. p) (λ e f. inr (t.0, t.1, t.2, u, closes_false t.1 t.0 n other, f))))
       meets s bs (Err x) e = inl (agree_err (tag_at bs) x (tag_sound bs) e)

@@ -7,7 +7,7 @@ use Rattle.buffa_bytes.specs.declared.error.DecodeError.{DecodeError}
 use Rattle.buffa_wire.specs.RecordReading.{GroupRecordsTakeMemory, ListTakesMemory, PayloadTakesMemory, RecordTakesMemory, field_at}
 use Rattle.buffa_wire.specs.Records.{Datum}
 use Rattle.buffa_bytes.specs.Front.{delimited_at, tag_at}
-use Rattle.buffa_bytes.specs.Unread.{IsTailOf, bytes_read}
+use Rattle.buffa_bytes.specs.Left.{IsTailOf, bytes_read}
 use Rattle.buffa_bytes.proofs.TailLemmas.{tail_shorter}
 use Rattle.buffa_wire.specs.BudgetLeft.{BudgetLeft, Lacks, Pays, PaysAtMost, UnknownsSpent, nothing}
 

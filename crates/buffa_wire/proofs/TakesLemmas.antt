@@ -12,10 +12,9 @@ use Rattle.buffa_bytes.specs.declared.error.DecodeError.TheVariants.{UnexpectedE
 use Rattle.buffa_wire.proofs.MessageLemmas.{NoLimit, payload_no_limit}
 use Rattle.buffa_wire.specs.BudgetLeft.{BudgetLeft, nothing, plus}
 use Rattle.buffa_bytes.specs.Field.{IsTag, Payload, PayloadFault, SomeField}
-use Rattle.buffa_bytes.specs.Gives.{FullOnlyIf, Gives}
 use Rattle.buffa_bytes.specs.Join.{Join}
 use Rattle.buffa_wire.specs.Message.{IsFieldMerged}
-use Rattle.buffa_bytes.specs.Front.{skip_at, tag_at}
+use Rattle.buffa_bytes.specs.Front.{skip_at, tag_at, FullOnlyIf, Gives}
 use Rattle.buffa_wire.proofs.CostLemmas.{IsPaid, cost_empty, cost_free, cost_next as costs_next, cost_no_payload, cost_no_tag, field_alone, paid}
 use Rattle.buffa_wire.proofs.ByFieldLemmas.{IsSame, IsSound, Same, empty, fields, merged_alike, next, read, read_last, refused}
 use Rattle.buffa_wire.specs.ByField.{FieldNeed, FieldReader, cost_by, merged_by, value_of}

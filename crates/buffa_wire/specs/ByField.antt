@@ -1,14 +1,12 @@
 -- A message field by field: what a type says of one field decides what all bytes mean to it.
 -- Source: the protobuf encoding guide, "Message Structure".
 use Rattle.std.specs.Prelude.{ℕ, List, Option, Some, None, Result, Ok, Err}
-use Rattle.buffa_bytes.specs.Gives.{◌>>=◌}
-use Rattle.buffa_bytes.specs.Front.{tag_at, skip_at}
-use Rattle.buffa_bytes.specs.Scan.{Scanned, scan}
+use Rattle.buffa_bytes.specs.Front.{tag_at, skip_at, ◌>>=◌}
+use Rattle.buffa_bytes.specs.Scan.{Scanned, scan, parse_all}
 use Rattle.buffa_bytes.specs.Scan.Scanned.{ends, goes}
 use Rattle.buffa_bytes.specs.declared.wire_type.WireType.{WireType}
 use Rattle.buffa_bytes.specs.declared.error.DecodeError.{DecodeError}
 use Rattle.buffa_wire.specs.BudgetLeft.{BudgetLeft, nothing, plus}
-use Rattle.buffa_bytes.specs.Sequence.{parse_all}
 
 -- What the field whose tag, of a number and a wire type, was read makes of a value, and what follows the field.
 abbrev pub FieldReader : Type 0 → Type 0

@@ -1,18 +1,16 @@
 -- What reading records gives: the records, the unknown fields that are left, and the bytes that follow; or the
 -- first fault.
 use Rattle.std.specs.Prelude.{◌≡◌, ◌≢◌, ℕ, zero, suc, ◌-◌, ◌<◌, ◌⊎◌, ◌==◌, ◌&&◌, List, [], ◌∷◌, ◌++◌, IsOk, Result, Ok, Err, if◌then◌else◌}
-use Rattle.buffa_bytes.specs.Gives.{◌>>=◌}
 use Rattle.buffa_bytes.specs.declared.wire_type.WireType.{WireType}
 use Rattle.buffa_bytes.specs.declared.wire_type.WireType.TheVariants as wire
 use Rattle.buffa_bytes.specs.declared.error.DecodeError.{DecodeError}
 use Rattle.buffa_bytes.specs.declared.error.DecodeError.TheVariants.{UnexpectedEof, InvalidWireType, RecursionLimitExceeded, UnknownFieldLimitExceeded, InvalidEndGroup}
-use Rattle.buffa_bytes.specs.Front.{varint_at, delimited_at, tag_at, is_end}
-use Rattle.buffa_bytes.specs.Scan.{Scanned, parsed, scan}
+use Rattle.buffa_bytes.specs.Front.{varint_at, delimited_at, same_wire, tag_at, ◌>>=◌}
+use Rattle.buffa_bytes.specs.Scan.{Scanned, parsed, scan, parse_all}
 use Rattle.buffa_bytes.specs.Scan.Scanned.{ends}
 use Rattle.buffa_bytes.specs.Scalars.{fixed32_at, fixed64_at}
 use Rattle.buffa_wire.specs.declared.context.DecodeContext.{DecodeContext}
 use Rattle.buffa_wire.specs.Records.{Datum, varint, fixed32, fixed64, bytes, group, Records, list_of, records_of}
-use Rattle.buffa_bytes.specs.Sequence.{parse_all}
 
 -- what reads the rest of a group: of the unknown fields that are left, the group's number, and the bytes
 abbrev pub GroupReader : Type 0
@@ -36,7 +34,7 @@ payload_by inner s n w bs = plain_at w bs >>= (λ v. Ok (v.0, s, v.1))
 -- is read
 unfoldable pub field_by : GroupReader → ℕ → ℕ → WireType → List ℕ → Result (Datum × ℕ × List ℕ) DecodeError
 field_by inner s n w bs =
-    if is_end w then Err (InvalidEndGroup n) else
+    if same_wire wire.EndGroup w then Err (InvalidEndGroup n) else
     if s == 0 then Err UnknownFieldLimitExceeded else payload_by inner (s - 1) n w bs
 
 -- records that were read, and the unknown fields that are left
@@ -49,7 +47,7 @@ record_then inner s t = field_by inner s.1 t.0 t.1 t.2 >>= (λ x. Ok ((s.0 ++ (t
 
 -- a tag in group n: its end tag ends the group, and the field of any other is read
 abbrev pub record_step : GroupReader → ℕ → HaveRead → Result (ℕ × WireType × List ℕ) DecodeError → Scanned HaveRead (Result (Records × ℕ × List ℕ) DecodeError)
-record_step inner n s (Ok t) = if is_end t.1 && (t.0 == n) then ends (Ok (records_of s.0, s.1, t.2)) else parsed (record_then inner s t)
+record_step inner n s (Ok t) = if same_wire wire.EndGroup t.1 && (t.0 == n) then ends (Ok (records_of s.0, s.1, t.2)) else parsed (record_then inner s t)
 record_step inner n s (Err e) = ends (Err e)
 
 -- the fields and the end tag of group n, whose records go behind those that were read

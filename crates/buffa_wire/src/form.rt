@@ -8,9 +8,8 @@ ghost use Rattle.buffa_wire.specs.Found.{fixed32_in, fixed32_only, fixed64_in, f
 ghost use Rattle.buffa_bytes.specs.declared.wire_type.WireType.{WireType};
 ghost use Rattle.buffa_bytes.specs.Content.{HasContent, content_at};
 ghost use Rattle.buffa_bytes.specs.Content.Content.{number};
-ghost use Rattle.buffa_bytes.specs.Gives.{Gives};
-ghost use Rattle.buffa_bytes.specs.Left.{past_no_payload};
-ghost use Rattle.buffa_bytes.specs.Unread.{IsTailOf};
+ghost use Rattle.buffa_bytes.specs.Front.{Gives};
+ghost use Rattle.buffa_bytes.specs.Left.{past_no_payload, IsTailOf};
 ghost use Rattle.buffa_bytes.specs.Written.{UsesRoom, Writes};
 
 use crate::sealed::Sealed;

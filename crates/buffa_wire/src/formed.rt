@@ -2,8 +2,8 @@
 
 ghost use Rattle.std.specs.Prelude.{◌≡◌, ◌≢◌, ◌<◌, ◌≤◌, ℕ, List, [], Option, Some, refl};
 ghost use Rattle.std.specs.Prelude.{IfErr, IsOk, OnOk};
-ghost use Rattle.buffa_bytes.specs.Gives.{FullOnlyIf};
-ghost use Rattle.buffa_bytes.specs.Unread.{IsTailOf};
+ghost use Rattle.buffa_bytes.specs.Front.{FullOnlyIf};
+ghost use Rattle.buffa_bytes.specs.Left.{IsTailOf};
 ghost use Rattle.buffa_wire.specs.BudgetLeft.{BudgetLeft, budget_left};
 ghost use Rattle.buffa_wire.specs.Message.{BeginsField, FieldRefused, FieldTaken, MergesBytes, MergesField, Stands};
 ghost use Rattle.buffa_wire.specs.Message.{TakesMessageField};

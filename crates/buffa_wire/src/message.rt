@@ -3,10 +3,8 @@
 ghost use Rattle.std.specs.Prelude.{◌≡◌, ◌≢◌, ◌<◌, ◌≤◌, ◌^◌, ℕ, List, [], length, Option, Some, IfErr, IfOk};
 ghost use Rattle.std.specs.Prelude.{IsOk, Ok, OnErr, OnOk};
 ghost use Rattle.buffa_bytes.specs.declared.error.DecodeError.TheVariants.{OutOfMemory};
-ghost use Rattle.buffa_bytes.specs.Gives.{FullOnlyIf};
-ghost use Rattle.buffa_bytes.specs.Left.{LeavesUnlessFull, past_no_delimited};
-ghost use Rattle.buffa_bytes.specs.Front.{delimited_at};
-ghost use Rattle.buffa_bytes.specs.Unread.{IsTailOf};
+ghost use Rattle.buffa_bytes.specs.Left.{LeavesUnlessFull, past_no_delimited, IsTailOf};
+ghost use Rattle.buffa_bytes.specs.Front.{delimited_at, FullOnlyIf};
 ghost use Rattle.buffa_wire.specs.BudgetLeft.{BudgetLeft, PaysAtMost, budget_left, defaults};
 ghost use Rattle.buffa_bytes.specs.declared.error.EncodeError.TheVariants as error;
 ghost use Rattle.buffa_wire.specs.Parse.{AreValid, Fits};

@@ -19,8 +19,7 @@ use Rattle.buffa_bytes.proofs.DelimitedLemmas.{delimited_taken}
 use Rattle.buffa_bytes.proofs.ScalarLemmas.{int32_fits}
 use Rattle.buffa_bytes.proofs.StepLemmas.{agree_ok}
 use Rattle.buffa_bytes.specs.Content.{Content, HasContent, bytes as content, bytes_in, number, number_in}
-use Rattle.buffa_bytes.specs.Front.{delimited_at}
-use Rattle.buffa_bytes.specs.Gives.{◌>>=◌}
+use Rattle.buffa_bytes.specs.Front.{delimited_at, ◌>>=◌}
 use Rattle.buffa_bytes.specs.Number.{IsNumber}
 use Rattle.buffa_bytes.specs.Values.{int32_of}
 use Rattle.buffa_bytes.specs.Varint.{IsByte}
@@ -34,7 +33,7 @@ use Rattle.buffa_wire.specs.Encoding.{wire_of}
 use Rattle.buffa_wire.specs.Message.{merged_in}
 use Rattle.buffa_wire.specs.Parse.{IsPayload}
 use Rattle.buffa_wire.specs.Records.{Datum, bytes, fixed32, fixed64, group, varint}
-use Rattle.buffa_bytes.specs.Sequence.{ParsesEach, join}
+use Rattle.buffa_bytes.specs.Scan.{ParsesEach, join}
 use Rattle.buffa_map.proofs.EntryLemmas.{entry_sound}
 use Rattle.buffa_map.proofs.StayLemmas.{all_keep}
 use Rattle.buffa_map.proofs.SortedLemmas.{sorted_put}

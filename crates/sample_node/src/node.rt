@@ -2,7 +2,7 @@
 
 ghost use Rattle.std.proofs.Common.{lit<, refl};
 ghost use Rattle.std.specs.Prelude.{OnErr, [], IfErr, ◌≢◌};
-ghost use Rattle.buffa_bytes.specs.Gives.{FullOnlyIf};
+ghost use Rattle.buffa_bytes.specs.Front.{FullOnlyIf};
 ghost use Rattle.buffa_wire.specs.Message.{BeginsField, IsFieldMerged, IsMerged, Stands};
 ghost use Rattle.buffa_wire.specs.Passes.{IsNext, IsSized};
 ghost use Rattle.sample_node.specs.Branch.{IsNode};

@@ -8,13 +8,11 @@ use Rattle.buffa_bytes.specs.declared.wire_type.WireType.TheVariants.{StartGroup
 use Rattle.buffa_bytes.specs.declared.error.DecodeError.{DecodeError}
 use Rattle.buffa_bytes.specs.declared.error.DecodeError.TheVariants.{OutOfMemory, RecursionLimitExceeded}
 use Rattle.buffa_wire.specs.BudgetLeft.{BudgetLeft, Pays, unknown_fields}
-use Rattle.buffa_bytes.specs.Gives.{◌>>=◌}
 use Rattle.buffa_wire.specs.Message.{BeginsField, FieldRefused, MergeFault}
-use Rattle.buffa_bytes.specs.Front.{tag_at}
+use Rattle.buffa_bytes.specs.Front.{tag_at, ◌>>=◌, same_wire}
 use Rattle.buffa_wire.specs.RecordReading.{field_at}
 use Rattle.buffa_wire.specs.Records.{Datum, bytes, group, height, no_records, one, varint}
 use Rattle.buffa_wire.specs.Encoding.{tagged_encoding}
-use Rattle.buffa_bytes.specs.WireType.{same_wire}
 use Rattle.buffa_message_set.specs.Item.{IsTypeId, item_at, item_in, item_encoding}
 use Rattle.buffa_wire.specs.ByField.{FieldNeed, FieldReader, cost_by, merged_by, value_of}
 use Rattle.buffa_wire.specs.Kept.{keep_need}

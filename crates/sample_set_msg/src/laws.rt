@@ -1,7 +1,7 @@
 //! Which message a MessageSet is: laws, each a function with nothing to do.
 
 ghost use Rattle.std.specs.Prelude.{◌≡◌, ◌↔◌, ◌&&◌, ◌++◌, ◌==◌, ◌∷◌, ◌^◌, ℕ, List, [], Err, Ok, codes, false, nat_lt, suc, true, zero};
-ghost use Rattle.buffa_bytes.specs.WireType.{same_wire};
+ghost use Rattle.buffa_bytes.specs.Front.{same_wire};
 ghost use Rattle.buffa_bytes.specs.declared.error.DecodeError.{DecodeError};
 ghost use Rattle.buffa_bytes.specs.declared.error.DecodeError.TheVariants.{RecursionLimitExceeded};
 ghost use Rattle.buffa_bytes.specs.declared.wire_type.WireType.{WireType};

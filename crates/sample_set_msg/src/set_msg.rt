@@ -3,8 +3,8 @@
 ghost use Rattle.std.specs.Prelude.{◌≡◌, ◌≢◌, [], codes, length, min, refl, IfErr, IsOk, OnOk};
 ghost use Rattle.buffa_bytes.specs.declared.wire_type.WireType.TheVariants.{EndGroup};
 ghost use Rattle.buffa_wire.specs.BudgetLeft.{budget_left};
-ghost use Rattle.buffa_bytes.specs.Gives.{FullOnlyIf};
-ghost use Rattle.buffa_bytes.specs.Unread.{IsTailOf};
+ghost use Rattle.buffa_bytes.specs.Front.{FullOnlyIf};
+ghost use Rattle.buffa_bytes.specs.Left.{IsTailOf};
 ghost use Rattle.buffa_wire.specs.Message.{BeginsField, MergesBytes, MergesField, Stands};
 ghost use Rattle.buffa_wire.specs.Passes.{IsSized, IsWritten};
 ghost use Rattle.buffa_bytes.specs.Written.{UsesRoom, Writes};

@@ -8,8 +8,7 @@ use Rattle.buffa_bytes.specs.declared.wire_type.WireType.TheVariants.{Varint, Fi
 use Rattle.buffa_bytes.specs.Content.{Content, number_in}
 use Rattle.buffa_bytes.specs.Content.Content.{number}
 use Rattle.buffa_bytes.specs.Field.{Payload}
-use Rattle.buffa_bytes.specs.Gives.{◌>>=◌, FullOnlyIf, Gives}
-use Rattle.buffa_bytes.specs.Front.{check_wire, varint_at}
+use Rattle.buffa_bytes.specs.Front.{check_wire, varint_at, ◌>>=◌, FullOnlyIf, Gives}
 use Rattle.buffa_bytes.specs.Values.{int32_of}
 use Rattle.buffa_bytes.proofs.VarintLemmas.{varint_complete}
 use Rattle.buffa_bytes.proofs.SequenceLemmas.{err_same}

@@ -1,5 +1,5 @@
 -- The exits of passing a map field on.
-use Rattle.std.proofs.Common.{◌≡◌, ◌≢◌, ◌⊎◌, inl, inr, ℕ, ℤ, ◌≤◌, Bool, List, [], refl, sym, subst, arith}
+use Rattle.std.proofs.Common.{◌≡◌, ◌≢◌, ◌⊎◌, ◌++◌, inl, inr, ℕ, ℤ, ◌≤◌, Bool, List, [], refl, sym, subst, arith}
 use Rattle.buffa_bytes.specs.declared.error.DecodeError.{DecodeError}
 use Rattle.buffa_bytes.specs.declared.error.DecodeError.TheVariants.{ElementMemoryLimitExceeded, OutOfMemory, UnknownFieldLimitExceeded}
 use Rattle.buffa_wire.specs.BudgetLeft.{BudgetLeft, Lacks, plus, units}
@@ -12,7 +12,7 @@ use Rattle.buffa_map.specs.Laws.{OneReading}
 use Rattle.buffa_map.specs.Merge.{ReadsRun, State, RefusesRun, state}
 use Rattle.buffa_map.proofs.ReaderRules.{keeping}
 use Rattle.buffa_map.specs.Rewrite.{MatchRefusal, RefusesDecoding, RefusesEncoding, RewritesRun}
-use Rattle.buffa_map.specs.Run.{EntryRecord, ArePaid, RecordFault, Run, RunBegins, inner_needs}
+use Rattle.buffa_map.specs.Run.{EntryRecord, ArePaid, RecordFault, Run, inner_needs}
 use Rattle.buffa_map.specs.declared.rewrite.RewriteError.{RewriteError}
 use Rattle.buffa_map.specs.declared.rewrite.RewriteError.TheVariants.{Decode, Encode}
 use Rattle.buffa_map.proofs.StopLemmas.{broken}
@@ -105,7 +105,7 @@ module _ {K V : Type 0} (key : Reading K) (val : Reading V) (d n cost extra : �
   record_limit left other bs f (inr (inr (inr (rest, takes, h)))) = elim (entry_limit left other rest f h) [ inl l ↦ inl l | inr k ↦ inr (inr (inr (inr (rest, takes, k)))) ]
 
   pub stop_is_limit : OneReading key val → (left over : BudgetLeft) (out rest : List ℕ) (gs es : List (EntryRecord K V)) (f : DecodeError) → Run key val d n out gs →
-      RunBegins key val d n cost extra left out es rest over → rest ≢ [] → RecordFault key val d n cost extra over rest f → IsLimit f
+      ((front : List ℕ) × (out ≡ front ++ rest) × Run key val d n front es × ArePaid key val d cost extra left es over) → rest ≢ [] → RecordFault key val d n cost extra over rest f → IsLimit f
   stop_is_limit one left over out rest gs es f run begins some fault =
       let a = inner_needs key val d gs in
       let b = inner_needs key val d es in

@@ -14,12 +14,10 @@ use Rattle.buffa_bytes.proofs.ScalarLemmas.{int32_fits}
 use Rattle.buffa_bytes.proofs.SequenceLemmas.{ok_same}
 use Rattle.buffa_bytes.proofs.StepLemmas.{agree_ok}
 use Rattle.buffa_bytes.specs.Content.{bytes_in, number_in}
-use Rattle.buffa_bytes.specs.Front.{delimited_at, skip_at, varint_at}
-use Rattle.buffa_bytes.specs.Gives.{◌>>=◌}
-use Rattle.buffa_bytes.specs.Sequence.{ParsesEach}
+use Rattle.buffa_bytes.specs.Front.{delimited_at, skip_at, varint_at, ◌>>=◌, same_wire}
+use Rattle.buffa_bytes.specs.Scan.{ParsesEach}
 use Rattle.buffa_bytes.specs.Values.{delimited_encoding, int32_of, tag_encoding}
 use Rattle.buffa_bytes.specs.Varint.{varint_encoding}
-use Rattle.buffa_bytes.specs.WireType.{same_wire}
 use Rattle.buffa_bytes.specs.declared.error.DecodeError.{DecodeError}
 use Rattle.buffa_bytes.specs.declared.wire_type.WireType.{WireType}
 use Rattle.buffa_bytes.specs.declared.wire_type.WireType.TheVariants.{LengthDelimited, Varint}

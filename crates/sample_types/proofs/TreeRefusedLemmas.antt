@@ -9,8 +9,7 @@ use Rattle.buffa_bytes.proofs.FullLemmas.{varint_full}
 use Rattle.buffa_bytes.proofs.SequenceLemmas.{err_same}
 use Rattle.buffa_bytes.proofs.WireLemmas.{checked_other, checked_same}
 use Rattle.buffa_bytes.specs.Content.{Content, bytes_in, number, number_in}
-use Rattle.buffa_bytes.specs.Front.{check_wire, delimited_at, skip_at, varint_at}
-use Rattle.buffa_bytes.specs.Gives.{◌>>=◌, FullOnlyIf}
+use Rattle.buffa_bytes.specs.Front.{check_wire, delimited_at, skip_at, varint_at, ◌>>=◌, FullOnlyIf}
 use Rattle.buffa_bytes.specs.Left.{past_no_payload}
 use Rattle.buffa_bytes.specs.Values.{int32_of}
 use Rattle.buffa_bytes.specs.declared.error.DecodeError.{DecodeError}

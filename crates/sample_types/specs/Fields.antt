@@ -1,8 +1,7 @@
 -- Single fields of the samples: how each is read, and its encoding.
 -- Source: the protobuf encoding guide, "Message Structure".
 use Rattle.std.specs.Prelude.{ℕ, zero, suc, ◌==◌, ℤ, pos, negsuc, List, [], ◌∷◌, ◌++◌, Result, Ok, if◌then◌else◌}
-use Rattle.buffa_bytes.specs.Gives.{◌>>=◌}
-use Rattle.buffa_bytes.specs.Front.{check_wire, skip_at, varint_at}
+use Rattle.buffa_bytes.specs.Front.{check_wire, skip_at, varint_at, ◌>>=◌}
 use Rattle.buffa_wire.specs.ByField.{FieldReader}
 use Rattle.buffa_wire.specs.Records.{Datum, varint}
 use Rattle.buffa_bytes.specs.Values.{int32_at, int32_encoding, tag_encoding}

@@ -1,14 +1,12 @@
 -- What is proved of single fields of the samples.
 use Rattle.std.proofs.Common.{◌≡◌, ◌≢◌, inl, inr, ℤ, pos, negsuc, ℕ, ◌+◌, ◌*◌, zero, suc, ◌<◌, Bool, true, false, List, ◌∷◌, ◌++◌, length, Some, Result, Ok, Err, refl, sym, ap, subst, ◌∙◌, arith, append-nil, if◌then◌else◌}
-use Rattle.buffa_bytes.specs.Gives.{◌>>=◌, FullOnlyIf, Gives}
 use Rattle.buffa_bytes.specs.Field.{IsTag, Payload}
 use Rattle.buffa_bytes.specs.Number.{IsNumber}
-use Rattle.buffa_bytes.specs.Front.{check_wire, tag_at, varint_at}
+use Rattle.buffa_bytes.specs.Front.{check_wire, tag_at, varint_at, ◌>>=◌, FullOnlyIf, Gives, same_wire}
 use Rattle.buffa_wire.specs.Records.{Datum}
 use Rattle.buffa_wire.specs.Encoding.{records_encoding}
 use Rattle.buffa_bytes.specs.Values.{int32_encoding, tag_encoding}
 use Rattle.buffa_bytes.specs.Varint.{IsVarint, TakesVarint, VarintFault}
-use Rattle.buffa_bytes.specs.WireType.{same_wire}
 use Rattle.buffa_bytes.specs.declared.wire_type.WireType.{WireType}
 use Rattle.buffa_bytes.specs.declared.wire_type.WireType.TheVariants.{Varint, EndGroup}
 use Rattle.buffa_bytes.specs.declared.error.DecodeError.{DecodeError}
@@ -19,7 +17,7 @@ use Rattle.buffa_bytes.proofs.ShortestLemmas.{varint_encoding-last}
 use Rattle.buffa_bytes.proofs.VarintLemmas.{IsVarint-varint_encoding, varint_sound}
 use Rattle.buffa_bytes.proofs.WireLemmas.{check_sound}
 use Rattle.buffa_wire.proofs.MessageLemmas.{NoLimit, payload_no_limit, var_no_limit}
-use Rattle.buffa_bytes.specs.Sequence.{parse_all}
+use Rattle.buffa_bytes.specs.Scan.{parse_all}
 use Rattle.buffa_bytes.proofs.SequenceLemmas.{ok_same, parse_keeps}
 use Rattle.buffa_wire.specs.ByField.{FieldReader, merged_by, next_at}
 use Rattle.buffa_wire.proofs.ByFieldLemmas.{Same, some_of}

@@ -3,7 +3,7 @@
 use Rattle.std.specs.Prelude.{◌≡◌, ℕ, ◌==◌, ℤ, List, Result, OnErr, if◌then◌else◌}
 use Rattle.buffa_bytes.specs.declared.error.DecodeError.{DecodeError}
 use Rattle.buffa_bytes.specs.declared.wire_type.WireType.{WireType}
-use Rattle.buffa_bytes.specs.Gives.{Gives}
+use Rattle.buffa_bytes.specs.Front.{Gives}
 use Rattle.buffa_wire.specs.BudgetLeft.{BudgetLeft}
 use Rattle.buffa_wire.specs.ByField.{FieldReader}
 use Rattle.buffa_map.specs.Scalars.{int32_reading}

@@ -8,9 +8,8 @@ use Rattle.std.specs.List.Sorted.{IsStrictlySortedBy}
 use Rattle.std.specs.Map.{keys_of}
 use Rattle.std.specs.Option.{option_map}
 use Rattle.std.specs.Ordering.{int_cmp}
-use Rattle.buffa_bytes.specs.Front.{check_wire, delimited_at, skip_at}
+use Rattle.buffa_bytes.specs.Front.{check_wire, delimited_at, skip_at, same_wire}
 use Rattle.buffa_bytes.specs.Values.{int32_at}
-use Rattle.buffa_bytes.specs.WireType.{same_wire}
 use Rattle.buffa_bytes.specs.declared.error.DecodeError.{DecodeError}
 use Rattle.buffa_bytes.specs.declared.error.DecodeError.TheVariants.{OutOfMemory}
 use Rattle.buffa_bytes.specs.declared.wire_type.WireType.{WireType}
@@ -22,8 +21,7 @@ use Rattle.buffa_wire.specs.Records.{Datum, bytes}
 use Rattle.buffa_wire.specs.Takes.{Need, Taker}
 use Rattle.buffa_map.specs.Codec.{Reading}
 use Rattle.buffa_map.specs.Encoding.{entry_encoding}
-use Rattle.buffa_map.specs.Entry.{EntryFault, IsEntry, entry_of, need_of}
-use Rattle.buffa_map.specs.Fields.{EntryFieldsTakeMemory}
+use Rattle.buffa_map.specs.Entry.{EntryFault, IsEntry, entry_of, need_of, EntryFieldsTakeMemory}
 use Rattle.buffa_map.specs.Message.{message_reading}
 use Rattle.buffa_map.specs.Scalars.{delimited_writing, int32_reading, int32_writing}
 use Rattle.buffa_map.specs.declared.map_entry.MapEntry.{MapEntry}

@@ -3,7 +3,7 @@
 
 ghost use Rattle.std.specs.Prelude.{IfErr, OnErr, [], ◌≢◌};
 ghost use Rattle.std.proofs.Common.{lit<, refl};
-ghost use Rattle.buffa_bytes.specs.Gives.{FullOnlyIf};
+ghost use Rattle.buffa_bytes.specs.Front.{FullOnlyIf};
 ghost use Rattle.buffa_wire.specs.Message.{BeginsField, IsMerged, Stands};
 ghost use Rattle.buffa_wire.specs.Passes.{IsNext, IsSized, IsWritten};
 ghost use Rattle.buffa_fields.specs.Open.{knotted, map_inside, member, skips};

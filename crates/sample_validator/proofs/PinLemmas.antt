@@ -4,8 +4,7 @@ use Rattle.std.specs.Bool.{Decides, beq}
 use Rattle.std.specs.Option.{option_eq, option_map}
 use Rattle.buffa_bytes.proofs.VarintLemmas.{varint_complete}
 use Rattle.buffa_bytes.specs.Field.{Payload}
-use Rattle.buffa_bytes.specs.Front.{varint_at}
-use Rattle.buffa_bytes.specs.Gives.{FullOnlyIf}
+use Rattle.buffa_bytes.specs.Front.{varint_at, FullOnlyIf}
 use Rattle.buffa_bytes.specs.Scalars.{bool_of}
 use Rattle.buffa_bytes.specs.declared.error.DecodeError.{DecodeError}
 use Rattle.buffa_bytes.specs.declared.error.DecodeError.TheVariants.{OutOfMemory}

@@ -1,12 +1,11 @@
 //! Scalars of four and of eight bytes, the lowest first.
 
 ghost use Rattle.std.specs.Prelude.{◌≡◌, length, OnErr};
-ghost use Rattle.buffa_bytes.specs.Gives.{Gives};
-ghost use Rattle.buffa_bytes.specs.Front.{taken};
+ghost use Rattle.buffa_bytes.specs.Front.{taken, Gives};
 ghost use Rattle.buffa_bytes.specs.Scalars.{fixed32_at, fixed32_encoding, fixed64_at, fixed64_encoding, sfixed32_at};
 ghost use Rattle.buffa_bytes.specs.Scalars.{sfixed32_encoding, sfixed64_at, sfixed64_encoding};
 ghost use Rattle.buffa_bytes.specs.Written.{UsesRoom, Writes};
-ghost use Rattle.buffa_bytes.specs.Unread.{IsTailOf};
+ghost use Rattle.buffa_bytes.specs.Left.{IsTailOf};
 
 use crate::buf::Buf;
 use crate::error::{DecodeError, EncodeError};

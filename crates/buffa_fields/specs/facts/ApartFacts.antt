@@ -4,8 +4,7 @@ use Rattle.std.specs.List.{AllByRecursion}
 use Rattle.std.specs.Option.{option_map}
 use Rattle.std.specs.Prelude.{◌≡◌, ℕ, zero, suc, Bool, List, [], ◌∷◌, length, Option, Some, None, Result, Ok, Err, refl}
 use Rattle.buffa_bytes.specs.Front.{skip_at, tag_at}
-use Rattle.buffa_bytes.specs.Scan.{parsed, scan, scan_within, step_then}
-use Rattle.buffa_bytes.specs.Sequence.{parse_all, parse_step}
+use Rattle.buffa_bytes.specs.Scan.{parsed, scan, scan_within, step_then, parse_all, parse_step}
 use Rattle.buffa_bytes.specs.declared.error.DecodeError.{DecodeError}
 use Rattle.buffa_bytes.specs.declared.error.DecodeError.TheVariants.{UnexpectedEof}
 use Rattle.buffa_bytes.specs.declared.wire_type.WireType.{WireType}

@@ -13,7 +13,7 @@ use Rattle.buffa_bytes.proofs.SequenceLemmas.{ok_same}
 use Rattle.buffa_wire.specs.Records.{bytes}
 use Rattle.buffa_bytes.specs.Join.{Join}
 use Rattle.buffa_bytes.specs.Join.Join.{none, more}
-use Rattle.buffa_bytes.specs.Sequence.{ParsesEach, join}
+use Rattle.buffa_bytes.specs.Scan.{ParsesEach, join}
 use Rattle.buffa_map.proofs.EntryLemmas.{entry_complete, entry_sound}
 use Rattle.buffa_map.specs.Codec.{Reading}
 use Rattle.buffa_map.specs.Entry.{IsCodecField, IsEntry, IsEntryField, blanks, entry_of}

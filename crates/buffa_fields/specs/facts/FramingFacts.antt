@@ -4,11 +4,10 @@ use Rattle.std.specs.List.{AllByRecursion}
 use Rattle.buffa_bytes.proofs.FieldLemmas.{payload_taken, same_refl}
 use Rattle.buffa_bytes.specs.declared.wire_type.WireType.TheVariants.{EndGroup, LengthDelimited, StartGroup}
 use Rattle.buffa_bytes.specs.Field.{Payload}
-use Rattle.buffa_bytes.specs.Front.{delimited_at, skip_at}
+use Rattle.buffa_bytes.specs.Front.{delimited_at, skip_at, same_wire}
 use Rattle.buffa_bytes.specs.Number.{IsNumber}
 use Rattle.buffa_bytes.specs.Values.{delimited_encoding, tag_encoding}
 use Rattle.buffa_bytes.specs.Varint.{varint_encoding}
-use Rattle.buffa_bytes.specs.WireType.{same_wire}
 use Rattle.buffa_wire.proofs.SpentLemmas.{is_there}
 use Rattle.buffa_wire.specs.BudgetLeft.{BudgetLeft, plus, units}
 use Rattle.buffa_wire.specs.Encoding.{payload_encoding, records_encoding, wire_of}

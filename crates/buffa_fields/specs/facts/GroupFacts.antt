@@ -10,7 +10,7 @@ use Rattle.buffa_bytes.specs.Field.{Group, IsTag, Payload, SomeField}
 use Rattle.buffa_bytes.specs.Join.{Join}
 use Rattle.buffa_bytes.specs.Join.Join.{none, more}
 use Rattle.buffa_bytes.specs.Number.{IsNumber}
-use Rattle.buffa_bytes.specs.Front.{is_end, skip_at, tag_at}
+use Rattle.buffa_bytes.specs.Front.{same_wire, skip_at, tag_at}
 use Rattle.buffa_bytes.specs.Scan.{step_then}
 use Rattle.buffa_bytes.specs.Values.{tag_encoding}
 use Rattle.buffa_wire.specs.BudgetLeft.{BudgetLeft}
@@ -30,7 +30,7 @@ module _ (d : ℕ) where
   behind_short bs t e (Err x) s = tt
 
   step_short : (bs : List ℕ) (r : Result (ℕ × WireType × List ℕ) DecodeError) → tag_at bs ≡ r → Shortens (body_step d bs r) bs
-  step_short bs (Ok t) e = if_short (is_end t.1) [] (body_behind bs (skip_at d t.0 t.1 t.2)) bs (λ _. behind_short bs t e (skip_at d t.0 t.1 t.2) refl)
+  step_short bs (Ok t) e = if_short (same_wire EndGroup t.1) [] (body_behind bs (skip_at d t.0 t.1 t.2)) bs (λ _. behind_short bs t e (skip_at d t.0 t.1 t.2) refl)
   step_short bs (Err x) e = tt
 
   pub turn : (bs : List ℕ) (r : Result (ℕ × WireType × List ℕ) DecodeError) → tag_at bs ≡ r → group_body d bs ≡ step_then (λ _. group_body d) (body_step d bs r)

@@ -5,10 +5,9 @@ use Rattle.std.specs.Option.{option_map}
 use Rattle.buffa_bytes.proofs.DelimitedLemmas.{delimited_complete}
 use Rattle.buffa_bytes.proofs.FieldLemmas.{same_true}
 use Rattle.buffa_bytes.specs.Field.{Payload}
-use Rattle.buffa_bytes.specs.Front.{delimited_at}
+use Rattle.buffa_bytes.specs.Front.{delimited_at, same_wire}
 use Rattle.buffa_bytes.specs.Number.{IsNumber}
 use Rattle.buffa_bytes.specs.Values.{tag_encoding}
-use Rattle.buffa_bytes.specs.WireType.{same_wire}
 use Rattle.buffa_bytes.specs.declared.error.DecodeError.{DecodeError}
 use Rattle.buffa_bytes.specs.declared.wire_type.WireType.{WireType}
 use Rattle.buffa_bytes.specs.declared.wire_type.WireType.TheVariants.{LengthDelimited}

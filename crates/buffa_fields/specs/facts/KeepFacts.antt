@@ -3,8 +3,7 @@ use Rattle.std.proofs.Common.{◌≡◌, ◌≢◌, ◌⊎◌, inl, inr, ℕ, �
 use Rattle.buffa_bytes.proofs.FieldLemmas.{ok_there}
 use Rattle.buffa_bytes.proofs.StepLemmas.{agree_err, agree_ok}
 use Rattle.buffa_bytes.specs.Field.{Group, PayloadOver}
-use Rattle.buffa_bytes.specs.Left.{past_no_payload}
-use Rattle.buffa_bytes.specs.Unread.{IsTailOf}
+use Rattle.buffa_bytes.specs.Left.{past_no_payload, IsTailOf}
 use Rattle.buffa_bytes.specs.declared.wire_type.WireType.{WireType}
 use Rattle.buffa_bytes.specs.declared.wire_type.WireType.TheVariants as wire
 use Rattle.buffa_bytes.specs.declared.error.DecodeError.{DecodeError}
@@ -25,7 +24,7 @@ use Rattle.buffa_wire.specs.Takes.{IsTaken, Leads, Piece, Taker, Untaken, joined
 use Rattle.buffa_bytes.proofs.SequenceLemmas.{err_same}
 use Rattle.buffa_wire.proofs.SpentLemmas.{is_there}
 use Rattle.buffa_fields.specs.Layout.{FieldIsRefused, IsPutBehind}
-use Rattle.buffa_bytes.specs.Gives.{FullOnlyIf}
+use Rattle.buffa_bytes.specs.Front.{FullOnlyIf}
 use Rattle.std.proofs.lemmas.Bool.{cases_lt}
 use Rattle.std.specs.List.{AllByRecursion}
 

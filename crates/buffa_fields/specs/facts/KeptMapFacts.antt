@@ -7,10 +7,9 @@ use Rattle.buffa_bytes.proofs.DelimitedLemmas.{delimited_complete}
 use Rattle.buffa_bytes.specs.declared.wire_type.WireType.{WireType}
 use Rattle.buffa_bytes.specs.declared.wire_type.WireType.TheVariants.{LengthDelimited}
 use Rattle.buffa_bytes.specs.Field.{Payload}
-use Rattle.buffa_bytes.specs.Front.{delimited_at}
+use Rattle.buffa_bytes.specs.Front.{delimited_at, same_wire}
 use Rattle.buffa_bytes.specs.Number.{IsNumber}
 use Rattle.buffa_bytes.specs.Values.{delimited_encoding}
-use Rattle.buffa_bytes.specs.WireType.{same_wire}
 use Rattle.buffa_wire.specs.Parse.{IsPayload}
 use Rattle.buffa_wire.specs.ReadableFacts.{Readable}
 use Rattle.buffa_wire.specs.Records.{Datum, bytes, records_of}

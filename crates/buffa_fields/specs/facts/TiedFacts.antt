@@ -1,7 +1,6 @@
 -- What is proved of the knot: more layers change nothing, so what is told of messages is what their layout says, by itself.
 use Rattle.std.proofs.Common.{◌≡◌, ℕ, zero, suc, ◌<◌, refl, sym, ◌∙◌, arith}
-use Rattle.buffa_bytes.specs.Front.{skip_at}
-use Rattle.buffa_bytes.specs.Gives.{◌>>=◌}
+use Rattle.buffa_bytes.specs.Front.{skip_at, ◌>>=◌}
 use Rattle.buffa_wire.specs.ByField.{cost_by, merged_by}
 use Rattle.buffa_wire.specs.Takes.{Need, Taker, answer, cost_of, front_of, merged_of}
 use Rattle.std.specs.Option.{option_map}

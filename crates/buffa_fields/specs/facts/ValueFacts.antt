@@ -6,7 +6,6 @@ use Rattle.buffa_bytes.specs.declared.wire_type.WireType.{WireType}
 use Rattle.buffa_bytes.specs.declared.wire_type.WireType.TheVariants.{Varint, Fixed64, LengthDelimited, StartGroup, EndGroup, Fixed32}
 use Rattle.buffa_bytes.specs.Field.{Payload}
 use Rattle.buffa_bytes.specs.Number.{IsNumber}
-use Rattle.buffa_bytes.specs.WireType.{same_wire}
 use Rattle.buffa_map.proofs.EntryLemmas.{value_complete}
 use Rattle.buffa_map.specs.Codec.{Reading, Writing, level, value_at}
 use Rattle.buffa_wire.specs.Takes.{ReadsBack, Taker}
@@ -17,7 +16,7 @@ use Rattle.buffa_wire.specs.Records.{Datum}
 use Rattle.buffa_wire.specs.Encoding.{records_encoding, tagged_encoding}
 use Rattle.buffa_bytes.specs.Values.{delimited_encoding, tag_encoding}
 use Rattle.buffa_bytes.specs.Varint.{varint_encoding}
-use Rattle.buffa_bytes.specs.Front.{delimited_at}
+use Rattle.buffa_bytes.specs.Front.{delimited_at, same_wire}
 use Rattle.buffa_bytes.proofs.DelimitedLemmas.{delimited_back}
 use Rattle.buffa_bytes.proofs.VarintLemmas.{IsVarint-varint_encoding}
 

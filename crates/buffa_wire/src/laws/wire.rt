@@ -24,7 +24,7 @@ ghost use Rattle.buffa_bytes.specs.Content.{Content, ContentFault, TakesContent,
 ghost use Rattle.buffa_bytes.specs.Content.{number_in};
 ghost use Rattle.buffa_bytes.specs.Field.{LengthFault, SomeField, TakesDelimited, TakesTag, TagFault, TakesPayload};
 ghost use Rattle.buffa_bytes.specs.Field.{PayloadFault};
-ghost use Rattle.buffa_bytes.specs.Front.{delimited_at, varint_at, tag_at, skip_at, group_at, group_by_field};
+ghost use Rattle.buffa_bytes.specs.Front.{delimited_at, varint_at, tag_at, skip_at, group_at, group_by_field, check_wire, wire_kind, wire_number};
 ghost use Rattle.buffa_bytes.specs.Scalars.{bool_at, bool_of, bool_encoding, eight_as, fixed32_at, fixed32_encoding};
 ghost use Rattle.buffa_bytes.specs.Scalars.{fixed64_at, fixed64_encoding, four_as, int32_of, int64_at, int64_of};
 ghost use Rattle.buffa_bytes.specs.Scalars.{int64_encoding, sfixed32_at, sfixed32_of, sfixed32_encoding, sfixed64_at};
@@ -35,8 +35,6 @@ ghost use Rattle.bytes.specs.Filled.{Filled};
 ghost use Rattle.buffa_bytes.specs.Adapted.{ShowsInner, kept_beyond};
 ghost use Rattle.buffa_bytes.specs.Pinned.{AnswerIsPinned, AnswerIsPinnedUnlessFull, ChunkIsPinned, IsItsBytes};
 ghost use Rattle.buffa_bytes.specs.Pinned.{IsCopied, LentIsPinned, Means, SameIsOne, ShowsBytes, ShowsFront, WriteIsPinned};
-ghost use Rattle.buffa_bytes.specs.Front.{check_wire};
-ghost use Rattle.buffa_bytes.specs.WireType.{wire_kind, wire_number};
 ghost use Rattle.buffa_bytes.specs.Delimited.{bytes_as, string_as, text_as};
 ghost use Rattle.buffa_bytes.specs.Values.{delimited_encoding, int32_at, int32_encoding, string_at, tag_encoding};
 

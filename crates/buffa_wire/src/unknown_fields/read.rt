@@ -1,12 +1,11 @@
 //! Reading unknown fields.
 
 ghost use Rattle.std.specs.Prelude.{◌≡◌, ◌≢◌, ◌+◌, ◌<◌, IfOk};
-ghost use Rattle.buffa_bytes.specs.Left.{LeavesUnlessFull, past_no_payload};
-ghost use Rattle.buffa_bytes.specs.Gives.{FullOnlyIf, GivesUnlessFull};
+ghost use Rattle.buffa_bytes.specs.Left.{LeavesUnlessFull, past_no_payload, IsTailOf, bytes_read};
+ghost use Rattle.buffa_bytes.specs.Front.{FullOnlyIf, GivesUnlessFull};
 ghost use Rattle.buffa_wire.specs.BudgetLeft.{UnknownTaken, UnknownsSpent, budget_left};
 ghost use Rattle.buffa_wire.specs.Records.{records_of};
 ghost use Rattle.buffa_wire.specs.RecordReading.{GroupRecordsTakeMemory, ListTakesMemory, PayloadTakesMemory, RecordTakesMemory, field_in, group_in, list_at, plain_at};
-ghost use Rattle.buffa_bytes.specs.Unread.{IsTailOf, bytes_read};
 ghost use Rattle.buffa_wire.specs.View.{datum_of};
 
 use crate::budget::{Budget, DEFAULT_UNKNOWN_FIELD_LIMIT};

@@ -2,7 +2,7 @@ use Rattle.std.proofs.Common.{◌∙◌, ap, Err, Some, subst, sym}
 use Rattle.std.proofs.lemmas.Result.{err_from_is_err_and}
 use Rattle.std.specs.Option.{option_map}
 use Rattle.buffa_bytes.specs.declared.wire_type.WireType.TheVariants.{LengthDelimited}
-use Rattle.buffa_bytes.specs.Gives.{FullOnlyIf}
+use Rattle.buffa_bytes.specs.Front.{FullOnlyIf}
 use Rattle.buffa_wire.specs.Message.{MessageFault}
 use Rattle.buffa_fields.proofs.InsideLemmas.{none_refused, stood_refused, there}
 use Rattle.buffa_fields.proofs.NestedLemmas.{message_there}
