@@ -2,7 +2,7 @@
 and messages."""
 from blocks import Block, blocks, holds_messages, lends, pieces
 from names import snake
-from oneof import OneOf
+from oneof import OneOf, is_joined
 
 # Of as many members and blocks it is proved without an answer that they were visited in turn.
 MOST_SEEN = 7
@@ -103,12 +103,13 @@ def answers(world, message):
 def answers_of_oneof(world, one):
     """The file of the answers of `take`, by its name beside `src`: of each case that is a number, that it is no case before it; and of each
     message, if there are some cases, that a refused one leaves what stands."""
-    numbers = [at for at, it in enumerate(one.cases) if it.is_number and len(one.cases) > 1]
+    numbers = [at for at, it in enumerate(one.cases) if it.is_number and len(one.cases) > 1 and not is_joined(one)]
     messages = [at for at, it in enumerate(one.cases) if it.is_message and len(one.cases) > MOST_REFUSED]
-    if not numbers and not messages:
+    joined = [at for at, it in enumerate(one.cases) if is_joined(one) and not it.is_message]
+    if not numbers and not messages and not joined:
         return None
     head = ".".join(it for it in ("Rattle", world.crate, "proofs", world.module, snake(one.enum)) if it)
-    is_behind = any(at > 0 for at in numbers + messages)
+    is_behind = any(at > 0 for at in numbers + messages + joined)
     common = "rules, refl, sym, ap, ◌∙◌, ◌==◌" if is_behind else "rules, sym, ◌∙◌"
     made = [f"use Rattle.std.proofs.Common.{{{common}}}"]
     made += ["use Rattle.std.proofs.lemmas.Result.{err_from_is_err_and}"] * bool(messages)
@@ -116,6 +117,8 @@ def answers_of_oneof(world, one):
         made.append(f"use Rattle.buffa.specs.Members.{{chosen{', not_here' * is_behind}}}")
     else:
         made += ["use Rattle.buffa_fields.specs.facts.LayoutFacts.{chosen}"] + ["use Rattle.buffa_fields.specs.facts.BlockFacts.{not_here}"] * is_behind
+    ways = {at: f"in-{one.cases[at].number}+in_ok-it-in-{one.cases[at].number}" for at in joined}
+    made += [f"use {head}.{one.enum}OneOf.take.Goals.{{{', '.join(ways.values())}}}"] * bool(ways)
     made += [f"use {head}.{one.enum}OneOf.take.Goals as goal"]
     for at in numbers:
         branch = f"in_ok-it-in-{one.cases[at].number}"
@@ -127,8 +130,21 @@ def answers_of_oneof(world, one):
         residual = f"c.from_residual{f'-{branch}' * (at > 0)}"
         told = f"    let told = err_from_is_err_and {residual}.result {residual}.ensures.1 in"
         made += answer_of_case(one, at, branch, f"rw (told.1, told.2) ({term})", [told])
+    made += answer_of_joined(one, ways)
     folder = "/".join(it for it in ("../proofs", world.module, snake(one.enum)) if it)
     return f"{folder}/{one.enum}OneOf/take/Answers.antt", "\n".join(made) + "\n"
+
+
+def answer_of_joined(one, ways):
+    """The answer of where what was read is put into its place, by the case that it is."""
+    if not ways:
+        return []
+    made = ["", "pub returns : goal.returns", "returns c =", "    let n = c.args.tag.number in", "    elim c.match-field_number.branch ["]
+    for at, way in ways.items():
+        number = one.cases[at].number
+        read = f"let read = w.in_ok-it-in-{number}.ensures.ok in rw (w.buf-is, w.ctx-is, w.case-is) (search (rules, read))"
+        made.append(f"      | {way} w ↦ (let is = sym c.field_number.ensures ∙ w.in-{number}.is in {taken_by(one, at, read)})")
+    return [*made, "      ]"]
 
 
 def taken_by(one, at, term):

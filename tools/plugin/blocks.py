@@ -119,14 +119,24 @@ def clause(block):
     return lines + [f"{row} }}"]
 
 
+def arm(numbers, call, args, called):
+    """The arm of some numbers: they are on one line, if they fit there, and so is what is called, if its head fits behind them."""
+    indent, line = " " * 12, " | ".join(numbers)
+    if len(f"{indent}{line} => {call}(") <= WIDTH:
+        return called(indent, f"{line} => {call}", args, ",")
+    if len(f"{indent}{line} =>") <= WIDTH:
+        return [f"{indent}{line} =>", *called(indent + "    ", call, args, ",")]
+    return [f"{indent}{numbers[0]}", *(f"{indent}| {it}" for it in numbers[1:-1]), *called(indent, f"| {numbers[-1]} => {call}", args, ",")]
+
+
 def call(block, member, called, at):
     """The arm of a member's numbers; the last takes all that are left."""
-    arm = " | ".join(str(n) for n in numbers_of(member)) if at < len(block.members) - 1 else "_"
+    numbers = [str(n) for n in numbers_of(member)] if at < len(block.members) - 1 else ["_"]
     args = [argument(member)] + ["rest"] * member.keeps + ["alloc", "tag", "buf", "ctx"]
     if isinstance(member, OneOf):
-        return called("            ", f"{arm} => {member.enum}::take", args, ",")
+        return arm(numbers, f"{member.enum}::take", args, called)
     way = f"{member.member_type.replace('<', '::<', 1)}::{'merge_kept' if member.keeps else 'merge'}"
-    return called("            ", f"{arm} => {way}", args, ",")
+    return arm(numbers, way, args, called)
 
 
 def text(block, called, meaning, visits):

@@ -4,6 +4,8 @@ from names import TAKEN, variant
 
 # As many cases of one oneof are written.
 MOST_CASES = 40
+# Of as many cases each is put into its place by itself. Of more `take` would have more statements than the borrow checker follows.
+MOST_APART = 18
 
 
 class OneOf:
@@ -130,9 +132,15 @@ def merge_value(one, case):
     """The arm by which a message is merged into its own case, where that stands."""
     head = f"                Some({one.enum}::{case.variant}(it)) => "
     call = f"{case.member_type.replace('<', '::<', 1)}::merge_value(it, alloc, tag, buf, ctx)"
+    call = f"return {call}" if is_joined(one) else call
     if len(head) + len(call) < 100:
         return [f"{head}{call},"]
-    return [f"{head}{{", f"                    {call}", "                }"]
+    return [f"{head}{{", f"                    {call}{';' * is_joined(one)}", "                }"]
+
+
+def is_joined(one):
+    """Whether what was read is put into its place behind all cases but the messages."""
+    return len(one.cases) > MOST_APART and not all(k.is_message for k in one.cases)
 
 
 def read_value(one, case, head, indent):
@@ -141,20 +149,25 @@ def read_value(one, case, head, indent):
     made = [f"{indent}{head} => {{", f"{indent}    let it = {call}"]
     if len(made[-1]) > 100:
         made[-1:] = [f"{indent}    let it =", f"{indent}        {call}"]
-    return made + [f"{indent}    *slot = Some({one.enum}::{case.variant}(it));", f"{indent}    Ok(())", f"{indent}}}"]
+    if is_joined(one) and not case.is_message:
+        return made + [f"{indent}    {one.enum}::{case.variant}(it)", f"{indent}}}"]
+    end = f"{indent}    return Ok(());" if is_joined(one) else f"{indent}    Ok(())"
+    return made + [f"{indent}    *slot = Some({one.enum}::{case.variant}(it));", end, f"{indent}}}"]
 
 
 def take(one):
     """The function that takes a field: a message is merged into its own case, where that stands."""
     made = ["    fn take("]
     made += [f"        {it}," for it in (f"slot: &mut Option<{one.enum}>", "alloc: Global", "tag: Tag", "buf: &mut &[u8]", "ctx: DecodeContext<'_>")]
-    made += ["    ) -> Result<(), DecodeError> {", "        match tag.field_number() {"]
+    made += ["    ) -> Result<(), DecodeError> {", f"        {'let case = ' * is_joined(one)}match tag.field_number() {{"]
     for case in one.cases:
         if case.is_message:
             made += [f"            {case.number} => match slot {{"] + merge_value(one, case)
             made += read_value(one, case, "_", "                ") + ["            },"]
         else:
             made += read_value(one, case, str(case.number), "            ")
+    if is_joined(one):
+        return made + ["            _ => return Ok(()),", "        };", "        *slot = Some(case);", "        Ok(())", "    }"]
     return made + ["            _ => Ok(()),", "        }", "    }"]
 
 

@@ -183,8 +183,8 @@ def take(message):
     made += ["        match tag.field_number() {"]
     for member in members:
         if isinstance(member, oneof.OneOf):
-            numbers = " | ".join(str(k.number) for k in member.cases)
-            made += called("            ", f"{numbers} => {member.enum}::take", [f"&mut self.{member.name}", "alloc", "tag", "buf", "ctx"], ",")
+            numbers = [str(k.number) for k in member.cases]
+            made += blocks.arm(numbers, f"{member.enum}::take", [f"&mut self.{member.name}", "alloc", "tag", "buf", "ctx"], called)
             continue
         beside = ["&mut self.rest"] if member.keeps else []
         call = f"{member.member_type.replace('<', '::<', 1)}::{'merge_kept' if member.keeps else 'merge'}"
