@@ -330,14 +330,15 @@ def some_value(means):
     }.get(means, ("0", set()))
 
 
-def has_knots(message, messages):
-    """Whether messages that hold themselves are in a message, at any depth."""
-    seen, to_see = set(), list(message.members)
-    while to_see:
-        for full in set(to_see.pop().inside) & set(messages) - seen:
+def codes_of(message, messages):
+    """The codes of what is in a message at any depth: of messages that hold themselves, and of oneofs."""
+    seen, members = set(), list(message.members)
+    for member in members:
+        for full in set(member.inside) & set(messages) - seen:
             seen.add(full)
-            to_see += messages[full].members
-    return any(messages[full].holds_itself for full in seen)
+            members += messages[full].members
+    knots = ["coded_knot"] * any(messages[full].holds_itself for full in seen)
+    return knots + ["coded_or"] * any(isinstance(it, oneof.OneOf) for it in members)
 
 
 def codes_used(message, codes):
@@ -345,15 +346,16 @@ def codes_used(message, codes):
     datum = ["Datum"] * message.is_keeping
     if message.world.over == "buffa":
         made = [f"    ghost use Rattle.buffa.specs.Wire.{{{', '.join(datum + ['coded_datum'])}}};"]
-        return made + ["    ghost use Rattle.buffa.specs.Knots.{coded_knot};"] * bool(codes) + [""]
+        return made + [f"    ghost use Rattle.buffa.specs.Knots.{{{', '.join(codes)}}};"] * bool(codes) + [""]
     made = ["    ghost use Rattle.buffa_wire.specs.Code.{coded_datum};"]
     made += ["    ghost use Rattle.buffa_wire.specs.Records.{Datum};"] * message.is_keeping
-    return made + ["    ghost use Rattle.buffa_fields.specs.Knots.{coded_knot};"] * bool(codes) + [""]
+    homes = {"coded_knot": "Knots", "coded_or": "OrCode"}
+    return made + [f"    ghost use Rattle.buffa_fields.specs.{homes[it]}.{{{it}}};" for it in codes] + [""]
 
 
 def opaque_meaning(message, messages):
     """What the members of a message mean, as a struct that has none of their types in it."""
-    codes = ["coded_knot"] * has_knots(message, messages)
+    codes = codes_of(message, messages)
     pieces = blocks.pieces(message)
     values = [value_of(k) for k in pieces] + [("[]", {"[]"}) if message.is_keeping else ("tt", set())]
     words = set().union(*[w for _, w in values]) | ({"List", "ℕ"} if message.is_keeping else set())
