@@ -102,7 +102,7 @@ def answers(world, message):
 
 def answers_of_oneof(world, one):
     """The file of the answers of `take`, by its name beside `src`: of each case that is a number, that it is no case before it; and of each
-    message, if there are some cases, that a refused one leaves what stands."""
+    message, if there are some cases, that a refused one leaves what stands. Of many cases, how each that was read is put into its place."""
     numbers = [at for at, it in enumerate(one.cases) if it.is_number and len(one.cases) > 1 and not is_joined(one)]
     messages = [at for at, it in enumerate(one.cases) if it.is_message and len(one.cases) > MOST_REFUSED]
     joined = [at for at, it in enumerate(one.cases) if is_joined(one) and not it.is_message]
