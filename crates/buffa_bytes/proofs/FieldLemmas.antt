@@ -1,6 +1,6 @@
 -- What is read of tags, payloads and groups, and their grammar.
 use Rattle.std.proofs.Common.{◌≡◌, ◌≢◌, inl, inr, ℕ, zero, suc, ◌+◌, ◌-◌, ◌*◌, ◌/◌, ◌%◌, ◌^◌, ◌==◌, nat_lt, nat_eq, ◌<◌, ◌≤◌, Bool, true, false, List, [], ◌∷◌, ◌++◌, length, take, Option, None, Some, Result, Ok, Err, IsOk, refl, sym, ap, subst, ◌∙◌, arith, append_assoc, length-append, length-take, if◌then◌else◌}
-use Rattle.std.proofs.lemmas.Bool.{lt-ltb, le-ltb, ltb-true, ltb-false, cond_both, eqb-true, eqb-false, eq-eqb, ne_eqb}
+use Rattle.std.proofs.lemmas.Bool.{lt-ltb, le-ltb, ltb-true, ltb-false, cond_both, eqb-true, eqb-false, eq-eqb, ne_eqb, false_from_ne_true}
 use Rattle.std.proofs.lemmas.List.{take-append-drop, append_cancel_right}
 use Rattle.std.proofs.Math.Seq.{drop-append_seam}
 use Rattle.buffa_bytes.specs.declared.wire_type.WireType.{WireType}
@@ -46,6 +46,12 @@ same_refl LengthDelimited = refl
 same_refl StartGroup = refl
 same_refl EndGroup = refl
 same_refl Fixed32 = refl
+
+pub same_false : (v w : WireType) → w ≢ v → same_wire v w ≡ false
+same_false v w n = false_from_ne_true (same_wire v w) (λ h. n (sym (same_true v w h)))
+
+pub same_differs : (v w : WireType) → same_wire v w ≡ false → w ≢ v
+same_differs v w h e = let k : same_wire v v ≡ false = subst (λ z. same_wire v z ≡ false) e h in let t = same_refl v in cc
 
 pub wire_small : (w : WireType) → wire_number w < 6
 wire_small Varint = omega arith
@@ -163,25 +169,6 @@ Inner = ℕ → List ℕ → Result (List ℕ) DecodeError
 abbrev pub Takes : (ℕ → List ℕ → Type 0) → ℕ → List ℕ → List ℕ → Type 0
 Takes G f bs rest = (p : List ℕ) × G f p × (bs ≡ p ++ rest)
 
-pub end_true : (w : WireType) → same_wire EndGroup w ≡ true → w ≡ EndGroup
-end_true EndGroup e = refl
-end_true Varint e = cc
-end_true Fixed64 e = cc
-end_true LengthDelimited e = cc
-end_true StartGroup e = cc
-end_true Fixed32 e = cc
-
-pub end_false : (w : WireType) → same_wire EndGroup w ≡ false → w ≢ EndGroup
-end_false w e h = let k : same_wire EndGroup EndGroup ≡ false = subst (λ v. same_wire EndGroup v ≡ false) h e in cc
-
-pub not_end : (w : WireType) → w ≢ EndGroup → same_wire EndGroup w ≡ false
-not_end EndGroup h = absurd (h refl)
-not_end Varint h = refl
-not_end Fixed64 h = refl
-not_end LengthDelimited h = refl
-not_end StartGroup h = refl
-not_end Fixed32 h = refl
-
 -- a tag, a payload and what was read behind them begin the bytes
 pub one_more : (bs t p after mid body rest : List ℕ) → bs ≡ t ++ after → after ≡ p ++ mid → mid ≡ body ++ rest → bs ≡ ((t ++ p) ++ body) ++ rest
 one_more bs t p after mid body rest e f g = e ∙ ap (λ z. t ++ z) (f ∙ ap (λ z. p ++ z) g) ∙ simp append_assoc
@@ -275,11 +262,11 @@ module _ (inner : Inner) (G : ℕ → List ℕ → Type 0) (F : ℕ → List ℕ
     step_meets f bs (Ok t) e =
         let u = agree_ok (tag_at bs) t (tag_sound bs) e in
         if_meets Passes (Ends (EndsAt f) (Breaks f)) (same_wire EndGroup t.1) (if t.0 == f then Ok t.2 else Err (InvalidEndGroup t.0)) (passed (skip_by inner t.0 t.1 t.2)) tt bs
-        (λ last. let end : IsTag u.0 t.0 EndGroup = subst (λ w. IsTag u.0 t.0 w) (end_true t.1 last) u.1 in
+        (λ last. let end : IsTag u.0 t.0 EndGroup = subst (λ w. IsTag u.0 t.0 w) (sym (same_true EndGroup t.1 last)) u.1 in
         (agree_if {Q = EndsAt f tt bs} {E = Breaks f tt bs} (t.0 == f)
         (λ m. record { holds = (u.0, subst (λ g. IsTag u.0 g EndGroup) (eqb-true t.0 f m) end, u.2) })
         (λ m. record { holds = inr (inl (t.0, t.2, (u.0, end, u.2), eqb-false t.0 f m, refl)) })).holds)
-        (λ other. passed_meets f bs t e (end_false t.1 other) (skip_by inner t.0 t.1 t.2) refl)
+        (λ other. passed_meets f bs t e (same_differs EndGroup t.1 other) (skip_by inner t.0 t.1 t.2) refl)
     step_meets f bs (Err d) e = inl (agree_err (tag_at bs) d (tag_sound bs) e)
 
     meets : (f : ℕ) (u : Unit {0}) (bs : List ℕ) → Meets Passes (Ends (EndsAt f) (Breaks f)) (field_step f u bs) u bs
@@ -304,7 +291,7 @@ module _ (inner : Inner) (G : ℕ → List ℕ → Type 0) (F : ℕ → List ℕ
     goes_on : (f : ℕ) (u v : Unit {0}) (p rest : List ℕ) → Passes u p v → field_step f u (p ++ rest) ≡ goes v rest (λ r. r)
     goes_on f u v p rest (g, w, (t, q, tag, x, e)) =
         ap (λ z. fields_step inner f (tag_at z)) (ap (λ z. z ++ rest) e ∙ append_assoc t q rest)
-        ∙ rw (tag_complete t g w (q ++ rest) tag, not_end w (payload_no_end g w q x), skip_complete c g w q rest x) refl
+        ∙ rw (tag_complete t g w (q ++ rest) tag, same_false EndGroup w (payload_no_end g w q x), skip_complete c g w q rest x) refl
 
     -- fields, and then what ends them
     through : (f : ℕ) (bs body rest : List ℕ) (r : Result (List ℕ) DecodeError) → Join (SomeFieldOver G) body → bs ≡ body ++ rest → fields_step inner f (tag_at rest) ≡ ends r → fields_at inner f bs ≡ r
@@ -319,7 +306,7 @@ module _ (inner : Inner) (G : ℕ → List ℕ → Type 0) (F : ℕ → List ℕ
     at_fault : Faults → (f : ℕ) (bs : List ℕ) (e : DecodeError) → FieldFaultOver F f bs e → fields_step inner f (tag_at bs) ≡ ends (Err e)
     at_fault d f bs e (inl x) = rw (tag_faulty bs e x) refl
     at_fault d f bs e (inr (inl (g, rest, (t, tag, is), n, k))) = rw (is, tag_complete t g EndGroup rest tag, ne_eqb g f n) (ap (λ x. ends (Err x)) (sym k))
-    at_fault d f bs e (inr (inr (g, w, rest, (t, tag, is), n, x))) = rw (is, tag_complete t g w rest tag, not_end w n, skip_faulty d g w rest e x) refl
+    at_fault d f bs e (inr (inr (g, w, rest, (t, tag, is), n, x))) = rw (is, tag_complete t g w rest tag, same_false EndGroup w n, skip_faulty d g w rest e x) refl
 
     pub fields_faulty : Faults → (f : ℕ) (bs : List ℕ) (e : DecodeError) → FieldsFault f bs e → fields_at inner f bs ≡ Err e
     fields_faulty d f bs e (body, rest, j, is, x) = through f bs body rest (Err e) j is (at_fault d f rest e x)
@@ -389,14 +376,14 @@ pub group_other : (d f : ℕ) (bs : List ℕ) (all : Result (List ℕ) DecodeErr
 group_other d f bs all t n h e w m = sym h ∙ at_least d f bs n ∙ rw (e, w, ne_eqb t.0 f m) refl
 
 pub group_skip_err : (d f : ℕ) (bs : List ℕ) (all : Result (List ℕ) DecodeError) (t : ℕ × WireType × List ℕ) (x : DecodeError) → d ≢ 0 → group_at d f bs ≡ all → tag_at bs ≡ Ok t → t.1 ≢ EndGroup → skip_at (d - 1) t.0 t.1 t.2 ≡ Err x → all ≡ Err x
-group_skip_err d f bs all t x n h e w s = sym h ∙ at_least d f bs n ∙ rw (e, not_end t.1 w, s) refl
+group_skip_err d f bs all t x n h e w s = sym h ∙ at_least d f bs n ∙ rw (e, same_false EndGroup t.1 w, s) refl
 
 pub group_next : (d f : ℕ) (bs rest : List ℕ) (all : Result (List ℕ) DecodeError) (t : ℕ × WireType × List ℕ) → d ≢ 0 → group_at d f bs ≡ all → tag_at bs ≡ Ok t → t.1 ≢ EndGroup → skip_at (d - 1) t.0 t.1 t.2 ≡ Ok rest → group_at d f rest ≡ all
 group_next zero f bs rest all t n h e w s = absurd (n refl)
 group_next (suc d) f bs rest all t n h e w s =
     let k : suc d - 1 ≡ d = omega arith in
     let s2 : skip_at d t.0 t.1 t.2 ≡ Ok rest = subst (λ m. skip_at m t.0 t.1 t.2 ≡ Ok rest) k s in
-    sym (group_is d f bs ∙ rw (e, not_end t.1 w, s2) refl) ∙ h
+    sym (group_is d f bs ∙ rw (e, same_false EndGroup t.1 w, s2) refl) ∙ h
 
 -- ---- laws
 pub payload_taken : (d f : ℕ) (w : WireType) (bs rest : List ℕ) → TakesPayload d f w bs rest → skip_at d f w bs ≡ Ok rest

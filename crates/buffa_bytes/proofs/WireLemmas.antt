@@ -1,18 +1,11 @@
 -- What the check of a field's wire type says.
-use Rattle.std.proofs.Common.{◌≡◌, ◌≢◌, ℕ, false, Ok, Err, refl, sym, subst, ◌∙◌}
-use Rattle.std.proofs.lemmas.Bool.{false_from_ne_true}
-use Rattle.buffa_bytes.proofs.FieldLemmas.{same_refl, same_true}
+use Rattle.std.proofs.Common.{◌≡◌, ◌≢◌, ℕ, Ok, Err, refl, sym, ◌∙◌}
+use Rattle.buffa_bytes.proofs.FieldLemmas.{same_differs, same_false, same_refl, same_true}
 use Rattle.buffa_bytes.proofs.StepLemmas.{Agrees, agree_err, agree_if, agree_ok}
 use Rattle.buffa_bytes.specs.Front.{check_wire, same_wire}
 use Rattle.buffa_bytes.specs.declared.error.DecodeError.{DecodeError}
 use Rattle.buffa_bytes.specs.declared.error.DecodeError.TheVariants.{OutOfMemory, WireTypeMismatch}
 use Rattle.buffa_bytes.specs.declared.wire_type.WireType.{WireType}
-
-pub same_false : (v w : WireType) → w ≢ v → same_wire v w ≡ false
-same_false v w n = false_from_ne_true (same_wire v w) (λ h. n (sym (same_true v w h)))
-
-pub same_differs : (v w : WireType) → same_wire v w ≡ false → w ≢ v
-same_differs v w h e = let k : same_wire v v ≡ false = subst (λ z. same_wire v z ≡ false) e h in let t = same_refl v in cc
 
 module _ (n : ℕ) (v w : WireType) where
   pub check_sound : Agrees (check_wire n v w) (λ _. w ≡ v) (λ e. (w ≢ v) × (e ≡ WireTypeMismatch n v w))

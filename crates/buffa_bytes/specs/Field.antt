@@ -58,7 +58,7 @@ TakesPayload d f w old new = (p : List ℕ) × Payload d f w p × (old ≡ p ++ 
 abbrev pub TakesDelimited : List ℕ → List ℕ → List ℕ → Type 0
 TakesDelimited old p new = (t : List ℕ) × IsVarint t (length p) × (old ≡ t ++ (p ++ new))
 
--- what is wrong with the number of a tag
+-- why the varint n is no tag
 abbrev pub BadTag : ℕ → DecodeError → Type 0
 BadTag n InvalidFieldNumber = (2 ^ 32 ≤ n) ⊎ (n < 8)
 BadTag n (InvalidWireType w) = (8 ≤ n) × (n < 2 ^ 32) × (w ≡ n % 8) × (6 ≤ w)

@@ -1,4 +1,4 @@
--- What readers leave unread of bytes that they refuse.
+-- What a buffer shows of the bytes that are left, and what readers leave unread of bytes that they refuse.
 use Rattle.std.specs.Prelude.{◌≡◌, ℕ, ◌<◌, ◌≤◌, ◌-◌, List, ◌++◌, length, take, drop, Result, MatchResult, ◌≢◌, nat_lt, Ok, Err, IfErr, if◌then◌else◌}
 use Rattle.buffa_bytes.specs.declared.error.DecodeError.{DecodeError}
 use Rattle.buffa_bytes.specs.declared.error.DecodeError.TheVariants.{OutOfMemory}
@@ -38,20 +38,20 @@ MovesUnlessFull r n old new held holds = MatchResult r (λ _. (holds ≡ held ++
 
 -- ---- what readers leave unread of bytes that they refuse
 
--- no varint begins these bytes: what follows the tenth, which no varint passes
+-- where no varint begins these bytes: what follows the first ten of them
 unfoldable pub past_no_varint : List ℕ → List ℕ
 past_no_varint bs = drop 10 bs
 
--- no tag begins them: what follows their varint
+-- where no tag begins them: what follows the varint that is there, or that is none
 unfoldable pub past_no_tag : List ℕ → List ℕ
 past_no_tag bs = elim (varint_at bs) [ Ok n ↦ n.1 | Err e ↦ past_no_varint bs ]
 
--- no length and so many bytes begin them: what follows their length where that passes the end, else what follows so many
+-- where no length and so many bytes begin them: what follows their length where that passes the end, else what follows so many
 -- bytes
 unfoldable pub past_no_delimited : List ℕ → List ℕ
 past_no_delimited bs = elim (varint_at bs) [ Ok n ↦ (if nat_lt (length n.1) n.0 then n.1 else drop n.0 n.1) | Err e ↦ past_no_varint bs ]
 
--- no payload of this wire type begins them; groups apart
+-- where no payload of this wire type begins them; groups apart
 unfoldable pub past_no_payload : WireType → List ℕ → List ℕ
 past_no_payload Varint bs = past_no_varint bs
 past_no_payload LengthDelimited bs = past_no_delimited bs

@@ -9,7 +9,7 @@ pub data Scanned (S R : Type 0) : Type 0 where
   ends : R → Scanned S R
   goes : S → List ℕ → (R → R) → Scanned S R
 
--- the answer, where more answers for what is behind a piece
+-- the answer at a step, where more gives the answer for a state and the bytes behind the piece
 abbrev pub step_then : {S R : Type 0} → (S → List ℕ → R) → Scanned S R → R
 step_then more (ends r) = r
 step_then more (goes s rest of) = of (more s rest)

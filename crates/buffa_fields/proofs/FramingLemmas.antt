@@ -1,6 +1,6 @@
 -- What is proved of messages in fields, whatever the framing: of what is taken, and of sizes and encodings.
 use Rattle.std.proofs.Common.{◌≡◌, ℕ, ◌+◌, List, [], ◌∷◌, ◌++◌, length, Option, Some, Result, Err, refl, sym, ap, subst, ◌∙◌, arith, append-nil, length-append}
-use Rattle.buffa_bytes.proofs.WireLemmas.{same_false}
+use Rattle.buffa_bytes.proofs.FieldLemmas.{same_false}
 use Rattle.buffa_bytes.specs.declared.error.DecodeError.{DecodeError}
 use Rattle.buffa_bytes.specs.declared.error.EncodeError.{EncodeError}
 use Rattle.buffa_bytes.specs.declared.wire_type.WireType.{WireType}

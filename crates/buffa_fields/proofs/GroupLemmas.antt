@@ -2,7 +2,7 @@
 use Rattle.std.proofs.Common.{◌≡◌, ◌≢◌, ◌⊎◌, inl, inr, ℕ, suc, ◌-◌, List, ◌++◌, Option, None, Result, Ok, Err, refl, sym, ap, subst, ◌∙◌, arith, append_assoc}
 use Rattle.std.proofs.lemmas.Bool.{ne_eqb}
 use Rattle.std.proofs.lemmas.List.{append_cancel_right}
-use Rattle.buffa_bytes.proofs.FieldLemmas.{group_is, not_end, one_payload, payload_complete, payload_sound, tag_complete, tag_sound}
+use Rattle.buffa_bytes.proofs.FieldLemmas.{group_is, same_false, one_payload, payload_complete, payload_sound, tag_complete, tag_sound}
 use Rattle.buffa_bytes.proofs.StepLemmas.{agree_err, agree_ok}
 use Rattle.buffa_bytes.specs.declared.error.DecodeError.{DecodeError}
 use Rattle.buffa_bytes.specs.declared.error.DecodeError.TheVariants.{InvalidEndGroup, OutOfMemory, RecursionLimitExceeded}
@@ -27,7 +27,7 @@ use Rattle.buffa_fields.proofs.ValueLemmas.{refused_free}
 module _ (d : ℕ) where
   -- no payload follows the tag
   body_cut : (bs : List ℕ) (t : ℕ × WireType × List ℕ) (e : DecodeError) → tag_at bs ≡ Ok t → t.1 ≢ EndGroup → skip_at d t.0 t.1 t.2 ≡ Err e → group_body d bs ≡ bs
-  body_cut bs t e tag other h = turn d bs (Ok t) tag ∙ rw (not_end t.1 other, h) refl
+  body_cut bs t e tag other h = turn d bs (Ok t) tag ∙ rw (same_false EndGroup t.1 other, h) refl
 
   -- fields at the front of a group are passed
   group_past : (n : ℕ) (f x : List ℕ) → Join (SomeField d) f → group_at (suc d) n (f ++ x) ≡ group_at (suc d) n x
@@ -35,7 +35,7 @@ module _ (d : ℕ) where
   group_past n _ x (more f r (m, w, (t, p, tag, payload, is)) j) =
       ap (group_at (suc d) n) (ap (λ (z : List ℕ). (z ++ r) ++ x) is ∙ simp append_assoc)
       ∙ group_is d n (t ++ (p ++ (r ++ x)))
-      ∙ rw (tag_complete t m w (p ++ (r ++ x)) tag, not_end w (λ end. subst (λ v. Payload d m v p) end payload), payload_complete d m w p (r ++ x) payload) refl
+      ∙ rw (tag_complete t m w (p ++ (r ++ x)) tag, same_false EndGroup w (λ end. subst (λ v. Payload d m v p) end payload), payload_complete d m w p (r ++ x) payload) refl
       ∙ group_past n r x j
 
 -- ---- the loop over its fields, one level down

@@ -44,11 +44,11 @@ module _ {K V : Type 0} (key : Reading K) (val : Reading V) (same : K → K → 
   kept_wire_err old kept before f told = entry_wire_err key val (put_or_keep key val puts n) d n (put_or_keep_cost key val cost) w (old, kept) bs bs before f told
 
   -- ---- where it takes memory
-  pub kept_full : (left : BudgetLeft) → check_wire n LengthDelimited w ≡ Ok tt → (f : DecodeError) → f ≡ OutOfMemory → EntryTakesMemory by left bs f → KeptPairTakesMemory key val cost left.unknown d n w bs
-  kept_full left checked f full (e, rest, is, inl copied) = (checked_same n LengthDelimited w checked, e, rest, is, inl (copied.1, copied.2))
-  kept_full left checked f full (e, rest, is, inr (enough, inl field)) = (checked_same n LengthDelimited w checked, e, rest, is, inr (inl (subst (λ z. EntryFieldsTakeMemory key val d e z) full field)))
-  kept_full left checked f full (e, rest, is, inr (enough, inr (s, entry, inl known))) = (checked_same n LengthDelimited w checked, e, rest, is, inr (inr (s, entry, inl known)))
-  kept_full left checked f full (e, rest, is, inr (enough, inr (s, entry, inr kept))) = (checked_same n LengthDelimited w checked, e, rest, is, inr (inr (s, entry, inr (omega (arith, kept.1)))))
+  pub kept_full : (left : BudgetLeft) → check_wire n LengthDelimited w ≡ Ok tt → EntryTakesMemory by left bs → KeptPairTakesMemory key val cost left.unknown d n w bs
+  kept_full left checked (e, rest, is, inl copied) = (checked_same n LengthDelimited w checked, e, rest, is, inl (copied.1, copied.2))
+  kept_full left checked (e, rest, is, inr (enough, inl field)) = (checked_same n LengthDelimited w checked, e, rest, is, inr (inl field))
+  kept_full left checked (e, rest, is, inr (enough, inr (s, entry, inl known))) = (checked_same n LengthDelimited w checked, e, rest, is, inr (inr (s, entry, inl known)))
+  kept_full left checked (e, rest, is, inr (enough, inr (s, entry, inr kept))) = (checked_same n LengthDelimited w checked, e, rest, is, inr (inr (s, entry, inr (omega (arith, kept.1)))))
 
   -- ---- what is told of a refused one
   pub kept_other : (ps : List (K × V)) (left : BudgetLeft) (f e : DecodeError) → check_wire n LengthDelimited w ≡ Err f → f ≡ e → RefusesKeptPair key val cost d ps n w bs left e ps

@@ -3,12 +3,11 @@ use Rattle.std.proofs.Common.{◌≡◌, inl, inr, ℕ, ℤ, true, false, List, 
 use Rattle.std.specs.Prelude.{OnErr, is_some}
 use Rattle.buffa_bytes.proofs.StepLemmas.{agree_err, agree_ok}
 use Rattle.buffa_bytes.proofs.VarintLemmas.{varint_complete, varint_sound}
-use Rattle.buffa_bytes.proofs.WireLemmas.{same_false}
 use Rattle.buffa_bytes.specs.declared.error.DecodeError.{DecodeError}
 use Rattle.buffa_bytes.specs.declared.error.DecodeError.TheVariants.{OutOfMemory}
 use Rattle.buffa_bytes.specs.declared.wire_type.WireType.{WireType}
 use Rattle.buffa_bytes.specs.declared.wire_type.WireType.TheVariants.{Varint}
-use Rattle.buffa_bytes.proofs.FieldLemmas.{payload_sound}
+use Rattle.buffa_bytes.proofs.FieldLemmas.{payload_sound, same_false}
 use Rattle.buffa_bytes.proofs.FullLemmas.{payload_full}
 use Rattle.buffa_bytes.specs.Varint.{IsVarint, TakesVarint}
 use Rattle.buffa_wire.proofs.MessageLemmas.{payload_no_limit}

@@ -2,7 +2,7 @@
 use Rattle.std.proofs.Common.{◌≡◌, ◌≢◌, inl, inr, ℕ, ◌<◌, ◌≤◌, Bool, true, false, List, [], ◌∷◌, ◌++◌, length, Result, Ok, Err, IfErr, IsOk, OnErr, refl, sym, ap, subst, ◌∙◌, arith, append_assoc, append-nil, length-append, if◌then◌else◌}
 use Rattle.buffa_bytes.proofs.ContentLemmas.{content_complete, has_byte}
 use Rattle.buffa_bytes.proofs.DelimitedLemmas.{delimited_sound}
-use Rattle.buffa_bytes.proofs.FieldLemmas.{same_refl}
+use Rattle.buffa_bytes.proofs.FieldLemmas.{same_refl, same_false}
 use Rattle.buffa_bytes.proofs.StepLemmas.{agree_err, agree_ok}
 use Rattle.buffa_bytes.specs.Content.{Content, content_at}
 use Rattle.buffa_bytes.specs.declared.error.DecodeError.{DecodeError}
@@ -12,10 +12,8 @@ use Rattle.buffa_bytes.specs.declared.wire_type.WireType.TheVariants.{LengthDeli
 use Rattle.buffa_wire.proofs.MessageLemmas.{NoLimit, length_no_limit, as_no_limit}
 use Rattle.buffa_wire.proofs.SpentLemmas.{PaysAtMost_nothing}
 use Rattle.buffa_bytes.proofs.SequenceLemmas.{along_err, err_same, parse_keeps}
-use Rattle.buffa_wire.specs.BudgetLeft.{BudgetLeft, nothing}
-use Rattle.buffa_wire.specs.Message.{IsLimit}
+use Rattle.buffa_wire.specs.BudgetLeft.{BudgetLeft, nothing, IsLimit}
 use Rattle.buffa_bytes.specs.Front.{check_wire, delimited_at, same_wire, ◌>>=◌, FullOnlyIf, GivesUnlessFull}
-use Rattle.buffa_bytes.proofs.WireLemmas.{same_false}
 use Rattle.buffa_map.proofs.EntryLemmas.{value_complete}
 use Rattle.buffa_map.specs.Codec.{Reading, value_at}
 use Rattle.buffa_fields.specs.Lists.{TakesPacked, check_list_wire, element_at, elements_in, elements_taken}

@@ -7,10 +7,10 @@ use Rattle.std.specs.Option.{option_map}
 use Rattle.std.specs.Prelude.{◌↔◌, map}
 use Rattle.buffa_bytes.proofs.ContentLemmas.{content_complete}
 use Rattle.buffa_bytes.proofs.DelimitedLemmas.{delimited_complete, delimited_sound}
-use Rattle.buffa_bytes.proofs.FieldLemmas.{same_refl}
+use Rattle.buffa_bytes.proofs.FieldLemmas.{same_refl, same_false}
 use Rattle.buffa_bytes.proofs.SequenceLemmas.{along_err, along_ok, err_same, ok_same, parse_leads}
 use Rattle.buffa_bytes.proofs.StepLemmas.{agree_ok}
-use Rattle.buffa_bytes.proofs.WireLemmas.{checked_same, same_false}
+use Rattle.buffa_bytes.proofs.WireLemmas.{checked_same}
 use Rattle.buffa_bytes.specs.Content.{Content, HasContent, content_at}
 use Rattle.buffa_bytes.specs.Field.{IsTag, SomeField}
 use Rattle.buffa_bytes.specs.Front.{check_wire, delimited_at, ◌>>=◌, same_wire}

@@ -6,7 +6,7 @@ use Rattle.buffa_bytes.specs.Join.{Join}
 use Rattle.buffa_bytes.specs.declared.error.DecodeError.{DecodeError}
 use Rattle.buffa_bytes.specs.declared.wire_type.WireType.{WireType}
 use Rattle.buffa_bytes.specs.declared.wire_type.WireType.TheVariants.{EndGroup, Fixed32, Fixed64, LengthDelimited, StartGroup, Varint}
-use Rattle.buffa_bytes.proofs.FieldLemmas.{not_end, payload_faulty, tag_complete, tag_faulty}
+use Rattle.buffa_bytes.proofs.FieldLemmas.{same_false, payload_faulty, tag_complete, tag_faulty}
 use Rattle.buffa_wire.specs.BudgetLeft.{BudgetLeft, need_by, nothing}
 use Rattle.buffa_wire.specs.Enums.{Numbers}
 use Rattle.buffa_wire.specs.Records.{Datum}
@@ -25,7 +25,7 @@ module _ (d : ℕ) (b : List ℕ) (j : Join (SomeField d) b) where
   broken : (t more : List ℕ) (m : ℕ) (w : WireType) (f : DecodeError) → IsTag t m w → w ≢ EndGroup → PayloadFault d m w more f → group_body d (b ++ (t ++ more)) ≡ b ++ (t ++ more)
   broken t more m w f tag other h =
       body_past d b (t ++ more) j
-      ∙ ap (λ z. b ++ z) (turn d (t ++ more) (Ok (m, w, more)) (tag_complete t m w more tag) ∙ rw (not_end w other, payload_faulty d m w more f h) refl)
+      ∙ ap (λ z. b ++ z) (turn d (t ++ more) (Ok (m, w, more)) (tag_complete t m w more tag) ∙ rw (same_false EndGroup w other, payload_faulty d m w more f h) refl)
 
   module _ (cost : ℕ → List ℕ → BudgetLeft) (n : ℕ) where
     one_less : suc d - 1 ≡ d

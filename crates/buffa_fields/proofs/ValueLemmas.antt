@@ -1,6 +1,6 @@
 -- What is proved of fields of one value that are taken, or refused.
 use Rattle.std.proofs.Common.{◌≡◌, ◌≢◌, inl, inr, ℕ, Bool, true, false, List, [], ◌∷◌, ◌++◌, None, Result, Ok, Err, IsOk, refl, sym, ap, subst, ◌∙◌, arith, append-nil}
-use Rattle.buffa_bytes.proofs.FieldLemmas.{same_refl}
+use Rattle.buffa_bytes.proofs.FieldLemmas.{same_refl, same_false}
 use Rattle.buffa_bytes.proofs.StepLemmas.{agree_err, agree_ok}
 use Rattle.buffa_bytes.specs.Content.{Content, HasContent, content_at}
 use Rattle.buffa_bytes.specs.Field.{Payload}
@@ -8,14 +8,13 @@ use Rattle.buffa_bytes.specs.Front.{check_wire, same_wire}
 use Rattle.buffa_bytes.specs.declared.error.DecodeError.{DecodeError}
 use Rattle.buffa_bytes.specs.declared.error.DecodeError.TheVariants.{OutOfMemory, WireTypeMismatch}
 use Rattle.buffa_bytes.specs.declared.wire_type.WireType.{WireType}
-use Rattle.buffa_bytes.proofs.WireLemmas.{same_false, checked_other}
+use Rattle.buffa_bytes.proofs.WireLemmas.{checked_other}
 use Rattle.buffa_map.proofs.EntryLemmas.{value_complete, value_sound}
 use Rattle.buffa_map.specs.Codec.{Reading, RefusesValue, Spends, Tells, ValueFault, value_at}
 use Rattle.buffa_wire.proofs.KeepLemmas.{content_no_limit}
 use Rattle.buffa_wire.proofs.MessageLemmas.{NoLimit, as_no_limit}
 use Rattle.buffa_wire.proofs.SpentLemmas.{PaysAtMost_nothing}
-use Rattle.buffa_wire.specs.BudgetLeft.{BudgetLeft, nothing}
-use Rattle.buffa_wire.specs.Message.{IsLimit}
+use Rattle.buffa_wire.specs.BudgetLeft.{BudgetLeft, nothing, IsLimit}
 use Rattle.buffa_wire.specs.Takes.{IsTaken, Need, Taker, Untaken}
 use Rattle.buffa_fields.specs.facts.ValueFacts.{content_payload, open_level}
 use Rattle.buffa_fields.specs.Values.{all_of, field_value_at, free, value_taken}

@@ -51,7 +51,7 @@ module _ {K V : Type 0} (key : Reading K) (val : Reading V) where
   KeptPairTakesMemory cost left d n w bs =
       (w ≡ LengthDelimited) × (e : List ℕ) × (rest : List ℕ) × (delimited_at bs ≡ Ok (e, rest))
       × (((val.undeclared ≡ true) × (e ≢ []))
-      ⊎ (EntryFieldsTakeMemory key val d e OutOfMemory
+      ⊎ (EntryFieldsTakeMemory key val d e
       ⊎ ((s : MapEntry K V) × IsEntry key val d e s × ((s.known ≡ true) ⊎ ((need_of key val d cost e).unknown + 1 ≤ left)))))
 
   -- A refused entry isn't put: the pairs are as they were. Unless memory ran out, the wire type is told, or the fault that the entry

@@ -37,7 +37,7 @@ module _ {K V : Type 0} (key : Reading K) (val : Reading V) where
   abbrev pub PairTakesMemory : Asks
   PairTakesMemory d n w bs =
       (w ≡ LengthDelimited) × (e : List ℕ) × (rest : List ℕ) × (delimited_at bs ≡ Ok (e, rest))
-      × (EntryFieldsTakeMemory key val d e OutOfMemory ⊎ ((s : MapEntry K V) × IsEntry key val d e s × (s.known ≡ true)))
+      × (EntryFieldsTakeMemory key val d e ⊎ ((s : MapEntry K V) × IsEntry key val d e s × (s.known ≡ true)))
 
 -- a record for each pair
 abbrev pub map_records : {K V : Type 0} → Writing K → Writing V → ℕ → List (K × V) → List (ℕ × Datum)

@@ -146,7 +146,7 @@ where
     ensures asks { (d n : ℕ) (w : _) (bs : List ℕ) → ⟦<MapOf<KC, VC> as Member>⟧.shape.asks d n w bs
         ↔ ((w ≡ WireType.LengthDelimited)
         × (b : List ℕ) × (rest : List ℕ) × (delimited_at bs ≡ Ok (b, rest))
-        × (EntryFieldsTakeMemory KC.reading VC.reading d b OutOfMemory
+        × (EntryFieldsTakeMemory KC.reading VC.reading d b
         ⊎ ((s : MapEntry KC.Value.Meaning VC.Value.Meaning) × IsEntry KC.reading VC.reading d b s × (s.known ≡ true)))) }
 {}
 
@@ -164,7 +164,7 @@ where
         ↔ ((w ≡ WireType.LengthDelimited)
         × (b : List ℕ) × (rest : List ℕ) × (delimited_at bs ≡ Ok (b, rest))
         × (((VC.reading.undeclared ≡ true) × (b ≢ []))
-        ⊎ (EntryFieldsTakeMemory KC.reading VC.reading d b OutOfMemory
+        ⊎ (EntryFieldsTakeMemory KC.reading VC.reading d b
         ⊎ ((s : MapEntry KC.Value.Meaning VC.Value.Meaning) × IsEntry KC.reading VC.reading d b s × ((s.known ≡ true)
         ⊎ ((need_of KC.reading VC.reading d (KC.COST + VC.COST) b).unknown + 1 ≤ left)))))) }
     ensures fault { (d n : ℕ) (t e more : List ℕ) (f : _) → IsVarint t (length e) → entry_of KC.reading VC.reading d e ≡ Err f →

@@ -66,7 +66,7 @@ where
     ensures asks { (d n : ℕ) (w : WireType) (bs : List ℕ) → ⟦<MapOfNested<KC, N> as Member>⟧.shape.asks d n w bs
         ↔ ((w ≡ LengthDelimited)
         × (b : List ℕ) × (rest : List ℕ) × (delimited_at bs ≡ Ok (b, rest))
-        × (EntryFieldsTakeMemory KC.reading (message_reading N.blank_is N.merged N.cost) d b OutOfMemory
+        × (EntryFieldsTakeMemory KC.reading (message_reading N.blank_is N.merged N.cost) d b
         ⊎ ((s : MapEntry KC.Value.Meaning N.Meaning) × IsEntry KC.reading (message_reading N.blank_is N.merged N.cost) d b s
         × (s.known ≡ true)))) }
     ensures ordered_asks { (d n : ℕ) (w : WireType) (bs : List ℕ) →

@@ -14,9 +14,9 @@ use Rattle.buffa_bytes.specs.declared.wire_type.WireType.{WireType}
 use Rattle.buffa_bytes.specs.declared.wire_type.WireType.TheVariants.{Varint, Fixed64, Fixed32, LengthDelimited}
 use Rattle.buffa_bytes.specs.declared.error.DecodeError.{DecodeError}
 use Rattle.buffa_bytes.specs.declared.error.DecodeError.TheVariants.{RecursionLimitExceeded, UnexpectedEof}
-use Rattle.buffa_wire.specs.BudgetLeft.{BudgetLeft, Lacks, nothing}
+use Rattle.buffa_wire.specs.BudgetLeft.{BudgetLeft, Lacks, nothing, IsLimit}
 use Rattle.buffa_wire.specs.Enums.{numbers, open_number}
-use Rattle.buffa_wire.specs.Message.{IsLimit, merged_in}
+use Rattle.buffa_wire.specs.Message.{merged_in}
 use Rattle.buffa_wire.proofs.KeepLemmas.{content_no_limit}
 use Rattle.buffa_map.specs.Codec.{Reading, ValueFault, value_at, value_need}
 use Rattle.buffa_map.specs.CodecWords.{AtBytes, Never, Reader, IsReadAs, MessagesAreReadAs, always, any_number, declared_number}

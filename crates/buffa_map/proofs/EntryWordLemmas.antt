@@ -6,7 +6,7 @@ use Rattle.std.specs.Prelude.{IsOk}
 use Rattle.std.specs.List.{filter}
 use Rattle.std.specs.Map.{lookup_entry}
 use Rattle.buffa_bytes.proofs.DelimitedLemmas.{delimited_sound}
-use Rattle.buffa_bytes.proofs.FieldLemmas.{same_refl, tag_complete, tag_falls}
+use Rattle.buffa_bytes.proofs.FieldLemmas.{same_refl, tag_complete, tag_falls, same_false}
 use Rattle.buffa_bytes.proofs.ContentLemmas.{content_complete}
 use Rattle.buffa_bytes.proofs.FullLemmas.{delimited_full}
 use Rattle.buffa_bytes.proofs.LeftLemmas.{no_delimited_cut, no_number}
@@ -14,7 +14,7 @@ use Rattle.buffa_bytes.proofs.LeftLemmas as at_left
 use Rattle.buffa_bytes.proofs.SequenceLemmas.{has_byte, not_nil, ok_same}
 use Rattle.buffa_bytes.proofs.StepLemmas.{agree_err, agree_ok}
 use Rattle.buffa_bytes.proofs.TailLemmas.{tail_dropped}
-use Rattle.buffa_bytes.proofs.WireLemmas.{check_differs, check_same, same_false}
+use Rattle.buffa_bytes.proofs.WireLemmas.{check_differs, check_same}
 use Rattle.buffa_bytes.specs.Field.{LengthFault}
 use Rattle.buffa_bytes.specs.Front.{delimited_at, skip_at, tag_at, ◌>>=◌}
 use Rattle.buffa_bytes.specs.Left.{past_no_delimited, past_no_tag, IsTailOf}
@@ -222,26 +222,26 @@ module _ {K V : Type 0} (r : Rules K V) where
   no_field_takes rest key val (inl (more, tag, (takes, room, whole))) = let no : false ≡ true = sym key ∙ takes in cc
   no_field_takes rest key val (inr (more, tag, (takes, room, whole))) = let no : false ≡ true = sym val ∙ takes in cc
 
-  put_only : (left : BudgetLeft) (bs : List ℕ) → r.key.takes_memory ≡ false → r.val.takes_memory ≡ false → r.keeps_undeclared ≡ false → EntryTakesMemory r left bs OutOfMemory →
+  put_only : (left : BudgetLeft) (bs : List ℕ) → r.key.takes_memory ≡ false → r.val.takes_memory ≡ false → r.keeps_undeclared ≡ false → EntryTakesMemory r left bs →
       (e : List ℕ) × (rest : List ℕ) × (s : MapEntry K V) × (delimited_at bs ≡ Ok (e, rest)) × IsEntry r.key r.val r.depth e s × (s.known ≡ true)
   put_only left bs key val drops (e, rest, is, inl (keeps, may, some)) = let no : false ≡ true = sym drops ∙ keeps in cc
-  put_only left bs key val drops (e, rest, is, inr (room, inl field)) = no_field_takes field.1 key val field.4
+  put_only left bs key val drops (e, rest, is, inr (room, inl field)) = no_field_takes field.1 key val field.3
   put_only left bs key val drops (e, rest, is, inr (room, inr (s, h, inl known))) = (e, rest, s, is, h, known)
   put_only left bs key val drops (e, rest, is, inr (room, inr (s, h, inr (keeps, more)))) = let no : false ≡ true = sym drops ∙ keeps in cc
 
   -- a field takes memory behind fields that are an entry
-  field_takes : (e : List ℕ) (f : DecodeError) → EntryFieldsTakeMemory r.key r.val r.depth e f → FieldTakesMemory r e
-  field_takes e f (s, more, (ps, cut, each), some, inl (p, tag, takes)) = (join ps, more, s, p, cut, (ps, sym (append-nil (join ps)), each), inl (tag, takes))
-  field_takes e f (s, more, (ps, cut, each), some, inr (p, tag, takes)) = (join ps, more, s, p, cut, (ps, sym (append-nil (join ps)), each), inr (tag, takes))
+  field_takes : (e : List ℕ) → EntryFieldsTakeMemory r.key r.val r.depth e → FieldTakesMemory r e
+  field_takes e (s, more, (ps, cut, each), inl (p, tag, takes)) = (join ps, more, s, p, cut, (ps, sym (append-nil (join ps)), each), inl (tag, takes))
+  field_takes e (s, more, (ps, cut, each), inr (p, tag, takes)) = (join ps, more, s, p, cut, (ps, sym (append-nil (join ps)), each), inr (tag, takes))
 
-  entry_takes : (left : BudgetLeft) (bs : List ℕ) (f : DecodeError) → EntryTakesMemory r left bs f → (e : List ℕ) × (rest : List ℕ) × (delimited_at bs ≡ Ok (e, rest))
+  entry_takes : (left : BudgetLeft) (bs : List ℕ) → EntryTakesMemory r left bs → (e : List ℕ) × (rest : List ℕ) × (delimited_at bs ≡ Ok (e, rest))
       × (((r.keeps_undeclared ≡ true) × (r.val.undeclared ≡ true) × (e ≢ []))
       ⊎ ((r.cost ≤ left.memory) × (FieldTakesMemory r e
       ⊎ ((s : MapEntry K V) × IsEntry r.key r.val r.depth e s × ((s.known ≡ true)
       ⊎ ((r.keeps_undeclared ≡ true) × ((need_of r.key r.val r.depth r.cost e).unknown < left.unknown)))))))
-  entry_takes left bs f (e, rest, is, inl copied) = (e, rest, is, inl copied)
-  entry_takes left bs f (e, rest, is, inr (room, inl field)) = (e, rest, is, inr (room, inl (field_takes e f field)))
-  entry_takes left bs f (e, rest, is, inr (room, inr whole)) = (e, rest, is, inr (room, inr whole))
+  entry_takes left bs (e, rest, is, inl copied) = (e, rest, is, inl copied)
+  entry_takes left bs (e, rest, is, inr (room, inl field)) = (e, rest, is, inr (room, inl (field_takes e field)))
+  entry_takes left bs (e, rest, is, inr (room, inr whole)) = (e, rest, is, inr (room, inr whole))
 
   -- at most one unknown field is spent as an entry is kept
   at_most_one : (b : Bool) → (if b then 1 else 0) ≤ 1
@@ -272,7 +272,7 @@ module _ {K V : Type 0} (r : Rules K V) where
         (omega (arith, same, at_most_one r.keeps_undeclared, h.spent.least), λ ne. omega (arith, same, h.spent.no_unknown ne));
     unspent = λ old new bs tail f g h is. (h.spent.unspent (not_there (delimited_at bs) g is), h.unread.nothing_there g is);
     behind = λ old new bs e rest tail f h is. let t = agree_ok (delimited_at bs) (e, rest) (delimited_sound bs) is in h.unread.within e rest (t.0, t.1, t.2);
-    taken = λ old new bs tail h. entry_takes old.left bs OutOfMemory (h.memory refl);
+    taken = λ old new bs tail h. entry_takes old.left bs (h.memory refl);
   }
 
   -- ---- a record in front of a run

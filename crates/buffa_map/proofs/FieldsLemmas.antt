@@ -151,7 +151,7 @@ module _ {K V : Type 0} (key : Reading K) (val : Reading V) (d : ℕ) (bytes : L
 
     pub bad_field : (over : BudgetLeft) (f : DecodeError) → 0 < length rest → RefusesEntryField key val d s now rest over f → RefusesFields key val d bytes left over f
     bad_field over f some k = record {
-      full = λ out. (s, rest, h.reached, not_nil rest some, k.full out);
+      full = λ out. (s, rest, h.reached, k.full out);
       fault = λ ne. fields_fault key val d bytes s rest left now some h.unknown h.memory f h.reached (k.fault ne);
       pays = fields_spent key val d bytes s rest left now some h.unknown h.memory over h.no_unknown h.no_unit k.pays;
     }

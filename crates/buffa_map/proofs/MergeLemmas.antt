@@ -26,7 +26,7 @@ module _ {K V : Type 0} (r : Rules K V) (pairs : List (K × V)) (records : List 
   abbrev fields_need : List ℕ → BudgetLeft
   fields_need e = need_at r.key r.val r.depth (blanks r.key r.val r.depth) e
 
-  pub no_entry : (unread : List ℕ) (f : DecodeError) → IsTailOf unread bs → (f ≢ OutOfMemory → delimited_at bs ≡ Err f) → (f ≡ OutOfMemory → EntryTakesMemory r left bs f) → ((e rest : List ℕ) → TakesDelimited bs e rest → IsTailOf rest unread) → ((x : DecodeError) → delimited_at bs ≡ Err x → unread ≡ past_no_delimited bs) →
+  pub no_entry : (unread : List ℕ) (f : DecodeError) → IsTailOf unread bs → (f ≢ OutOfMemory → delimited_at bs ≡ Err f) → (f ≡ OutOfMemory → EntryTakesMemory r left bs) → ((e rest : List ℕ) → TakesDelimited bs e rest → IsTailOf rest unread) → ((x : DecodeError) → delimited_at bs ≡ Err x → unread ≡ past_no_delimited bs) →
       RefusesEntry r (state pairs records left) bs (state pairs records left) unread f
   no_entry unread f tail h full near short = record {
     fault = λ ne. entry_short r.key r.val r.depth r.cost (unknown_cost r) left bs f (h ne);
@@ -50,24 +50,24 @@ module _ {K V : Type 0} (r : Rules K V) (pairs : List (K × V)) (records : List 
   }
 
   -- the bytes of an entry are copied, of which there are some
-  copy_takes : (n : ℕ) (mid : List ℕ) (f : DecodeError) (x : Result (List ℕ × List ℕ) DecodeError) → taken n mid ≡ x → (r.keeps_undeclared ≡ true) × (r.val.undeclared ≡ true) → delimited_at bs ≡ taken n mid → IsOk x → (n ≡ 0 → ⊥) → EntryTakesMemory r left bs f
-  copy_takes n mid f (Ok p) is keeps same ok some =
+  copy_takes : (n : ℕ) (mid : List ℕ) (x : Result (List ℕ × List ℕ) DecodeError) → taken n mid ≡ x → (r.keeps_undeclared ≡ true) × (r.val.undeclared ≡ true) → delimited_at bs ≡ taken n mid → IsOk x → (n ≡ 0 → ⊥) → EntryTakesMemory r left bs
+  copy_takes n mid (Ok p) is keeps same ok some =
       (p.0, p.1, same ∙ is, inl (keeps.0, keeps.1, λ none. some (sym (agree_ok (taken n mid) p (taken_sound n mid) is).0 ∙ ap length none)))
-  copy_takes n mid f (Err x) is keeps same ok some = cc
+  copy_takes n mid (Err x) is keeps same ok some = cc
 
   pub no_copy : (n : ℕ) (mid unread : List ℕ) (f : DecodeError) → (r.keeps_undeclared ≡ true) × (r.val.undeclared ≡ true) → delimited_at bs ≡ taken n mid → IsTailOf unread bs → (f ≢ OutOfMemory → taken n mid ≡ Err f) → (f ≡ OutOfMemory → IsOk (taken n mid)) → (n ≡ 0 → false ≡ true) →
       ((e rest : List ℕ) → TakesDelimited bs e rest → IsTailOf rest unread) → ((x : DecodeError) → delimited_at bs ≡ Err x → unread ≡ past_no_delimited bs) →
       RefusesEntry r (state pairs records left) bs (state pairs records left) unread f
   no_copy n mid unread f keeps same tail reads full free near short =
-      no_entry unread f tail (λ ne. same ∙ reads ne) (λ out. copy_takes n mid f (taken n mid) refl keeps same (full out) (λ z. let k = free z in cc)) near short
+      no_entry unread f tail (λ ne. same ∙ reads ne) (λ out. copy_takes n mid (taken n mid) refl keeps same (full out) (λ z. let k = free z in cc)) near short
 
   module _ (e rest : List ℕ) (is : delimited_at bs ≡ Ok (e, rest)) where
     inner : inner_need r.key r.val r.depth bs ≡ fields_need e
     inner = ap (λ z. need_by z (λ x. fields_need x.0)) is
 
-    parts_memory : (f : DecodeError) → (r.cost ≤ left.memory) × (EntryFieldsTakeMemory r.key r.val r.depth e f ⊎ ((s : MapEntry K V) × IsEntry r.key r.val r.depth e s × (s.known ≡ true))) → EntryTakesMemory r left bs f
-    parts_memory f (room, inl field) = (e, rest, is, inr (room, inl field))
-    parts_memory f (room, inr (s, h, known)) = (e, rest, is, inr (room, inr (s, h, inl known)))
+    parts_memory : (r.cost ≤ left.memory) × (EntryFieldsTakeMemory r.key r.val r.depth e ⊎ ((s : MapEntry K V) × IsEntry r.key r.val r.depth e s × (s.known ≡ true))) → EntryTakesMemory r left bs
+    parts_memory (room, inl field) = (e, rest, is, inr (room, inl field))
+    parts_memory (room, inr (s, h, known)) = (e, rest, is, inr (room, inr (s, h, inl known)))
 
     parts_fault : (f : DecodeError) → ((left.memory < r.cost) × (f ≡ ElementMemoryLimitExceeded)) ⊎ ((r.cost ≤ left.memory) × (Lacks left (need_of r.key r.val r.depth r.cost e) ⊎ FaultOf r.key r.val r.depth e f)) →
         EntryFault r.key r.val r.depth r.cost (unknown_cost r) left bs f
@@ -85,7 +85,7 @@ module _ {K V : Type 0} (r : Rules K V) (pairs : List (K × V)) (records : List 
         let taken = ap (λ (z : BudgetLeft). z.unknown) inner in
         record {
           fault = λ ne. parts_fault f (h.fault ne);
-          memory = λ out. parts_memory f (h.memory out);
+          memory = λ out. parts_memory (h.memory out);
           pairs = refl;
           records = refl;
           unread = record {

@@ -3,8 +3,7 @@ use Rattle.std.proofs.Common.{◌≡◌, ◌≢◌, ◌⊎◌, inl, inr, ℕ, ze
 use Rattle.std.proofs.lemmas.Bool.{eq-eqb, ne_eqb}
 use Rattle.buffa_bytes.specs.Field.{TakesDelimited, TakesTag}
 use Rattle.buffa_bytes.specs.Front.{tag_at, check_wire, delimited_at, skip_at, same_wire}
-use Rattle.buffa_wire.specs.BudgetLeft.{BudgetLeft, Lacks, Pays, PaysAtMost, nothing, plus, unknown_fields}
-use Rattle.buffa_wire.specs.Message.{IsLimit}
+use Rattle.buffa_wire.specs.BudgetLeft.{BudgetLeft, Lacks, Pays, PaysAtMost, nothing, plus, unknown_fields, IsLimit, costs}
 use Rattle.buffa_wire.proofs.MessageLemmas.{NoLimit, length_no_limit, payload_no_limit, tag_no_limit}
 use Rattle.buffa_bytes.specs.declared.wire_type.WireType.{WireType}
 use Rattle.buffa_bytes.specs.declared.error.DecodeError.{DecodeError}
@@ -16,7 +15,6 @@ use Rattle.buffa_bytes.specs.Scan.{step_then, ParsesTo}
 use Rattle.buffa_bytes.proofs.ScanLemmas.{Leads, Shortens, scan_leads, scan_step}
 use Rattle.buffa_bytes.specs.Content.{Content}
 use Rattle.buffa_bytes.proofs.WireLemmas.{check_same}
-use Rattle.buffa_wire.specs.ByField.{costs}
 use Rattle.buffa_map.specs.Codec.{Reading, Tells, ValueFault, level, value_at, value_need}
 use Rattle.buffa_map.specs.Entry.{CodecFault, EntryFault, EntryOf, FaultOf, EntryFieldFault, IsEntry, IsEntryField, blanks, codec_need, entry_field_at, field_need, inner_need, need_at, need_of}
 use Rattle.buffa_map.specs.declared.map_entry.MapEntry.{MapEntry}

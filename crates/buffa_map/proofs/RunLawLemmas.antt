@@ -73,10 +73,10 @@ module _ {K V : Type 0} (key : Reading K) (val : Reading V) (d : ℕ) where
   entry_told e f (s, more, (ps, cut, each), some, h) = (join ps, more, s, cut, (ps, sym (append-nil (join ps)), each), some, field_told s more f h)
 
   -- where a field takes memory
-  pub memory_told : (e : List ℕ) (f : DecodeError) → EntryFieldsTakeMemory key val d e f →
+  pub memory_told : (e : List ℕ) → EntryFieldsTakeMemory key val d e →
       (front : List ℕ) × (more : List ℕ) × (s : MapEntry K V) × (e ≡ front ++ more) × IsEntry key val d front s
       × (((p : List ℕ) × (tag_at more ≡ Ok (1, key.wire, p)) × ReadingTakesMemory key d p) ⊎ ((p : List ℕ) × (tag_at more ≡ Ok (2, val.wire, p)) × ReadingTakesMemory val d p))
-  memory_told e f (s, more, (ps, cut, each), some, h) = (join ps, more, s, cut, (ps, sym (append-nil (join ps)), each), h)
+  memory_told e (s, more, (ps, cut, each), h) = (join ps, more, s, cut, (ps, sym (append-nil (join ps)), each), h)
 
 -- ---- where messages take memory
 

@@ -3,8 +3,7 @@ use Rattle.std.specs.Prelude.{◌≡◌, ◌↔◌, ℕ, zero, suc, ◌⊎◌, B
 use Rattle.buffa_bytes.specs.Front.{◌>>=◌}
 use Rattle.buffa_bytes.specs.Content.{Content, TakesContent, ContentFault, content_at}
 use Rattle.buffa_bytes.specs.Content.Content.{bytes}
-use Rattle.buffa_wire.specs.BudgetLeft.{BudgetLeft, Lacks, Pays, PaysAtMost, need_by}
-use Rattle.buffa_wire.specs.Message.{IsLimit}
+use Rattle.buffa_wire.specs.BudgetLeft.{BudgetLeft, Lacks, Pays, PaysAtMost, need_by, IsLimit}
 use Rattle.buffa_bytes.specs.declared.wire_type.WireType.{WireType}
 use Rattle.buffa_bytes.specs.declared.error.DecodeError.{DecodeError}
 use Rattle.buffa_bytes.specs.declared.error.DecodeError.TheVariants.{RecursionLimitExceeded}
@@ -14,7 +13,7 @@ use Rattle.buffa_map.specs.declared.codec.MapValueDecodeStatus.TheVariants.{Know
 -- How a codec reads: what a value starts with, the wire type of its payloads, and at a depth what a content
 -- makes of the value that stood: the new value, and whether the content is a declared one; or the fault.
 -- Payloads are plain, or they are nested: messages, of which each opens a level, costs something, and leaves open
--- which fault it has inside. Where they are plain they cost nothing. Some may hold a value that is undeclared. Reading
+-- which fault it has inside. Where they are plain they cost nothing beyond the COST of the codec. Some may hold a value that is undeclared. Reading
 -- some takes memory, which may run out.
 pub record Reading (V : Type 0) : Type 0 where
   pub blank : V

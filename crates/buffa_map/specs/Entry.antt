@@ -8,8 +8,7 @@ use Rattle.buffa_bytes.specs.Scan.{scan, ParsesTo, ParseStops, parse_all}
 use Rattle.buffa_bytes.specs.declared.wire_type.WireType.{WireType}
 use Rattle.buffa_bytes.specs.declared.error.DecodeError.{DecodeError}
 use Rattle.buffa_bytes.specs.declared.error.DecodeError.TheVariants.{ElementMemoryLimitExceeded, UnknownFieldLimitExceeded, WireTypeMismatch, OutOfMemory}
-use Rattle.buffa_wire.specs.BudgetLeft.{BudgetLeft, Lacks, need_by, nothing, plus, units, Pays, PaysAtMost}
-use Rattle.buffa_wire.specs.ByField.{costs}
+use Rattle.buffa_wire.specs.BudgetLeft.{BudgetLeft, Lacks, need_by, nothing, plus, units, Pays, PaysAtMost, costs}
 use Rattle.buffa_map.specs.Codec.{Reading, ValueFault, level, value_at, value_need, ReadingTakesMemory}
 use Rattle.buffa_map.specs.declared.map_entry.MapEntry.{MapEntry}
 
@@ -122,9 +121,10 @@ module _ {K V : Type 0} (key : Reading K) (val : Reading V) (d : ℕ) where
       ((rest : List ℕ) × (tag_at bytes ≡ Ok (1, key.wire, rest)) × ReadingTakesMemory key d rest)
       ⊎ ((rest : List ℕ) × (tag_at bytes ≡ Ok (2, val.wire, rest)) × ReadingTakesMemory val d rest)
 
-  -- the fields that begin the bytes are followed by one that takes memory; f is what is told of it
-  abbrev pub EntryFieldsTakeMemory : List ℕ → DecodeError → Type 0
-  EntryFieldsTakeMemory bytes f = ParseStops (IsEntryField key val d) (λ s rest e. EntryFieldTakesMemory rest) (blanks key val d) bytes f
+  -- the fields that begin the bytes are followed by one that takes memory
+  abbrev pub EntryFieldsTakeMemory : List ℕ → Type 0
+  EntryFieldsTakeMemory bytes =
+      (s : MapEntry K V) × (rest : List ℕ) × ParsesTo (IsEntryField key val d) (blanks key val d) bytes s rest × EntryFieldTakesMemory rest
 
   -- the field at the front was merged, rest follows it, and what it costs is spent
   pub record MergesEntryField (old : MapEntry K V) (left : BudgetLeft) (bytes : List ℕ) (new : MapEntry K V) (left_after : BudgetLeft) (rest : List ℕ) : Type 0 where
@@ -145,5 +145,5 @@ module _ {K V : Type 0} (key : Reading K) (val : Reading V) (d : ℕ) where
   -- f is why not, and out of memory only at a field that takes memory; at most what its fields cost is spent
   pub record RefusesFields (bytes : List ℕ) (left left_after : BudgetLeft) (f : DecodeError) : Type 0 where
     pub fault : f ≢ OutOfMemory → Lacks left (need_at key val d (blanks key val d) bytes) ⊎ FaultOf key val d bytes f
-    pub full : f ≡ OutOfMemory → EntryFieldsTakeMemory bytes f
+    pub full : f ≡ OutOfMemory → EntryFieldsTakeMemory bytes
     pub pays : PaysAtMost left (need_at key val d (blanks key val d) bytes) left_after

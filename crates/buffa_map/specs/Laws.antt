@@ -9,8 +9,7 @@ use Rattle.buffa_bytes.specs.declared.wire_type.WireType.TheVariants.{LengthDeli
 use Rattle.buffa_bytes.specs.Content.{Content, TakesContent}
 use Rattle.buffa_wire.specs.Enums.{DeclaresBlank, Numbers, Refines}
 use Rattle.buffa_bytes.specs.Field.{TakesDelimited}
-use Rattle.buffa_wire.specs.BudgetLeft.{Lacks, BudgetLeft, nothing, plus, unknown_fields, units}
-use Rattle.buffa_wire.specs.Message.{IsLimit}
+use Rattle.buffa_wire.specs.BudgetLeft.{Lacks, BudgetLeft, nothing, plus, unknown_fields, units, IsLimit}
 use Rattle.buffa_bytes.specs.Number.{IsNumber}
 use Rattle.buffa_bytes.specs.Values.{tag_encoding}
 use Rattle.buffa_map.specs.Codec.{Reading, ValueFault, Writing, level, value_at}

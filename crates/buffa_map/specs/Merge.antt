@@ -1,4 +1,5 @@
--- What reading entries does to a map, to the records that are kept beside it, and to a budget.
+-- What reading entries does to a map, to the records that are kept beside it, and to a budget: first a run of them, then the
+-- entry that is refused, and at the end the list that may be passed, and one entry alone.
 use Rattle.std.specs.Prelude.{ℕ, ◌+◌, length, List, [], Option, None, Some, ◌≡◌, ◌≢◌, ◌<◌, ◌≤◌, Bool, ◌++◌, ◌⊎◌, cond, if◌then◌else◌, true, Ok, Err, IsOk}
 use Rattle.std.proofs.Common.{inl, inr}
 use Rattle.buffa_wire.specs.Records.{Datum, Held}
@@ -53,10 +54,7 @@ rules key val storage depth number keeps = record {
   keeps_undeclared = keeps;
 }
 
--- the record that is kept of an entry, and those of a run's entries, in order
-abbrev pub kept_of_entry : {K V : Type 0} → Rules K V → List ℕ → MapEntry K V → List (ℕ × Datum)
-kept_of_entry r entry says = if r.keeps_undeclared then undeclared_record r.number entry says.known else []
-
+-- the records that are kept of a run's entries, in order
 abbrev pub kept_of_run : {K V : Type 0} → Rules K V → List (EntryRecord K V) → List (ℕ × Datum)
 kept_of_run r entries = if r.keeps_undeclared then undeclared_records r.number entries else []
 
@@ -64,25 +62,31 @@ kept_of_run r entries = if r.keeps_undeclared then undeclared_records r.number e
 abbrev pub unknown_cost : {K V : Type 0} → Rules K V → ℕ
 unknown_cost r = if r.keeps_undeclared then 1 else 0
 
--- the entry at the front of the bytes was read, and rest follows it: it is one step of the fold, or it is kept
-pub record MergesEntry {K V : Type 0} (r : Rules K V) (old : State K V) (bytes : List ℕ) (new : State K V) (rest : List ℕ) : Type 0 where
-  pub says : MapEntry K V
-  pub entry : List ℕ
-  pub read : EntryOf r.key r.val r.depth bytes entry says rest
-  pub put : SamePairs r.same (step r.same old.pairs says) new.pairs
-  pub order : InOrder r.keeps_order (step r.same old.pairs says) new.pairs
-  pub keeps : new.records ≡ old.records ++ kept_of_entry r entry says
-  pub pays : Pays old.left (plus (need_of r.key r.val r.depth r.cost entry) (unknown_fields (cond says.known 0 (unknown_cost r)))) new.left
+-- The bytes are the records of some entries, and were read.
+pub record ReadsRun {K V : Type 0} (r : Rules K V) (old : State K V) (bytes : List ℕ) (new : State K V) (rest : List ℕ) : Type 0 where
+  pub entries : List (EntryRecord K V)
+  -- the bytes are a run of these entries
+  pub run : Run r.key r.val r.depth r.number bytes entries
+  -- the new pairs are the old ones, and each declared entry put into them
+  pub folded : SamePairs r.same (fold_entries r.same old.pairs entries) new.pairs
+  -- they are in the order in which keys came, where that is kept
+  pub order : InOrder r.keeps_order (fold_entries r.same old.pairs entries) new.pairs
+  -- the undeclared entries follow the old records, where they are kept
+  pub keeps : new.records ≡ old.records ++ kept_of_run r entries
+  -- exactly what the entries cost is spent
+  pub paid : ArePaid r.key r.val r.depth r.cost (unknown_cost r) old.left entries new.left
+  -- nothing is unread
+  pub whole : rest ≡ []
 
 -- Memory may run out while an entry is merged only where a length and so many bytes, the entry, are there, and then at one of
--- these: the entry is copied before it is read, which it is if it has bytes and one that is undeclared would be kept; or its
--- units are left, and a field of it takes memory, of which f is told, or it is whole, and is put into the map, or kept, for
--- which an unknown field is left.
-abbrev pub EntryTakesMemory : {K V : Type 0} → Rules K V → BudgetLeft → List ℕ → DecodeError → Type 0
-EntryTakesMemory {K} {V} r left bs f =
+-- these: the entry is copied before it is read, which it is if it has bytes, undeclared entries are kept, and the value's codec
+-- may give an undeclared value; or its units are left, and a field of it takes memory, or it is whole, and is put into the map,
+-- or kept, for which an unknown field is left.
+abbrev pub EntryTakesMemory : {K V : Type 0} → Rules K V → BudgetLeft → List ℕ → Type 0
+EntryTakesMemory {K} {V} r left bs =
     (e : List ℕ) × (rest : List ℕ) × (delimited_at bs ≡ Ok (e, rest))
     × (((r.keeps_undeclared ≡ true) × (r.val.undeclared ≡ true) × (e ≢ []))
-    ⊎ ((r.cost ≤ left.memory) × (EntryFieldsTakeMemory r.key r.val r.depth e f
+    ⊎ ((r.cost ≤ left.memory) × (EntryFieldsTakeMemory r.key r.val r.depth e
     ⊎ ((s : MapEntry K V) × IsEntry r.key r.val r.depth e s × ((s.known ≡ true) ⊎ ((r.keeps_undeclared ≡ true) × ((need_of r.key r.val r.depth r.cost e).unknown < left.unknown)))))))
 
 -- what a refused entry leaves unread
@@ -91,7 +95,7 @@ pub record LeavesEntry (bytes : List ℕ) (f : DecodeError) (unread : List ℕ) 
   pub tail : IsTailOf unread bytes
   -- what follows the entry, where it was there and had a fault
   pub past : f ≢ OutOfMemory → (e rest : List ℕ) → TakesDelimited bytes e rest → unread ≡ rest
-  -- no less than what follows the entry, where it was there and memory ran out
+  -- where the entry was there, no less than what follows it
   pub within : (e rest : List ℕ) → TakesDelimited bytes e rest → IsTailOf rest unread
   -- what follows the length, or what is none, where no length and so many bytes were there
   pub nothing_there : (x : DecodeError) → delimited_at bytes ≡ Err x → unread ≡ past_no_delimited bytes
@@ -102,7 +106,7 @@ pub record SpendsOnEntry {K V : Type 0} (r : Rules K V) (left : BudgetLeft) (byt
   pub units : (left_after.memory ≡ left.memory)
       ⊎ ((left_after.memory + r.cost ≤ left.memory)
       × (left.memory ≤ left_after.memory + (r.cost + (inner_need r.key r.val r.depth bytes).memory)))
-  -- the units, where the entry was there, had them left, and had a fault
+  -- the units, where the entry was there, they were left, and it had a fault
   pub charged : f ≢ OutOfMemory → (e rest : List ℕ) → TakesDelimited bytes e rest → r.cost ≤ left.memory → left_after.memory + r.cost ≤ left.memory
   -- nothing, where no length and so many bytes were there
   pub unspent : (IsOk (delimited_at bytes) → ⊥) → left_after ≡ left
@@ -112,55 +116,43 @@ pub record SpendsOnEntry {K V : Type 0} (r : Rules K V) (left : BudgetLeft) (byt
   -- and not the one that keeps it, where it had a fault
   pub no_unknown : f ≢ OutOfMemory → left.unknown ≤ left_after.unknown + (inner_need r.key r.val r.depth bytes).unknown
 
--- The entry at the front was refused, and f is why: its first fault; or memory ran out, which it does only where merging
--- the entry takes memory. Map and records stand.
+-- The entry at the front was refused, and f is why: its first fault, or memory ran out, which it does only where merging the
+-- entry takes memory. Map and records stand. Of a fault inside a message any error may be told that is no limit's; and where
+-- the budget lacks what the messages in the entry need, any error.
 pub record RefusesEntry {K V : Type 0} (r : Rules K V) (old : State K V) (bytes : List ℕ) (new : State K V) (tail : List ℕ) (f : DecodeError) : Type 0 where
   pub fault : f ≢ OutOfMemory → EntryFault r.key r.val r.depth r.cost (unknown_cost r) old.left bytes f
-  pub memory : f ≡ OutOfMemory → EntryTakesMemory r old.left bytes f
+  pub memory : f ≡ OutOfMemory → EntryTakesMemory r old.left bytes
   pub pairs : new.pairs ≡ old.pairs
   pub records : new.records ≡ old.records
   pub unread : LeavesEntry bytes f tail
   pub spent : SpendsOnEntry r old.left bytes f new.left
 
--- the entry was merged, or refused, whatever bytes it begins behind its length
-abbrev pub MergesWhole : {K V : Type 0} → Rules K V → State K V → List ℕ → State K V → Type 0
-MergesWhole r old e new = (bytes rest : List ℕ) → delimited_at bytes ≡ Ok (e, rest) → MergesEntry r old bytes new rest
-
-abbrev pub RefusesWhole : {K V : Type 0} → Rules K V → State K V → List ℕ → State K V → DecodeError → Type 0
-RefusesWhole r old e new f = (bytes rest : List ℕ) → delimited_at bytes ≡ Ok (e, rest) → RefusesEntry r old bytes new rest f
-
--- the records of some entries are all of the bytes, and were read
-pub record ReadsRun {K V : Type 0} (r : Rules K V) (old : State K V) (bytes : List ℕ) (new : State K V) (rest : List ℕ) : Type 0 where
-  pub entries : List (EntryRecord K V)
-  pub run : Run r.key r.val r.depth r.number bytes entries
-  pub folded : SamePairs r.same (fold_entries r.same old.pairs entries) new.pairs
-  pub order : InOrder r.keeps_order (fold_entries r.same old.pairs entries) new.pairs
-  pub keeps : new.records ≡ old.records ++ kept_of_run r entries
-  pub paid : ArePaid r.key r.val r.depth r.cost (unknown_cost r) old.left entries new.left
-  pub whole : rest ≡ []
-
--- no tag of a field of number n and of bytes begins the bytes, and f is why; what is left follows the tag, or what is none
+-- no tag of number n and of wire type LengthDelimited begins the bytes, and f is why; what is left follows the tag that is
+-- there, or what is none
 abbrev pub RefusesTag : ℕ → List ℕ → List ℕ → DecodeError → Type 0
 RefusesTag n bytes tail f =
     ((tag_at bytes ≡ Err f) × (tail ≡ past_no_tag bytes))
     ⊎ ((g : ℕ) × (w : WireType) × (tag_at bytes ≡ Ok (g, w, tail))
     × (((g ≢ n) × (f ≡ UnexpectedField g)) ⊎ ((g ≡ n) × (w ≢ LengthDelimited) × (f ≡ WireTypeMismatch n LengthDelimited w))))
 
--- The records in front were read, as a run of their own; what follows them was refused, and f is why: no tag of the field
--- begins it, or one does, and the entry behind it was refused.
+-- The records in front were read, as a run of their own; what follows them was refused, and f is why.
 pub record RefusesRun {K V : Type 0} (r : Rules K V) (old : State K V) (bytes : List ℕ) (new : State K V) (tail : List ℕ) (f : DecodeError) : Type 0 where
   pub front : List ℕ
   pub rest : List ℕ
+  -- the bytes are two parts, of which the second has a byte at least
   pub split : bytes ≡ front ++ rest
   pub some : rest ≢ []
+  -- the first was read, and this was the state then
   pub now : State K V
   pub read : ReadsRun r old front now []
+  -- no tag of the field begins the second; or one does, and the entry behind it was refused
   pub refused : (RefusesTag r.number rest tail f × (new ≡ now))
       ⊎ ((mid : List ℕ) × (tag_at rest ≡ Ok (r.number, LengthDelimited, mid)) × RefusesEntry r now mid new tail f)
 
 -- ---- a list that may be passed, before a call and after it
 
--- the records of the list at the return, none where no list was passed
+-- The records of the list at the return, none where no list was passed. The raw form of what an `Option` held is at the
+-- return: `inl` of nothing; or `inr (inl s)`, where s.0 is what was lent.
 abbrev pub records_after : Unit {0} ⊎ ((MutBor Held × Unit {0}) ⊎ ⊥) → List (ℕ × Datum)
 records_after (inl u) = []
 records_after (inr (inl s)) = s.0.now.records
@@ -184,3 +176,26 @@ abbrev pub capacity_after : Unit {0} ⊎ ((MutBor Held × Unit {0}) ⊎ ⊥) →
 capacity_after (inl u) = 0
 capacity_after (inr (inl s)) = capacity_of s.0.now
 capacity_after (inr (inr s)) = 0
+
+-- ---- one entry, and what takes an entry without its length
+
+-- the record that is kept of an entry
+abbrev pub kept_of_entry : {K V : Type 0} → Rules K V → List ℕ → MapEntry K V → List (ℕ × Datum)
+kept_of_entry r entry says = if r.keeps_undeclared then undeclared_record r.number entry says.known else []
+
+-- The entry at the front of the bytes was read, and rest follows it: it is put, or, where it is undeclared, kept or dropped.
+pub record MergesEntry {K V : Type 0} (r : Rules K V) (old : State K V) (bytes : List ℕ) (new : State K V) (rest : List ℕ) : Type 0 where
+  pub says : MapEntry K V
+  pub entry : List ℕ
+  pub read : EntryOf r.key r.val r.depth bytes entry says rest
+  pub put : SamePairs r.same (step r.same old.pairs says) new.pairs
+  pub order : InOrder r.keeps_order (step r.same old.pairs says) new.pairs
+  pub keeps : new.records ≡ old.records ++ kept_of_entry r entry says
+  pub pays : Pays old.left (plus (need_of r.key r.val r.depth r.cost entry) (unknown_fields (cond says.known 0 (unknown_cost r)))) new.left
+
+-- the entry e was merged, or refused, wherever a length and e begin the bytes
+abbrev pub MergesWhole : {K V : Type 0} → Rules K V → State K V → List ℕ → State K V → Type 0
+MergesWhole r old e new = (bytes rest : List ℕ) → delimited_at bytes ≡ Ok (e, rest) → MergesEntry r old bytes new rest
+
+abbrev pub RefusesWhole : {K V : Type 0} → Rules K V → State K V → List ℕ → State K V → DecodeError → Type 0
+RefusesWhole r old e new f = (bytes rest : List ℕ) → delimited_at bytes ≡ Ok (e, rest) → RefusesEntry r old bytes new rest f

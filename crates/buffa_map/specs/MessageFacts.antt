@@ -1,6 +1,6 @@
 -- What the codec of messages owes.
 use Rattle.std.proofs.Common.{◌≡◌, Bool, true, Option, Some, None, Ok, Err}
-use Rattle.buffa_wire.specs.Message.{IsLimit}
+use Rattle.buffa_wire.specs.BudgetLeft.{IsLimit}
 use Rattle.buffa_bytes.specs.declared.error.DecodeError.{DecodeError}
 use Rattle.buffa_bytes.specs.declared.error.DecodeError.TheVariants.{UnexpectedEof}
 use Rattle.buffa_map.specs.Message.{meant}

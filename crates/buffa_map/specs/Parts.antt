@@ -19,7 +19,7 @@ module _ {K V : Type 0} (key : Reading K) (val : Reading V) (d cost : ℕ) where
     pub fault : f ≢ OutOfMemory → ((left.memory < cost) × (f ≡ ElementMemoryLimitExceeded))
         ⊎ ((cost ≤ left.memory) × (Lacks left (need_of key val d cost e) ⊎ FaultOf key val d e f))
     pub memory : f ≡ OutOfMemory → (cost ≤ left.memory)
-        × (EntryFieldsTakeMemory key val d e f ⊎ ((s : MapEntry K V) × IsEntry key val d e s × (s.known ≡ true)))
+        × (EntryFieldsTakeMemory key val d e ⊎ ((s : MapEntry K V) × IsEntry key val d e s × (s.known ≡ true)))
     pub units : (left_after.memory ≡ left.memory)
         ⊎ ((left_after.memory + cost ≤ left.memory) × (left.memory ≤ left_after.memory + (need_of key val d cost e).memory))
     pub charged : cost ≤ left.memory → left_after.memory + cost ≤ left.memory

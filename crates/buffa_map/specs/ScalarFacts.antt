@@ -4,7 +4,7 @@ use Rattle.std.specs.Str.{is_utf8}
 use Rattle.buffa_bytes.specs.Front.{◌>>=◌}
 use Rattle.buffa_bytes.specs.Content.{Content, HasContent, bytes_in}
 use Rattle.buffa_bytes.specs.Content.Content.{bytes}
-use Rattle.buffa_wire.specs.Message.{IsLimit}
+use Rattle.buffa_wire.specs.BudgetLeft.{IsLimit}
 use Rattle.buffa_bytes.specs.Values.{delimited_encoding}
 use Rattle.buffa_bytes.specs.Varint.{varint_encoding}
 use Rattle.buffa_bytes.specs.Delimited.{text_as}

@@ -93,12 +93,13 @@ pub fn read_map_field<
         (rules (KC.reading, KC.COST) (VC.reading, VC.COST) (C.equal, C.keeps_order) ctx.entry.depth number (is_some unknown.entry))
         (state (C.pairs map.old) (records_before unknown.entry) ctx.entry.budget.now) (B.unread buf.old)
         (state (C.pairs map.new) (records_after unknown.exit) (budget_left ctx.exit)) (B.unread buf.new)) }
-    // Refused: the same of the records in front of the refused one, whose first fault is the error.
+    // Refused: the same of the records in front of the refused one. The error is that one's first fault, or memory ran out. Of
+    // a fault inside a message any error may be told that is no limit's, and any where the budget lacks what its messages need.
     ensures err { IfErr result (RefusesRun
         (rules (KC.reading, KC.COST) (VC.reading, VC.COST) (C.equal, C.keeps_order) ctx.entry.depth number (is_some unknown.entry))
         (state (C.pairs map.old) (records_before unknown.entry) ctx.entry.budget.now) (B.unread buf.old)
         (state (C.pairs map.new) (records_after unknown.exit) (budget_left ctx.exit)) (B.unread buf.new)) }
-    // The list doesn't shrink, and what lies behind the end of a limited buffer stays there.
+    // The list can hold no fewer records than before without new memory; what is behind a limit of the buffer stays there.
     ensures room { capacity_before unknown.entry ≤ capacity_after unknown.exit }
     ensures kept { B.beyond buf.new ≡ B.beyond buf.old }
 {

@@ -99,7 +99,7 @@ pub fn messages_take_memory_so<M: Message>()
 /// Memory runs out in an entry only at a field of the key or of the value whose codec takes some, behind some fields that are an
 /// entry.
 pub fn fields_of_entries_take_memory_so<KC: MapValueDecode, VC: MapValueDecode>()
-    ensures { (d : ℕ) (e : List ℕ) (f : DecodeError) → EntryFieldsTakeMemory KC.reading VC.reading d e f →
+    ensures { (d : ℕ) (e : List ℕ) → EntryFieldsTakeMemory KC.reading VC.reading d e →
         (front : List ℕ) × (more : List ℕ) × (s : MapEntry KC.Value.Meaning VC.Value.Meaning) × (e ≡ front ++ more)
         × IsEntry KC.reading VC.reading d front s
         × (((p : List ℕ) × (tag_at more ≡ Ok (1, KC.reading.wire, p)) × ReadingTakesMemory KC.reading d p)

@@ -7,12 +7,12 @@ use Rattle.buffa_bytes.specs.declared.error.DecodeError.{DecodeError}
 use Rattle.buffa_bytes.specs.declared.error.DecodeError.TheVariants.{OutOfMemory}
 use Rattle.buffa_wire.proofs.MessageLemmas.{NoLimit}
 use Rattle.buffa_bytes.specs.Field.{IsTag, Payload, PayloadFault, SomeField}
-use Rattle.buffa_wire.specs.BudgetLeft.{BudgetLeft, Lacks, Pays, PaysAtMost, need_by, nothing, plus}
+use Rattle.buffa_wire.specs.BudgetLeft.{BudgetLeft, Lacks, Pays, PaysAtMost, need_by, nothing, plus, costs}
 use Rattle.buffa_wire.specs.Message.{IsFieldMerged, IsJudged}
 use Rattle.buffa_bytes.specs.Front.{skip_at, tag_at}
 use Rattle.buffa_bytes.specs.Scan.{step_then}
 use Rattle.buffa_bytes.proofs.ScanLemmas.{Leads, Shortens, scan_keeps, scan_step}
-use Rattle.buffa_wire.specs.ByField.{FieldNeed, FieldReader, cost_by, costs, field_costs, merged_by, stateless}
+use Rattle.buffa_wire.specs.ByField.{FieldNeed, FieldReader, cost_by, field_costs, merged_by, stateless}
 use Rattle.buffa_wire.proofs.ByFieldLemmas.{IsSame, IsSound, judged, taken}
 
 pub plus_nothing : (a : BudgetLeft) → plus a nothing ≡ a

@@ -11,8 +11,8 @@ use Rattle.buffa_bytes.specs.Join.Join.{none, more}
 use Rattle.buffa_bytes.specs.Front.{tag_at}
 use Rattle.buffa_bytes.proofs.FaultLemmas.{IsOfBytes, length_fault, payload_fault, tag_fault, varint_fault}
 use Rattle.buffa_bytes.proofs.FieldLemmas.{tag_complete}
-use Rattle.buffa_wire.specs.BudgetLeft.{BudgetLeft, Lacks, PaysAtMost}
-use Rattle.buffa_wire.specs.Message.{BeginsField, IsLimit, MergeFault}
+use Rattle.buffa_wire.specs.BudgetLeft.{BudgetLeft, Lacks, PaysAtMost, IsLimit}
+use Rattle.buffa_wire.specs.Message.{BeginsField, MergeFault}
 
 -- ---- no fault of bytes is a limit's
 abbrev pub NoLimit : DecodeError → Type 0

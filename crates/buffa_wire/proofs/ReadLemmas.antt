@@ -15,7 +15,7 @@ use Rattle.buffa_bytes.proofs.StepLemmas.{Agrees, agree_bind, agree_err, agree_i
 use Rattle.buffa_bytes.proofs.ListLemmas.{cut_twice}
 use Rattle.buffa_bytes.proofs.VarintLemmas.{varint_sound, varint_complete, varint_faulty}
 use Rattle.buffa_bytes.proofs.DelimitedLemmas.{taken_sound, taken_complete, taken_faulty, delimited_sound, delimited_complete, delimited_faulty}
-use Rattle.buffa_bytes.proofs.FieldLemmas.{tag_sound, tag_complete, tag_faulty, tag_read, tag_some, takes_tag_as, not_end, end_false, end_true}
+use Rattle.buffa_bytes.proofs.FieldLemmas.{tag_sound, tag_complete, tag_faulty, tag_read, tag_some, takes_tag_as, same_false, same_differs, same_true}
 use Rattle.buffa_wire.specs.Records.{Datum, varint, fixed32, fixed64, bytes, group, Records, no_records, one, list_of, records_of}
 use Rattle.buffa_wire.specs.Encoding.{wire_of}
 use Rattle.buffa_wire.specs.Parse.{FieldOf, Parse, IsPayload, field_count, fields_inside, TakesField, TakesRecords, InsideFault, FieldFaultOf, NextFault, GroupRecordsFault}
@@ -141,23 +141,23 @@ module _ (d : ℕ) (inner : GroupReader) (F : ℕ → ℕ → List ℕ → Decod
   pub field_sound : Sound → (s n : ℕ) (w : WireType) (bs : List ℕ) → Agrees (field_by inner s n w bs) (λ v. TakesField d s n w bs v.0 v.1 v.2) (FieldFaultOf F s n w bs)
   unfolding field_by
   field_sound h s n w bs = agree_if (same_wire wire.EndGroup w)
-      (λ e. record { holds = inl (end_true w e, refl) })
+      (λ e. record { holds = inl (sym (same_true wire.EndGroup w e), refl) })
       (λ e. agree_if (s == 0)
-      (λ z. record { holds = inr (inl (end_false w e, eqb-true s 0 z, refl)) })
+      (λ z. record { holds = inr (inl (same_differs wire.EndGroup w e, eqb-true s 0 z, refl)) })
       (λ z. let k = eqb-false s 0 z in agree_weaker (payload_sound h (s - 1) n w bs)
       (λ v a. (a.0, a.1, a.2, omega (arith, a.3, k), a.4))
-      (λ x f. inr (inr (end_false w e, omega arith, f)))))
+      (λ x f. inr (inr (same_differs wire.EndGroup w e, omega arith, f)))))
 
   pub field_complete : Complete → (s n : ℕ) (x : Datum) (left : ℕ) (p rest : List ℕ) → IsPayload d n x p → 1 + fields_inside x + left ≡ s → field_by inner s n (wire_of x) (p ++ rest) ≡ Ok (x, left, rest)
   unfolding field_by
   field_complete c s n x left p rest h e =
-      rw (not_end (wire_of x) (payload_no_end x), ne_eqb s 0 (λ z. absurd (omega arith))) (payload_complete c (s - 1) n x left p rest h (omega arith))
+      rw (same_false wire.EndGroup (wire_of x) (payload_no_end x), ne_eqb s 0 (λ z. absurd (omega arith))) (payload_complete c (s - 1) n x left p rest h (omega arith))
 
   pub field_faulty : Faults → (s n : ℕ) (w : WireType) (bs : List ℕ) (e : DecodeError) → FieldFaultOf F s n w bs e → field_by inner s n w bs ≡ Err e
   unfolding field_by
   field_faulty c s n w bs e (inl h) = rw h.0 (ap (λ x. Err x) (sym h.1))
-  field_faulty c s n w bs e (inr (inl h)) = rw (not_end w h.0, eq-eqb s 0 h.1) (ap (λ x. Err x) (sym h.2))
-  field_faulty c s n w bs e (inr (inr h)) = rw (not_end w h.0, ne_eqb s 0 (λ z. absurd (omega (arith, h.1)))) (payload_faulty c (s - 1) n w bs e h.2)
+  field_faulty c s n w bs e (inr (inl h)) = rw (same_false wire.EndGroup w h.0, eq-eqb s 0 h.1) (ap (λ x. Err x) (sym h.2))
+  field_faulty c s n w bs e (inr (inr h)) = rw (same_false wire.EndGroup w h.0, ne_eqb s 0 (λ z. absurd (omega (arith, h.1)))) (payload_faulty c (s - 1) n w bs e h.2)
 
   -- ---- fields, one after another
   -- a field, whose record is put behind the others

@@ -1,7 +1,10 @@
 -- What is left of a budget.
-use Rattle.std.specs.Prelude.{◌≡◌, ℕ, ◌+◌, ◌-◌, ◌^◌, ◌<◌, ◌≤◌, ◌⊎◌, Result, Ok, Err}
+use Rattle.std.specs.Prelude.{◌≡◌, ℕ, ◌+◌, ◌-◌, ◌^◌, ◌<◌, ◌≤◌, ◌⊎◌, List, Result, Ok, Err}
 use denote.Ref.{MutBor}
 use Rattle.buffa_bytes.specs.declared.error.DecodeError.{DecodeError}
+use Rattle.buffa_bytes.specs.declared.error.DecodeError.TheVariants.{ElementMemoryLimitExceeded, UnknownFieldLimitExceeded}
+use Rattle.buffa_bytes.specs.Scan.{Scanned}
+use Rattle.buffa_bytes.specs.Scan.Scanned.{ends, goes}
 
 -- unknown fields left, and units of element memory left
 pub record BudgetLeft : Type 0 where
@@ -37,6 +40,11 @@ abbrev pub need_by : {A : Type 0} → Result A DecodeError → (A → BudgetLeft
 need_by (Ok x) f = f x
 need_by (Err e) f = nothing
 
+-- what the piece at the front costs, a malformed one too, and then what those behind it cost
+abbrev pub costs : {S : Type 0} → BudgetLeft → Result (S × List ℕ) DecodeError → Scanned S BudgetLeft
+costs need (Ok x) = goes x.0 x.1 (plus need)
+costs need (Err e) = ends need
+
 -- one budget has room for what another is
 abbrev pub Covers : BudgetLeft → BudgetLeft → Type 0
 Covers b c = (c.unknown ≤ b.unknown) × (c.memory ≤ b.memory)
@@ -63,6 +71,13 @@ UnknownsSpent n before after = (after ≤ before) × (before ≤ after + n)
 abbrev pub UnknownTaken : ℕ → ℕ → Type 0
 UnknownTaken before after = after ≡ before - 1
 
--- what a call that took a context left in the budget that was lent with it
+-- What a call that took a context left in the budget that was lent with it. In the raw form that a context has at the
+-- return, ctx.0 is the depth, and ctx.1.0 the budget.
 abbrev pub budget_left : {D X : Type 0} → D × (MutBor X × Unit {0}) → X
 budget_left ctx = ctx.1.0.now
+
+-- an error that a budget makes
+abbrev pub IsLimit : DecodeError → Type 0
+IsLimit UnknownFieldLimitExceeded = Unit {0}
+IsLimit ElementMemoryLimitExceeded = Unit {0}
+IsLimit _ = ⊥

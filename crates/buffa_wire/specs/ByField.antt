@@ -6,7 +6,7 @@ use Rattle.buffa_bytes.specs.Scan.{Scanned, scan, parse_all}
 use Rattle.buffa_bytes.specs.Scan.Scanned.{ends, goes}
 use Rattle.buffa_bytes.specs.declared.wire_type.WireType.{WireType}
 use Rattle.buffa_bytes.specs.declared.error.DecodeError.{DecodeError}
-use Rattle.buffa_wire.specs.BudgetLeft.{BudgetLeft, nothing, plus}
+use Rattle.buffa_wire.specs.BudgetLeft.{BudgetLeft, costs, nothing}
 
 -- What the field whose tag, of a number and a wire type, was read makes of a value, and what follows the field.
 abbrev pub FieldReader : Type 0 → Type 0
@@ -28,11 +28,6 @@ merged_by field v bs = value_of (parse_all (next_at field) v bs)
 -- What the field whose tag, of a number and a wire type, was read costs, a malformed one too.
 abbrev pub FieldNeed : Type 0
 FieldNeed = ℕ → WireType → List ℕ → BudgetLeft
-
--- what the piece at the front costs, a malformed one too, and then what those behind it cost
-abbrev pub costs : {S : Type 0} → BudgetLeft → Result (S × List ℕ) DecodeError → Scanned S BudgetLeft
-costs need (Ok x) = goes x.0 x.1 (plus need)
-costs need (Err e) = ends need
 
 -- a reading that carries no state
 abbrev pub stateless : Result (List ℕ) DecodeError → Result (Unit {0} × List ℕ) DecodeError

@@ -1,19 +1,13 @@
 -- What merging a message promises: what bytes make of a value, and what they cost, is said by the message's type.
 use Rattle.std.specs.Prelude.{◌≡◌, ◌≢◌, ◌<◌, ℕ, zero, suc, ◌⊎◌, List, ◌++◌, length, Option, Some, None, Result, Ok, Err, MatchResult}
 use Rattle.buffa_bytes.specs.declared.error.DecodeError.{DecodeError}
-use Rattle.buffa_bytes.specs.declared.error.DecodeError.TheVariants.{ElementMemoryLimitExceeded, OutOfMemory, RecursionLimitExceeded, UnknownFieldLimitExceeded}
+use Rattle.buffa_bytes.specs.declared.error.DecodeError.TheVariants.{OutOfMemory, RecursionLimitExceeded}
 use Rattle.buffa_bytes.specs.declared.wire_type.WireType.{WireType}
 use Rattle.buffa_bytes.specs.declared.wire_type.WireType.TheVariants.{EndGroup}
 use Rattle.buffa_bytes.specs.Field.{IsTag, Payload, TakesPayload}
 use Rattle.buffa_bytes.specs.Front.{delimited_at, tag_at}
 use Rattle.buffa_wire.specs.declared.context.DecodeContext.{DecodeContext}
-use Rattle.buffa_wire.specs.BudgetLeft.{BudgetLeft, Lacks, Pays, PaysAtMost, defaults, nothing}
-
--- an error that a budget makes
-abbrev pub IsLimit : DecodeError → Type 0
-IsLimit UnknownFieldLimitExceeded = Unit {0}
-IsLimit ElementMemoryLimitExceeded = Unit {0}
-IsLimit _ = ⊥
+use Rattle.buffa_wire.specs.BudgetLeft.{BudgetLeft, IsLimit, Lacks, Pays, PaysAtMost, defaults, nothing}
 
 -- why bytes aren't merged that mean so and need so much, where left is left: that isn't left, and then any error may
 -- be told; or they mean no value, and then any but a limit's

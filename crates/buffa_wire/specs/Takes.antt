@@ -8,9 +8,8 @@ use Rattle.buffa_bytes.specs.declared.wire_type.WireType.{WireType}
 use Rattle.buffa_bytes.specs.declared.wire_type.WireType.TheVariants.{EndGroup}
 use Rattle.buffa_bytes.specs.declared.error.DecodeError.{DecodeError}
 use Rattle.buffa_bytes.specs.declared.error.DecodeError.TheVariants.{OutOfMemory, UnexpectedEof}
-use Rattle.buffa_wire.specs.BudgetLeft.{BudgetLeft, Lacks, Pays, PaysAtMost, nothing}
+use Rattle.buffa_wire.specs.BudgetLeft.{BudgetLeft, Lacks, Pays, PaysAtMost, nothing, IsLimit}
 use Rattle.buffa_wire.specs.ByField.{FieldReader, cost_by, merged_by, value_of}
-use Rattle.buffa_wire.specs.Message.{IsLimit}
 
 -- At a depth, what a field of a number and a wire type makes of a value by its payload, or none where it is refused.
 abbrev pub Taker : Type 0 → Type 0

@@ -2,8 +2,7 @@
 use Rattle.std.proofs.Common.{◌≡◌, ◌≢◌, ◌⊎◌, ◌++◌, inl, inr, ℕ, ℤ, ◌≤◌, Bool, List, [], refl, sym, subst, arith}
 use Rattle.buffa_bytes.specs.declared.error.DecodeError.{DecodeError}
 use Rattle.buffa_bytes.specs.declared.error.DecodeError.TheVariants.{ElementMemoryLimitExceeded, OutOfMemory, UnknownFieldLimitExceeded}
-use Rattle.buffa_wire.specs.BudgetLeft.{BudgetLeft, Lacks, plus, units}
-use Rattle.buffa_wire.specs.Message.{IsLimit}
+use Rattle.buffa_wire.specs.BudgetLeft.{BudgetLeft, Lacks, plus, units, IsLimit}
 use Rattle.buffa_wire.specs.Records.{Datum}
 use Rattle.buffa_map.specs.Codec.{Reading, Writing}
 use Rattle.buffa_map.specs.Entry.{EntryFault, need_of}

@@ -17,8 +17,8 @@ use Rattle.buffa_bytes.specs.declared.error.DecodeError.TheVariants as error
 use Rattle.buffa_bytes.specs.declared.wire_type.WireType.{WireType}
 use Rattle.buffa_bytes.specs.declared.wire_type.WireType.TheVariants.{Varint, Fixed64, LengthDelimited, StartGroup, EndGroup, Fixed32}
 use Rattle.buffa_wire.proofs.MessageLemmas.{NoLimit}
-use Rattle.buffa_wire.specs.BudgetLeft.{BudgetLeft, Lacks}
-use Rattle.buffa_wire.specs.Message.{IsLimit, merged_in}
+use Rattle.buffa_wire.specs.BudgetLeft.{BudgetLeft, Lacks, IsLimit}
+use Rattle.buffa_wire.specs.Message.{merged_in}
 use Rattle.buffa_wire.specs.Pinned.{refusal}
 use Rattle.buffa_wire.specs.Takes.{IsTaken, Untaken}
 use Rattle.buffa_map.proofs.EntryLemmas.{entry_faulty}

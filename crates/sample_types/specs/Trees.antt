@@ -113,7 +113,7 @@ module _ (merged : ℕ → Grown → List ℕ → Option Grown) (cost : ℕ → 
       (check_wire 2 LengthDelimited w ≡ Err e)
       ⊎ ((w ≡ LengthDelimited) × (e ≢ OutOfMemory → EntryFault int32_reading child_reading d 36 0 left bs e)
       × (e ≡ OutOfMemory → (w ≡ LengthDelimited) × (b : List ℕ) × (rest : List ℕ) × (delimited_at bs ≡ Ok (b, rest))
-      × (EntryFieldsTakeMemory int32_reading child_reading d b OutOfMemory
+      × (EntryFieldsTakeMemory int32_reading child_reading d b
       ⊎ ((s : MapEntry ℤ Grown) × IsEntry int32_reading child_reading d b s × (s.known ≡ true)))))
 
   -- why a field of a tree is refused

@@ -1,7 +1,7 @@
 -- What is proved of messages as groups.
 use Rattle.std.proofs.Common.{◌≡◌, ℕ, zero, suc, ◌-◌, ◌≤◌, List, [], ◌++◌, length, take, Option, Some, Result, Ok, Err, refl, sym, ap, subst, ◌∙◌, arith, append_assoc, append-nil, length-append}
 use Rattle.std.proofs.Math.Seq.{take-append_seam}
-use Rattle.buffa_bytes.proofs.FieldLemmas.{not_end, payload_complete, skip_falls, tag_complete, tag_falls}
+use Rattle.buffa_bytes.proofs.FieldLemmas.{same_false, payload_complete, skip_falls, tag_complete, tag_falls}
 use Rattle.buffa_bytes.proofs.ScanLemmas.{Shortens, if_short, scan_step}
 use Rattle.buffa_bytes.specs.declared.error.DecodeError.{DecodeError}
 use Rattle.buffa_bytes.specs.declared.wire_type.WireType.{WireType}
@@ -51,7 +51,7 @@ module _ (d : ℕ) where
   pub body_field : (t p x : List ℕ) (n : ℕ) (w : WireType) → IsTag t n w → Payload d n w p → group_body d (t ++ (p ++ x)) ≡ t ++ (p ++ group_body d x)
   body_field t p x n w tag payload =
       turn (t ++ (p ++ x)) (Ok (n, w, p ++ x)) (tag_complete t n w (p ++ x) tag)
-      ∙ rw (not_end w (λ end. subst (λ v. Payload d n v p) end payload), payload_complete d n w p x payload) refl
+      ∙ rw (same_false EndGroup w (λ end. subst (λ v. Payload d n v p) end payload), payload_complete d n w p x payload) refl
       ∙ ap (λ (z : List ℕ). z ++ group_body d x) (front_is t p x) ∙ append_assoc t p (group_body d x)
 
   -- fields, and then more

@@ -16,11 +16,11 @@ ghost use Rattle.buffa_bytes.specs.Front.{delimited_at, tag_at, FullOnlyIf, Give
 ghost use Rattle.buffa_bytes.specs.Left.{LeavesUnlessFull, IsChunkOf, IsFrontOf, IsTailOf, MayBeCut, MovesUnlessFull, bytes_read};
 ghost use Rattle.buffa_bytes.specs.Pieces.{joined};
 ghost use Rattle.buffa_bytes.specs.Written.{UsesRoom, Writes};
-ghost use Rattle.buffa_wire.specs.BudgetLeft.{BudgetLeft, Covers, Lacks, Pays, PaysAtMost, UnknownTaken, UnknownsSpent};
+ghost use Rattle.buffa_wire.specs.BudgetLeft.{BudgetLeft, Covers, Lacks, Pays, PaysAtMost, UnknownTaken, UnknownsSpent, IsLimit};
 ghost use Rattle.buffa_wire.specs.BudgetLeft.{budget_left, defaults, minus, need_by, nothing, plus, units, unknown_fields};
 ghost use Rattle.buffa_wire.specs.Cache.{Cache, advanced, appended};
 ghost use Rattle.buffa_wire.specs.Kept.{more_left};
-ghost use Rattle.buffa_wire.specs.Message.{BeginsField, IsFieldMerged, IsJudged, IsLimit, IsMerged, IsMergedAlone, MergeFault};
+ghost use Rattle.buffa_wire.specs.Message.{BeginsField, IsFieldMerged, IsJudged, IsMerged, IsMergedAlone, MergeFault};
 ghost use Rattle.buffa_wire.specs.Message.{MergesBytes, MergesField, MergesInside, Unchanged};
 ghost use Rattle.buffa_wire.specs.Message.{IsInside, MessageFault, Stands, StandsInside, cost_in, cost_of_payload, merged_in};
 ghost use Rattle.buffa_wire.specs.Parse.{FieldFault, GroupRecordsFault, RecordsFault, TakesRecords};

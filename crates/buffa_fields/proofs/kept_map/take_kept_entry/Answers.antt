@@ -25,7 +25,7 @@ pub returns-in-Err-clause-full : goal.returns-in-Err-clause-full
 returns-in-Err-clause-full g c = λ full.
     let k = rw c.field_number.ensures at c.in-Err.ensures.err in
     kept_full g.KC.MapValueDecode.reading g.VC.MapValueDecode.reading g.KC.Value.MapKey.same true (put g.KC.Value.MapKey.same) (g.KC.MapValueDecode.COST + g.VC.MapValueDecode.COST) c.args.ctx.depth c.args.tag.number c.args.tag.wire_type c.args.buf.now.now
-    c.args.ctx.budget.now c.in_ok-check_wire_type.ensures c.in-Err.error full (k.memory full)
+    c.args.ctx.budget.now c.in_ok-check_wire_type.ensures (k.memory full)
 
 pub returns-in-Err-clause-refused : goal.returns-in-Err-clause-refused
 returns-in-Err-clause-refused g c = λ e same.

@@ -23,7 +23,7 @@ returns-in_err-merge_entry-clause-taken g c =
 pub returns-in_err-merge_entry-clause-full : goal.returns-in_err-merge_entry-clause-full
 returns-in_err-merge_entry-clause-full g c =
     let p = err_from_is_err_and c.from_residual-in_err-merge_entry.result c.from_residual-in_err-merge_entry.ensures.1 in
-    rw (p.1, p.2) (λ full. map_full g.KC.MapValueDecode.reading g.VC.MapValueDecode.reading g.KC.Value.MapKey.same true (put g.KC.Value.MapKey.same) (g.KC.MapValueDecode.COST + g.VC.MapValueDecode.COST) c.args.ctx.depth c.args.tag.number c.args.tag.wire_type c.args.buf.now.now c.args.ctx.budget.now c.in_ok-check_wire_type.ensures c.in_err-merge_entry.field-0.0 full
+    rw (p.1, p.2) (λ full. map_full g.KC.MapValueDecode.reading g.VC.MapValueDecode.reading g.KC.Value.MapKey.same true (put g.KC.Value.MapKey.same) (g.KC.MapValueDecode.COST + g.VC.MapValueDecode.COST) c.args.ctx.depth c.args.tag.number c.args.tag.wire_type c.args.buf.now.now c.args.ctx.budget.now c.in_ok-check_wire_type.ensures
     (c.in_err-merge_entry.ensures.err.memory full))
 
 pub returns-in_err-check_wire_type-clause-refused : goal.returns-in_err-check_wire_type-clause-refused

@@ -44,7 +44,7 @@ pub returns-in_err-answer-clause-full : goal.returns-in_err-answer-clause-full
 returns-in_err-answer-clause-full g c =
     let val = message_reading g.M.Blank.blank_is g.M.MessageSpec.merged g.M.MessageSpec.cost in
     let p = err_from_is_err_and c.from_residual-in_err-answer.result c.from_residual-in_err-answer.ensures.1 in
-    rw (p.1, p.2) (λ full. map_full g.KC.MapValueDecode.reading val g.KC.Value.MapKey.same false (insert_entry g.KC.Value.OrderedKey.order) (g.KC.MapValueDecode.COST + g.M.MessageSpec.COST) c.args.depth c.args.tag.number c.args.tag.wire_type c.args.buf.now.now c.args.budget.now c.in_ok-check_wire_type.ensures c.in_err-answer.field-0.0 full
+    rw (p.1, p.2) (λ full. map_full g.KC.MapValueDecode.reading val g.KC.Value.MapKey.same false (insert_entry g.KC.Value.OrderedKey.order) (g.KC.MapValueDecode.COST + g.M.MessageSpec.COST) c.args.depth c.args.tag.number c.args.tag.wire_type c.args.buf.now.now c.args.budget.now c.in_ok-check_wire_type.ensures
     (c.in_err-answer.ensures.err.memory full))
 
 pub returns-in_err-check_wire_type-clause-refused : goal.returns-in_err-check_wire_type-clause-refused

@@ -1,6 +1,6 @@
 use Rattle.std.proofs.Common.{Some, ap, refl, ◌∙◌}
 use Rattle.std.specs.Option.{option_map}
-use Rattle.buffa_bytes.proofs.WireLemmas.{same_false}
+use Rattle.buffa_bytes.proofs.FieldLemmas.{same_false}
 use Rattle.buffa_fields.proofs.RecordLawLemmas.{value_is_refused, value_is_taken}
 use Rattle.buffa_fields.proofs.record_laws.values_are_read.Goals as goal
 

@@ -1,5 +1,5 @@
 use Rattle.std.proofs.Common.{refl}
-use Rattle.buffa_bytes.proofs.WireLemmas.{same_false}
+use Rattle.buffa_bytes.proofs.FieldLemmas.{same_false}
 use Rattle.buffa_bytes.specs.declared.wire_type.WireType.TheVariants.{LengthDelimited}
 use Rattle.buffa_fields.proofs.refusal_laws.lists_take_these_wire_types.Goals as goal
 
