@@ -65,11 +65,11 @@ field_end d s n w bs e = rw e refl
 
 pub field_no_unknown : (d s n : ℕ) (w : WireType) (bs : List ℕ) → w ≢ wire.EndGroup → s ≡ 0 → field_at d s n w bs ≡ Err UnknownFieldLimitExceeded
 unfolding field_by
-field_no_unknown d s n w bs o e = rw (same_false EndGroup w o, eq-eqb s 0 e) refl
+field_no_unknown d s n w bs o e = rw (same_false wire.EndGroup w o, eq-eqb s 0 e) refl
 
 field_paid : (d s left n : ℕ) (w : WireType) (bs : List ℕ) → w ≢ wire.EndGroup → left + 1 ≡ s → field_at d s n w bs ≡ payload_by (group_records_at d) left n w bs
 unfolding field_by
-field_paid d s left n w bs o e = let k : s - 1 ≡ left = omega arith in rw (same_false EndGroup w o, ne_eqb s 0 (λ z. absurd (omega arith)), k) refl
+field_paid d s left n w bs o e = let k : s - 1 ≡ left = omega arith in rw (same_false wire.EndGroup w o, ne_eqb s 0 (λ z. absurd (omega arith)), k) refl
 
 pub field_group_ok : (d s left n : ℕ) (w : WireType) (bs : List ℕ) (x : Group) → w ≡ wire.StartGroup → left + 1 ≡ s → group_records_at d left n bs ≡ Ok x → field_at d s n w bs ≡ Ok (group x.0, x.1, x.2)
 field_group_ok d s left n w bs x g e f = rw g (field_paid d s left n wire.StartGroup bs (λ q. cc) e ∙ rw f refl)
