@@ -6,6 +6,6 @@ pub use Rattle.buffa_fields.specs.Blocks.{TakesBlock, TakesKeeping, aloof, block
 pub use Rattle.buffa_fields.specs.Levels.{AreExactLevels}
 pub use Rattle.buffa_fields.specs.Members.{field, field_kept, keep, skip}
 pub use Rattle.buffa_fields.specs.OneOf.{one_of}
-pub use Rattle.buffa_fields.specs.OneOfParts.{case, enum_of, no_case}
+pub use Rattle.buffa_fields.specs.OneOfParts.{case, enum_of, no_case, some_cases}
 pub use Rattle.buffa_fields.specs.declared.meaning.Or.TheVariants.{Other, This}
 pub use Rattle.buffa_fields.specs.facts.LayoutFacts.{chosen, not_chosen}

@@ -29,8 +29,8 @@ pub record CaseWords {P A : Type 0} (s : Shape (Option P) (Option A)) (merges : 
   pub blank : s.blank ≡ None
   pub alone : merges ≡ false → (d : ℕ) (v : Option A) (n : ℕ) (w : WireType) (p : List ℕ) → s.takes d v n w p ≡ s.takes d None n w p
 
--- ---- a case, and those after it
--- the value of a case, where it stands; and what stands of those after it
+-- ---- some cases, and others after them
+-- what stands of the first, and of the others
 abbrev pub this_of : {A B : Type 0} → Option (Or A B) → Option A
 this_of None = None
 this_of (Some (This a)) = Some a
@@ -41,12 +41,12 @@ other_of None = None
 other_of (Some (This a)) = None
 other_of (Some (Other b)) = Some b
 
--- the case stands, or one of those after it, or none
+-- one of the first stands, or one of the others, or none
 abbrev pub either : {A B : Type 0} → Option A → Option B → Option (Or A B)
 either (Some a) o = Some (This a)
 either None o = option_map Other o
 
--- one of two, by which of them a case is
+-- one of two, by which of them a case is of
 abbrev pub by_case : {A B C : Type 0} → (A → C) → (B → C) → Or A B → C
 by_case f g (This a) = f a
 by_case f g (Other b) = g b
@@ -105,14 +105,13 @@ pub record Cases (V X : Type 0) : Type 1 where
 pub record CasesLaws {V X : Type 0} (c : Cases V X) : Type 1 where
   pub fine : (D : ℕ → Bool) (sound : Bool) → c.sound D sound ≡ true → c.Fine × ((n : ℕ) → D n ≡ true → c.mine n ≡ false) × (sound ≡ true)
   pub absent : c.meaning None ≡ None
+  -- each value means something
+  pub there : (v : V) → (x : X) × (c.meaning (Some v) ≡ Some x)
   pub stays : Stays c.need
   pub taken_is : {O : Type 0} (at : Option O → Option V) (d : ℕ) (old : Option O) (n : ℕ) (w : WireType) (bs : List ℕ) (before : BudgetLeft) (r : Result (Unit {0}) DecodeError) (new : Option O) (after : BudgetLeft) (rest : List ℕ) →
       c.mine n ≡ true → c.Took at d old n w bs before r new after rest → IsTaken c.takes c.need d (c.meaning (at old)) n w bs before r (c.meaning (at new)) after rest
   pub puts : {O : Type 0} (at : Option O → Option V) (d : ℕ) (old : Option O) (n : ℕ) (w : WireType) (bs : List ℕ) (before : BudgetLeft) (x : Unit {0}) (new : Option O) (after : BudgetLeft) (rest : List ℕ) →
       c.mine n ≡ true → c.Took at d old n w bs before (let r : Result (Unit {0}) DecodeError = Ok x in r) new after rest → (v : V) × (at new ≡ Some v)
-  -- what is put means something
-  pub says : {O : Type 0} (at : Option O → Option V) (d : ℕ) (old : Option O) (n : ℕ) (w : WireType) (bs : List ℕ) (before : BudgetLeft) (x : Unit {0}) (new : Option O) (after : BudgetLeft) (rest : List ℕ) →
-      c.mine n ≡ true → c.Took at d old n w bs before (let r : Result (Unit {0}) DecodeError = Ok x in r) new after rest → (v : X) × (c.meaning (at new) ≡ Some v)
   pub asks_is : {O : Type 0} (at : Option O → Option V) (d : ℕ) (old : Option O) (n : ℕ) (w : WireType) (bs : List ℕ) (before : BudgetLeft) (r : Result (Unit {0}) DecodeError) (new : Option O) (after : BudgetLeft) (rest : List ℕ) →
       c.mine n ≡ true → c.Took at d old n w bs before r new after rest → FullOnlyIf r (c.asks d n w bs)
   pub seen_is : (v : V) (z : Seen) → c.seen v z ≡ more (if_there [] c.records (c.meaning (Some v))) (if_there [] c.slots (c.meaning (Some v))) z
@@ -123,7 +122,7 @@ pub record CasesLaws {V X : Type 0} (c : Cases V X) : Type 1 where
   pub least : c.Owes → c.Exact → c.Fine → (d : ℕ) (x : X) → c.normal x → AllByRecursion (IsTakenWritten c.takes d) (c.records x) → c.levels x ≤ d
 
 -- no case
-abbrev pub none_of : Cases (Unit {0}) (Unit {0})
+abbrev pub none_of : Cases ⊥ (Unit {0})
 none_of = record {
   meaning = λ o. None;
   mine = λ n. false;
@@ -143,25 +142,45 @@ none_of = record {
   Fine = Unit {0};
 }
 
--- a case under a number, and those after it
-module _ {P A V B : Type 0} (k : ℕ) (s : Shape (Option P) (Option A)) (merges : Bool) (others : Cases V B) where
-  abbrev pub case_of : Cases (Or P V) (Or A B)
-  case_of = record {
-    meaning = λ o. either (s.meaning (this_of o)) (others.meaning (other_of o));
-    mine = λ n. n == k || others.mine n;
-    sound = λ D sound. is_number k && not (D k || others.mine k) && (s.whole && others.sound D sound);
-    takes = λ d v n w p. if n == k then option_map (option_map This) (s.takes d (this_of v) n w p) else option_map (option_map Other) (others.takes d (other_of v) n w p);
-    asks = λ d n w bs. Choice (n == k) (s.asks d n w bs) (others.asks d n w bs);
-    need = λ d n w bs. if n == k then s.need d n w bs else others.need d n w bs;
-    records = by_case (λ a. s.records k (Some a)) others.records;
-    slots = by_case (λ a. s.slots (Some a)) others.slots;
-    levels = by_case (λ a. s.levels (Some a)) others.levels;
-    normal = ByCase (λ a. s.normal (Some a)) others.normal;
-    Took = λ at d old n w bs before r new after rest.
-        Choice (n == k) (IsCasePut (λ o. this_of (at o)) s d old n w bs before (if merges then this_of (at old) else None) r new after rest) (others.Took (λ o. other_of (at o)) d old n w bs before r new after rest);
-    seen = by_case (λ p z. visited s k (Some p) z) others.seen;
-    lent = by_case (λ p. s.slots (s.meaning (Some p))) others.lent;
-    Owes = ReadsBackTo s × others.Owes;
-    Exact = s.Exact × others.Exact;
-    Fine = IsNumber k × (others.mine k ≡ false) × others.Fine;
-  }
+-- one case, under a number
+abbrev pub one_case : {P A : Type 0} → ℕ → Shape (Option P) (Option A) → Bool → Cases P A
+one_case k s merges = record {
+  meaning = s.meaning;
+  mine = λ n. n == k;
+  sound = λ D sound. is_number k && not (D k) && (s.whole && sound);
+  takes = s.takes;
+  asks = s.asks;
+  need = s.need;
+  records = λ a. s.records k (Some a);
+  slots = λ a. s.slots (Some a);
+  levels = λ a. s.levels (Some a);
+  normal = λ a. s.normal (Some a);
+  Took = λ at d old n w bs before r new after rest. IsCasePut at s d old n w bs before (if merges then at old else None) r new after rest;
+  seen = λ p z. visited s k (Some p) z;
+  lent = λ p. s.slots (s.meaning (Some p));
+  Owes = ReadsBackTo s;
+  Exact = s.Exact;
+  Fine = IsNumber k;
+}
+
+-- some cases, and others after them
+abbrev pub either_of : {V X W Y : Type 0} → Cases V X → Cases W Y → Cases (Or V W) (Or X Y)
+either_of first others = record {
+  meaning = λ o. either (first.meaning (this_of o)) (others.meaning (other_of o));
+  mine = λ n. first.mine n || others.mine n;
+  sound = λ D sound. first.sound (λ n. D n || others.mine n) (others.sound D sound);
+  takes = λ d v n w p. if first.mine n then option_map (option_map This) (first.takes d (this_of v) n w p) else option_map (option_map Other) (others.takes d (other_of v) n w p);
+  asks = λ d n w bs. Choice (first.mine n) (first.asks d n w bs) (others.asks d n w bs);
+  need = λ d n w bs. if first.mine n then first.need d n w bs else others.need d n w bs;
+  records = by_case first.records others.records;
+  slots = by_case first.slots others.slots;
+  levels = by_case first.levels others.levels;
+  normal = ByCase first.normal others.normal;
+  Took = λ at d old n w bs before r new after rest.
+      Choice (first.mine n) (first.Took (λ o. this_of (at o)) d old n w bs before r new after rest) (others.Took (λ o. other_of (at o)) d old n w bs before r new after rest);
+  seen = by_case first.seen others.seen;
+  lent = by_case first.lent others.lent;
+  Owes = first.Owes × others.Owes;
+  Exact = first.Exact × others.Exact;
+  Fine = first.Fine × ((n : ℕ) → others.mine n ≡ true → first.mine n ≡ false) × others.Fine;
+}

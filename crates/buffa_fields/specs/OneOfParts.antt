@@ -2,8 +2,8 @@
 use Rattle.std.specs.Prelude.{◌≡◌, ℕ, Bool, not, max, List, [], Option, None}
 use Rattle.std.specs.Option.{option_map}
 use Rattle.buffa_fields.specs.Aside.{Kept}
-use Rattle.buffa_fields.specs.Cases.{Cases, CasesLaws, CaseWords, case_of, if_there, none_of}
-use Rattle.buffa_fields.specs.facts.CasesFacts.{case_laws, none_laws}
+use Rattle.buffa_fields.specs.Cases.{Cases, CasesLaws, CaseWords, either_of, if_there, none_of, one_case}
+use Rattle.buffa_fields.specs.facts.CasesFacts.{either_laws, none_laws, one_laws}
 use Rattle.buffa_fields.specs.Keep.{AllNumbers}
 use Rattle.buffa_fields.specs.Layout.{Seen, Shape}
 use Rattle.buffa_fields.specs.Parts.{Part}
@@ -15,12 +15,16 @@ pub record CaseList (V X : Type 0) : Type 1 where
   pub cases : Cases V X
   pub laws : CasesLaws cases
 
-abbrev pub no_case : CaseList (Unit {0}) (Unit {0})
+abbrev pub no_case : CaseList ⊥ (Unit {0})
 no_case = record { cases = none_of; laws = none_laws }
+
+-- Some cases, and others after them. Of many cases each is found in fewer steps, where some of them stand together.
+abbrev pub some_cases : {V X W Y : Type 0} → CaseList V X → CaseList W Y → CaseList (Or V W) (Or X Y)
+some_cases first others = record { cases = either_of first.cases others.cases; laws = either_laws first.cases others.cases first.laws others.laws }
 
 -- a case under a number, and those after it
 abbrev pub case : {P A V B : Type 0} → ℕ → {s : Shape (Option P) (Option A)} {merges : Bool} → CaseWords s merges → CaseList V B → CaseList (Or P V) (Or A B)
-case k {s} {merges} words others = record { cases = case_of k s merges others.cases; laws = case_laws k s merges words others.cases others.laws }
+case k {s} {merges} words others = some_cases (record { cases = one_case k s merges; laws = one_laws k s merges words }) others
 
 -- An enum O, by its cases: each value of it has that of one case.
 pub record OneOf (O X : Type 0) : Type 1 where

@@ -4,7 +4,8 @@ use Rattle.std.specs.Prelude.{◌≡◌, ℕ, Option, None, refl}
 use Rattle.buffa_fields.specs.Aside.{Aside, ReadsBackBeside}
 use Rattle.buffa_fields.specs.Layout.{ReadsBackTo, Shape}
 use Rattle.buffa_fields.specs.Meant.{meant_cases}
-use Rattle.buffa_fields.specs.facts.MeantFacts.{map_same, meant_back, meant_beside, meant_laws}
+use Rattle.buffa_fields.specs.facts.CasesFacts.{map_same}
+use Rattle.buffa_fields.specs.facts.MeantFacts.{meant_back, meant_beside, meant_laws}
 use Rattle.buffa_fields.specs.facts.MemberPartFacts.{keeping_laws, member_laws}
 use Rattle.buffa_fields.specs.MemberParts.{keeping_part, member_part}
 use Rattle.buffa_fields.specs.facts.OneOfFacts.{one_of_laws}

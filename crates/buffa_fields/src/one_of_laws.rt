@@ -13,7 +13,7 @@ ghost use Rattle.buffa_fields.specs.Keep.{AllNumbers};
 ghost use Rattle.buffa_fields.specs.Layout.{Choice, Took, is_number};
 ghost use Rattle.buffa_fields.specs.Nested.{message_merged};
 ghost use Rattle.buffa_fields.specs.OneOf.{one_of};
-ghost use Rattle.buffa_fields.specs.OneOfParts.{case, no_case};
+ghost use Rattle.buffa_fields.specs.OneOfParts.{case, no_case, some_cases};
 ghost use Rattle.buffa_fields.specs.OneOfPinned.{CaseOrOthers, RefusesCase};
 ghost use Rattle.buffa_fields.specs.Pinned.{TakeAlike};
 ghost use Rattle.buffa_fields.specs.Refusals.{RefusesUnder};
@@ -69,6 +69,46 @@ pub fn cases_are_these<E: OneOf, C: Case>()
     ensures exact { (k : ℕ) → (case k C.words E.cases.all).cases.Exact ↔ (C.form.Exact × E.cases.all.cases.Exact) }
     ensures none { ((n : ℕ) → no_case.cases.mine n ≡ false) × ((x : _) → no_case.cases.normal x → ⊥)
         × ((D : _) (others : _) → no_case.cases.sound D others ≡ others) × no_case.cases.Exact }
+{}
+
+/// Some cases, and others after them: each is what it is among its own. So many cases may stand in groups of some.
+pub fn cases_stand_together<E: OneOf, F: OneOf>()
+    ensures this { (v : E.cases.V) → (some_cases E.cases.all F.cases.all).cases.meaning (Some (This v))
+        ≡ option_map This (E.cases.all.cases.meaning (Some v)) }
+    ensures other { (v : F.cases.V) → (some_cases E.cases.all F.cases.all).cases.meaning (Some (Other v))
+        ≡ option_map Other (F.cases.all.cases.meaning (Some v)) }
+    ensures absent { (some_cases E.cases.all F.cases.all).cases.meaning None ≡ None }
+    ensures mine { (n : ℕ) → (some_cases E.cases.all F.cases.all).cases.mine n
+        ≡ (E.cases.all.cases.mine n || F.cases.all.cases.mine n) }
+    ensures sound { (D : _) (others : _) → (some_cases E.cases.all F.cases.all).cases.sound D others
+        ≡ E.cases.all.cases.sound (λ n. D n || F.cases.all.cases.mine n) (F.cases.all.cases.sound D others) }
+    ensures takes { (d n : ℕ) (o : _) (w : _) (p : List ℕ) → E.cases.all.cases.mine n ≡ true →
+        (some_cases E.cases.all F.cases.all).cases.takes d o n w p
+        ≡ option_map (option_map This) (E.cases.all.cases.takes d (this_of o) n w p) }
+    ensures others { (d n : ℕ) (o : _) (w : _) (p : List ℕ) → E.cases.all.cases.mine n ≡ false →
+        (some_cases E.cases.all F.cases.all).cases.takes d o n w p
+        ≡ option_map (option_map Other) (F.cases.all.cases.takes d (other_of o) n w p) }
+    ensures written { (x : E.Meaning) → let c = (some_cases E.cases.all F.cases.all).cases in
+        (c.records (This x) ≡ E.cases.all.cases.records x) × (c.slots (This x) ≡ E.cases.all.cases.slots x)
+        × (c.levels (This x) ≡ E.cases.all.cases.levels x) × (c.normal (This x) ↔ E.cases.all.cases.normal x) }
+    ensures other_written { (y : F.Meaning) → let c = (some_cases E.cases.all F.cases.all).cases in
+        (c.records (Other y) ≡ F.cases.all.cases.records y) × (c.slots (Other y) ≡ F.cases.all.cases.slots y)
+        × (c.levels (Other y) ≡ F.cases.all.cases.levels y) × (c.normal (Other y) ↔ F.cases.all.cases.normal y) }
+    ensures need { (d n : ℕ) (w : _) (bs : List ℕ) → E.cases.all.cases.mine n ≡ true →
+        let c = (some_cases E.cases.all F.cases.all).cases in
+        (c.need d n w bs ≡ E.cases.all.cases.need d n w bs) × (c.asks d n w bs ↔ E.cases.all.cases.asks d n w bs) }
+    ensures other_need { (d n : ℕ) (w : _) (bs : List ℕ) → E.cases.all.cases.mine n ≡ false →
+        let c = (some_cases E.cases.all F.cases.all).cases in
+        (c.need d n w bs ≡ F.cases.all.cases.need d n w bs) × (c.asks d n w bs ↔ F.cases.all.cases.asks d n w bs) }
+    ensures exact { (some_cases E.cases.all F.cases.all).cases.Exact ↔ (E.cases.all.cases.Exact × F.cases.all.cases.Exact) }
+    ensures took { (at : Option E → Option (Or E.cases.V F.cases.V)) (d : ℕ) (old : Option E) (n : ℕ) (w : _) (bs : List ℕ)
+        (before : _) (r : _) (new : Option E) (after : _) (rest : List ℕ) → E.cases.all.cases.mine n ≡ true →
+        (some_cases E.cases.all F.cases.all).cases.Took at d old n w bs before r new after rest ↔
+        E.cases.all.cases.Took (λ o. this_of (at o)) d old n w bs before r new after rest }
+    ensures other_took { (at : Option E → Option (Or E.cases.V F.cases.V)) (d : ℕ) (old : Option E) (n : ℕ) (w : _) (bs : List ℕ)
+        (before : _) (r : _) (new : Option E) (after : _) (rest : List ℕ) → E.cases.all.cases.mine n ≡ false →
+        (some_cases E.cases.all F.cases.all).cases.Took at d old n w bs before r new after rest ↔
+        F.cases.all.cases.Took (λ o. other_of (at o)) d old n w bs before r new after rest }
 {}
 
 /// Which member types may be a case, and what each is then: what it is as a member that may be absent. The value of a scalar, a

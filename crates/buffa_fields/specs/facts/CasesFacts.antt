@@ -13,10 +13,9 @@ use Rattle.buffa_wire.specs.ReadableFacts.{Readable}
 use Rattle.buffa_wire.specs.Records.{records_of}
 use Rattle.buffa_wire.specs.Takes.{IsTaken, Leads, Piece, ReadsBack}
 use Rattle.buffa_fields.specs.Aside.{Kept}
-use Rattle.buffa_fields.specs.Cases.{Cases, CasesLaws, CaseWords, IsCasePut, IsPutNew, IsPutOver, case_of, either, if_there, none_of, other_of, this_of}
+use Rattle.buffa_fields.specs.Cases.{Cases, CasesLaws, CaseWords, IsCasePut, IsPutNew, IsPutOver, either, either_of, if_there, none_of, one_case, other_of, this_of}
 use Rattle.buffa_fields.specs.Keep.{AllNumbers}
 use Rattle.buffa_fields.specs.Layout.{Choice, Seen, Shape, Took, more}
-use Rattle.buffa_fields.specs.facts.LayoutFacts.{more_none}
 use Rattle.buffa_fields.specs.facts.LevelFacts.{some_mapped}
 use Rattle.buffa_fields.specs.Levels.{IsTakenWritten}
 use Rattle.buffa_fields.specs.facts.PairFacts.{either_stays, not_declared, part_taken, sound_parts}
@@ -57,10 +56,6 @@ pub put_this : {A : Type 0} (B : Type 0) (o : Option A) → option_map (option_m
 put_this B None = refl
 put_this B (Some a) = refl
 
-either_false : (a b : Bool) → (a || b) ≡ false → (a ≡ false) × (b ≡ false)
-either_false true b h = cc
-either_false false b h = (refl, h)
-
 pub seen_this : {A B : Type 0} (x : Option (Or A B)) (a : A) → this_of x ≡ Some a → x ≡ Some (This a)
 seen_this None a is = cc
 seen_this (Some (This b)) a is = cc
@@ -76,250 +71,301 @@ pub none_laws : CasesLaws none_of
 none_laws = record {
   fine = λ D sound ok. (tt, (λ n h. refl), ok);
   absent = refl;
+  there = λ v. absurd v;
   stays = λ d n w p x h. refl;
   taken_is = λ at d old n w bs before r new after rest is h. let no : false ≡ true = is in cc;
   puts = λ at d old n w bs before x new after rest is h. let no : false ≡ true = is in cc;
-  says = λ at d old n w bs before x new after rest is h. let no : false ≡ true = is in cc;
   asks_is = λ at d old n w bs before r new after rest is h. let no : false ≡ true = is in cc;
-  seen_is = λ v z. more_none z;
-  lent_is = λ v. refl;
+  seen_is = λ v z. absurd v;
+  lent_is = λ v. absurd v;
   valid = λ owes fine x normal. absurd normal;
   back = λ owes fine d x fits normal low. absurd normal;
   numbers = λ owes exact x. tt;
   least = λ owes exact fine d x normal own. omega arith;
 }
 
--- ---- a case, and those after it
-module _ {P A V B : Type 0} (k : ℕ) (s : Shape (Option P) (Option A)) (merges : Bool) (words : CaseWords s merges) (others : Cases V B) (laws : CasesLaws others) where
-  abbrev c : Cases (Or P V) (Or A B)
-  c = case_of k s merges others
+-- ---- one case
+pub map_same : {X : Type 0} (o : Option X) → option_map (λ x. x) o ≡ o
+map_same None = refl
+map_same (Some x) = refl
 
-  -- what stands of the others, by what it means
-  others_mean : (o : Option (Or P V)) → other_of (c.meaning o) ≡ others.meaning (other_of o)
-  others_mean None = other_either (s.meaning None) (others.meaning None) words.absent
-  others_mean (Some (This p)) = let there = words.there p in ap (λ z. other_of (either z (others.meaning None))) there.1 ∙ sym laws.absent
-  others_mean (Some (Other v)) = other_either (s.meaning None) (others.meaning (Some v)) words.absent
-
-  -- another case is there
-  other_is : (v : V) → option_map Other (others.meaning (Some v)) ≡ c.meaning (Some (Other v))
-  other_is v = sym (ap (λ z. either z (others.meaning (Some v))) words.absent)
-
-  this_is : (p : P) → option_map This (s.meaning (Some p)) ≡ c.meaning (Some (This p))
-  this_is p = let there = words.there p in is_this (s.meaning (Some p)) (others.meaning None) there.0 there.1
+module _ {P A : Type 0} (k : ℕ) (s : Shape (Option P) (Option A)) (merges : Bool) (words : CaseWords s merges) where
+  abbrev one : Cases P A
+  one = one_case k s merges
 
   -- ---- a field is taken
-  module _ {O : Type 0} (at : Option O → Option (Or P V)) (d : ℕ) (old : Option O) (n : ℕ) (w : WireType) (bs : List ℕ) (before : BudgetLeft) (new : Option O) (after : BudgetLeft) (rest : List ℕ) where
-    abbrev Is : answer → Type 0
-    Is r = IsTaken c.takes c.need d (c.meaning (at old)) n w bs before r (c.meaning (at new)) after rest
-
-    -- by the case: of this value that stood
-    from : (stood : Option P) → (n == k) ≡ true → ((p : List ℕ) → s.takes d (s.meaning (this_of (at old))) n w p ≡ s.takes d (s.meaning stood) n w p) → (r : answer) (q : Option P) → IsTaken s.takes s.need d (s.meaning stood) n w bs before r (s.meaning q) after rest →
-        IsTaken c.takes c.need d (c.meaning (at old)) n w bs before r (option_map This (s.meaning q)) after rest
-    from stood is same r q h =
-        part_taken s.takes s.need c.takes c.need d n w (s.meaning stood) (c.meaning (at old)) (option_map This)
-        (λ p. rw is (ap (λ z. option_map (option_map This) (s.takes d z n w p)) (this_either (s.meaning (this_of (at old))) (others.meaning (other_of (at old)))) ∙ ap (option_map (option_map This)) (same p)))
-        (λ x. rw is refl) bs rest before after r (s.meaning q) h
+  module _ {O : Type 0} (at : Option O → Option P) (d : ℕ) (old : Option O) (n : ℕ) (w : WireType) (bs : List ℕ) (before : BudgetLeft) (new : Option O) (after : BudgetLeft) (rest : List ℕ) where
+    abbrev Its : answer → Type 0
+    Its r = IsTaken s.takes s.need d (s.meaning (at old)) n w bs before r (s.meaning (at new)) after rest
 
     took : (stood q : Option P) (r : answer) → Took s d stood n w bs before r q after rest → IsTaken s.takes s.need d (s.meaning stood) n w bs before r (s.meaning q) after rest
     unfolding Took
     took stood q r h = h.0
 
-    over : (stood : Option P) → (n == k) ≡ true → ((p : List ℕ) → s.takes d (s.meaning (this_of (at old))) n w p ≡ s.takes d (s.meaning stood) n w p) → (r : answer) (q : Option P) → this_of (at new) ≡ q → IsPutOver (λ o. this_of (at o)) s d old n w bs before stood r q after rest → Is r
-    over stood is same r None at_new h = absurd h
-    over stood is same r (Some q) at_new h =
-        let puts = this_is q ∙ ap (λ z. c.meaning z) (sym (seen_this (at new) q at_new)) in
-        subst (λ z. IsTaken c.takes c.need d (c.meaning (at old)) n w bs before r z after rest) puts (from stood is same r (Some q) (took stood (Some q) r h))
+    -- it makes of this value that stood what it makes of what is there
+    from : (stood : Option P) → ((p : List ℕ) → s.takes d (s.meaning (at old)) n w p ≡ s.takes d (s.meaning stood) n w p) → (r : answer) (q : Option P) → Took s d stood n w bs before r q after rest →
+        IsTaken s.takes s.need d (s.meaning (at old)) n w bs before r (s.meaning q) after rest
+    from stood same r q h =
+        part_taken s.takes s.need s.takes s.need d n w (s.meaning stood) (s.meaning (at old)) (λ x. x)
+        (λ p. same p ∙ sym (map_same (s.takes d (s.meaning stood) n w p))) (λ x. refl) bs rest before after r (s.meaning q) (took stood q r h)
 
-    anew : (n == k) ≡ true → ((p : List ℕ) → s.takes d (s.meaning (this_of (at old))) n w p ≡ s.takes d (s.meaning None) n w p) → (r : answer) → IsPutNew (λ o. this_of (at o)) s d old n w bs before r new after rest → Is r
-    anew is same (Ok x) h = over None is same (Ok x) (this_of (at new)) refl h
-    anew is same (Err e) h = from None is same (Err e) None (took None None (Err e) h.0)
+    over : (stood : Option P) → ((p : List ℕ) → s.takes d (s.meaning (at old)) n w p ≡ s.takes d (s.meaning stood) n w p) → (r : answer) (q : Option P) → at new ≡ q → IsPutOver at s d old n w bs before stood r q after rest → Its r
+    over stood same r None is h = absurd h
+    over stood same r (Some q) is h = subst (λ z. IsTaken s.takes s.need d (s.meaning (at old)) n w bs before r (s.meaning z) after rest) (sym is) (from stood same r (Some q) h)
 
-    put : (r : answer) (t : Bool) → merges ≡ t → (stood : Option P) → this_of (at old) ≡ stood → (n == k) ≡ true → IsCasePut (λ o. this_of (at o)) s d old n w bs before (if t then stood else None) r new after rest → Is r
-    put r true m None stands is h = anew is (λ p. ap (λ z. s.takes d (s.meaning z) n w p) stands) r h
-    put r true m (Some p) stands is h = over (Some p) is (λ x. ap (λ z. s.takes d (s.meaning z) n w x) stands) r (this_of (at new)) refl h
-    put r false m stood stands is h = anew is (λ p. words.alone m d (s.meaning (this_of (at old))) n w p ∙ sym (words.alone m d (s.meaning None) n w p)) r h
+    anew : ((p : List ℕ) → s.takes d (s.meaning (at old)) n w p ≡ s.takes d (s.meaning None) n w p) → (r : answer) → IsPutNew at s d old n w bs before r new after rest → Its r
+    anew same (Ok x) h = over None same (Ok x) (at new) refl h
+    anew same (Err e) h = from None same (Err e) None h.0
 
-    -- by another case
-    lifted : (r : answer) → (n == k) ≡ false → IsTaken others.takes others.need d (others.meaning (other_of (at old))) n w bs before r (others.meaning (other_of (at new))) after rest →
-        IsTaken c.takes c.need d (c.meaning (at old)) n w bs before r (option_map Other (others.meaning (other_of (at new)))) after rest
-    lifted r off h =
-        part_taken others.takes others.need c.takes c.need d n w (others.meaning (other_of (at old))) (c.meaning (at old)) (option_map Other)
-        (λ p. rw off (ap (λ z. option_map (option_map Other) (others.takes d z n w p)) (others_mean (at old)))) (λ x. rw off refl) bs rest before after r (others.meaning (other_of (at new))) h
+    put : (r : answer) (t : Bool) → merges ≡ t → (stood : Option P) → at old ≡ stood → IsCasePut at s d old n w bs before (if t then stood else None) r new after rest → Its r
+    put r true m None is h = anew (λ p. ap (λ z. s.takes d (s.meaning z) n w p) is) r h
+    put r true m (Some p) is h = over (Some p) (λ x. ap (λ z. s.takes d (s.meaning z) n w x) is) r (at new) refl h
+    put r false m stood is h = anew (λ p. words.alone m d (s.meaning (at old)) n w p ∙ sym (words.alone m d (s.meaning None) n w p)) r h
 
-    by_others : (r : answer) → (n == k) ≡ false → others.mine n ≡ true → others.Took (λ o. other_of (at o)) d old n w bs before r new after rest → Is r
-    by_others (Ok x) off mine h =
-        let there = laws.puts (λ o. other_of (at o)) d old n w bs before x new after rest mine h in
-        let is = ap (λ z. option_map Other (others.meaning z)) there.1 ∙ other_is there.0 ∙ ap (λ z. c.meaning z) (sym (seen_other (at new) there.0 there.1)) in
-        subst (λ z. IsTaken c.takes c.need d (c.meaning (at old)) n w bs before (Ok x) z after rest) is (lifted (Ok x) off (laws.taken_is (λ o. other_of (at o)) d old n w bs before (Ok x) new after rest mine h))
-    by_others (Err e) off mine h = lifted (Err e) off (laws.taken_is (λ o. other_of (at o)) d old n w bs before (Err e) new after rest mine h)
-
-    abbrev Own : answer → Type 0
-    Own r = IsCasePut (λ o. this_of (at o)) s d old n w bs before (if merges then this_of (at old) else None) r new after rest
-
-    abbrev Its : answer → Type 0
-    Its r = others.Took (λ o. other_of (at o)) d old n w bs before r new after rest
-
-    is_taken : (r : answer) (t : Bool) → (n == k) ≡ t → (t || others.mine n) ≡ true → Choice t (Own r) (Its r) → Is r
-    is_taken r true is mine h = put r merges refl (this_of (at old)) refl is h
-    is_taken r false off mine h = by_others r off mine h
-
-    -- a case is there then
-    placed : (stood q : Option P) (x : Unit {0}) → this_of (at new) ≡ q → IsPutOver (λ o. this_of (at o)) s d old n w bs before stood (let r : answer = Ok x in r) q after rest → (v : Or P V) × (at new ≡ Some v)
+    -- a value is there then
+    placed : (stood q : Option P) (x : Unit {0}) → at new ≡ q → IsPutOver at s d old n w bs before stood (let r : answer = Ok x in r) q after rest → (v : P) × (at new ≡ Some v)
     placed stood None x is h = absurd h
-    placed stood (Some q) x is h = (This q, seen_this (at new) q is)
+    placed stood (Some q) x is h = (q, is)
 
-    places : (stood : Option P) (x : Unit {0}) → IsCasePut (λ o. this_of (at o)) s d old n w bs before stood (let r : answer = Ok x in r) new after rest → (v : Or P V) × (at new ≡ Some v)
-    places None x h = placed None (this_of (at new)) x refl h
-    places (Some p) x h = placed (Some p) (this_of (at new)) x refl h
-
-    is_there : (x : Unit {0}) (t : Bool) → (t || others.mine n) ≡ true → Choice t (Own (Ok x)) (Its (Ok x)) → (v : Or P V) × (at new ≡ Some v)
-    is_there x true mine h = places (if merges then this_of (at old) else None) x h
-    is_there x false mine h = let there = laws.puts (λ o. other_of (at o)) d old n w bs before x new after rest mine h in (Other there.0, seen_other (at new) there.0 there.1)
-
-    -- and means something
-    said_over : (stood q : Option P) (x : Unit {0}) → this_of (at new) ≡ q → IsPutOver (λ o. this_of (at o)) s d old n w bs before stood (let r : answer = Ok x in r) q after rest → (y : Or A B) × (c.meaning (at new) ≡ Some y)
-    said_over stood None x is h = absurd h
-    said_over stood (Some q) x is h =
-        let there = words.there q in
-        (This there.0, ap (λ z. c.meaning z) (seen_this (at new) q is) ∙ ap (λ z. either z (others.meaning None)) there.1)
-
-    said_put : (stood : Option P) (x : Unit {0}) → IsCasePut (λ o. this_of (at o)) s d old n w bs before stood (let r : answer = Ok x in r) new after rest → (y : Or A B) × (c.meaning (at new) ≡ Some y)
-    said_put None x h = said_over None (this_of (at new)) x refl h
-    said_put (Some p) x h = said_over (Some p) (this_of (at new)) x refl h
-
-    said : (x : Unit {0}) (t : Bool) → (t || others.mine n) ≡ true → Choice t (Own (Ok x)) (Its (Ok x)) → (y : Or A B) × (c.meaning (at new) ≡ Some y)
-    said x true mine h = said_put (if merges then this_of (at old) else None) x h
-    said x false mine h =
-        let there = laws.puts (λ o. other_of (at o)) d old n w bs before x new after rest mine h in
-        let says = laws.says (λ o. other_of (at o)) d old n w bs before x new after rest mine h in
-        (Other says.0, ap (λ z. c.meaning z) (seen_other (at new) there.0 there.1) ∙ sym (other_is there.0) ∙ ap (λ z. option_map Other (others.meaning z)) (sym there.1) ∙ ap (option_map Other) says.1)
+    places : (stood : Option P) (x : Unit {0}) → IsCasePut at s d old n w bs before stood (let r : answer = Ok x in r) new after rest → (v : P) × (at new ≡ Some v)
+    places None x h = placed None (at new) x refl h
+    places (Some p) x h = placed (Some p) (at new) x refl h
 
     -- memory runs out only where it is asked for
     asked : (stood q : Option P) (r : answer) → Took s d stood n w bs before r q after rest → FullOnlyIf r (s.asks d n w bs)
     unfolding Took
     asked stood q r h = h.1
 
-    asks_over : (stood q : Option P) (r : answer) → IsPutOver (λ o. this_of (at o)) s d old n w bs before stood r q after rest → FullOnlyIf r (s.asks d n w bs)
+    asks_over : (stood q : Option P) (r : answer) → IsPutOver at s d old n w bs before stood r q after rest → FullOnlyIf r (s.asks d n w bs)
     asks_over stood None r h = absurd h
     asks_over stood (Some q) r h = asked stood (Some q) r h
 
-    asks_put : (stood : Option P) (r : answer) → IsCasePut (λ o. this_of (at o)) s d old n w bs before stood r new after rest → FullOnlyIf r (s.asks d n w bs)
-    asks_put None (Ok x) h = asks_over None (this_of (at new)) (Ok x) h
+    asks_put : (stood : Option P) (r : answer) → IsCasePut at s d old n w bs before stood r new after rest → FullOnlyIf r (s.asks d n w bs)
+    asks_put None (Ok x) h = asks_over None (at new) (Ok x) h
     asks_put None (Err e) h = asked None None (Err e) h.0
-    asks_put (Some p) r h = asks_over (Some p) (this_of (at new)) r h
+    asks_put (Some p) r h = asks_over (Some p) (at new) r h
 
-    asks_case : (r : answer) (t : Bool) → (t || others.mine n) ≡ true → Choice t (Own r) (Its r) → FullOnlyIf r (Choice t (s.asks d n w bs) (others.asks d n w bs))
-    asks_case r true mine h = asks_put (if merges then this_of (at old) else None) r h
-    asks_case r false mine h = laws.asks_is (λ o. other_of (at o)) d old n w bs before r new after rest mine h
+  -- ---- it is visited, reads back, and is sound beside others
+  one_seen : (p : P) (z : Seen) → one.seen p z ≡ more (if_there [] one.records (one.meaning (Some p))) (if_there [] one.slots (one.meaning (Some p))) z
+  one_seen p z =
+      let there = words.there p in
+      ap (λ x. more (s.records k x) (s.slots x) z) there.1 ∙ ap (λ x. more (if_there [] one.records x) (if_there [] one.slots x) z) (sym there.1)
+
+  one_lent : (p : P) → one.lent p ≡ if_there [] one.slots (one.meaning (Some p))
+  one_lent p = let there = words.there p in ap s.slots there.1 ∙ ap (λ x. if_there [] one.slots x) (sym there.1)
+
+  one_back : one.Owes → one.Fine → (d : ℕ) (x : A) → Readable (records_of (one.records x)) → one.normal x → one.levels x ≤ d → ReadsBack one.takes one.mine d None (records_encoding (one.records x)) (Some x)
+  one_back owes fine d x fits normal low =
+      subst (λ z. ReadsBack one.takes one.mine d z (records_encoding (one.records x)) (Some x)) words.blank (owes.back k fine d (Some x) fits normal low)
+
+  one_fine : (D : ℕ → Bool) (sound : Bool) → one.sound D sound ≡ true → one.Fine × ((n : ℕ) → D n ≡ true → one.mine n ≡ false) × (sound ≡ true)
+  one_fine D sound ok =
+      let each = sound_parts k (D k) _ ok in
+      (each.0, not_declared k D each.1, (and_parts s.whole sound each.2).1)
+
+  pub one_laws : CasesLaws one
+  one_laws = record {
+    fine = one_fine;
+    absent = words.absent;
+    there = words.there;
+    stays = s.stays;
+    taken_is = λ at d old n w bs before r new after rest mine h. put at d old n w bs before new after rest r merges refl (at old) refl h;
+    puts = λ at d old n w bs before x new after rest mine h. places at d old n w bs before new after rest (if merges then at old else None) x h;
+    asks_is = λ at d old n w bs before r new after rest mine h. asks_put at d old n w bs before new after rest (if merges then at old else None) r h;
+    seen_is = one_seen;
+    lent_is = one_lent;
+    valid = λ owes fine x normal. owes.valid k fine (Some x) normal;
+    back = one_back;
+    numbers = λ owes exact x. (owes.exact exact).numbers k (Some x);
+    least = λ owes exact fine d x normal own. (owes.exact exact).least k d (Some x) normal own;
+  }
+
+-- ---- some cases, and others after them
+module _ {V X W Y : Type 0} (first : Cases V X) (others : Cases W Y) (its : CasesLaws first) (laws : CasesLaws others) where
+  abbrev c : Cases (Or V W) (Or X Y)
+  c = either_of first others
+
+  -- what stands of the others, by what it means
+  others_mean : (o : Option (Or V W)) → other_of (c.meaning o) ≡ others.meaning (other_of o)
+  others_mean None = other_either (first.meaning None) (others.meaning None) its.absent
+  others_mean (Some (This v)) = let there = its.there v in ap (λ z. other_of (either z (others.meaning None))) there.1 ∙ sym laws.absent
+  others_mean (Some (Other u)) = other_either (first.meaning None) (others.meaning (Some u)) its.absent
+
+  pub other_is : (u : W) → option_map Other (others.meaning (Some u)) ≡ c.meaning (Some (Other u))
+  other_is u = sym (ap (λ z. either z (others.meaning (Some u))) its.absent)
+
+  pub this_is : (v : V) → option_map This (first.meaning (Some v)) ≡ c.meaning (Some (This v))
+  this_is v = let there = its.there v in is_this (first.meaning (Some v)) (others.meaning None) there.0 there.1
+
+  each_means : (v : Or V W) → (x : Or X Y) × (c.meaning (Some v) ≡ Some x)
+  each_means (This v) = let there = its.there v in (This there.0, sym (this_is v) ∙ ap (option_map This) there.1)
+  each_means (Other u) = let there = laws.there u in (Other there.0, sym (other_is u) ∙ ap (option_map Other) there.1)
+
+  -- ---- a field is taken
+  module _ {O : Type 0} (at : Option O → Option (Or V W)) (d : ℕ) (old : Option O) (n : ℕ) (w : WireType) (bs : List ℕ) (before : BudgetLeft) (new : Option O) (after : BudgetLeft) (rest : List ℕ) where
+    abbrev Is : answer → Type 0
+    Is r = IsTaken c.takes c.need d (c.meaning (at old)) n w bs before r (c.meaning (at new)) after rest
+
+    abbrev First : answer → Type 0
+    First r = first.Took (λ o. this_of (at o)) d old n w bs before r new after rest
+
+    abbrev Others : answer → Type 0
+    Others r = others.Took (λ o. other_of (at o)) d old n w bs before r new after rest
+
+    -- by one of the first
+    this_lifted : (r : answer) → first.mine n ≡ true → First r → IsTaken c.takes c.need d (c.meaning (at old)) n w bs before r (option_map This (first.meaning (this_of (at new)))) after rest
+    this_lifted r is h =
+        part_taken first.takes first.need c.takes c.need d n w (first.meaning (this_of (at old))) (c.meaning (at old)) (option_map This)
+        (λ p. rw is (ap (λ z. option_map (option_map This) (first.takes d z n w p)) (this_either (first.meaning (this_of (at old))) (others.meaning (other_of (at old))))))
+        (λ x. rw is refl) bs rest before after r (first.meaning (this_of (at new))) (its.taken_is (λ o. this_of (at o)) d old n w bs before r new after rest is h)
+
+    by_first : (r : answer) → first.mine n ≡ true → First r → Is r
+    by_first (Ok x) is h =
+        let there = its.puts (λ o. this_of (at o)) d old n w bs before x new after rest is h in
+        let puts = ap (λ z. option_map This (first.meaning z)) there.1 ∙ this_is there.0 ∙ ap (λ z. c.meaning z) (sym (seen_this (at new) there.0 there.1)) in
+        subst (λ z. IsTaken c.takes c.need d (c.meaning (at old)) n w bs before (Ok x) z after rest) puts (this_lifted (Ok x) is h)
+    by_first (Err e) is h = this_lifted (Err e) is h
+
+    -- by one of the others
+    other_lifted : (r : answer) → first.mine n ≡ false → others.mine n ≡ true → Others r → IsTaken c.takes c.need d (c.meaning (at old)) n w bs before r (option_map Other (others.meaning (other_of (at new)))) after rest
+    other_lifted r off mine h =
+        part_taken others.takes others.need c.takes c.need d n w (others.meaning (other_of (at old))) (c.meaning (at old)) (option_map Other)
+        (λ p. rw off (ap (λ z. option_map (option_map Other) (others.takes d z n w p)) (others_mean (at old)))) (λ x. rw off refl) bs rest before after r (others.meaning (other_of (at new)))
+        (laws.taken_is (λ o. other_of (at o)) d old n w bs before r new after rest mine h)
+
+    by_others : (r : answer) → first.mine n ≡ false → others.mine n ≡ true → Others r → Is r
+    by_others (Ok x) off mine h =
+        let there = laws.puts (λ o. other_of (at o)) d old n w bs before x new after rest mine h in
+        let puts = ap (λ z. option_map Other (others.meaning z)) there.1 ∙ other_is there.0 ∙ ap (λ z. c.meaning z) (sym (seen_other (at new) there.0 there.1)) in
+        subst (λ z. IsTaken c.takes c.need d (c.meaning (at old)) n w bs before (Ok x) z after rest) puts (other_lifted (Ok x) off mine h)
+    by_others (Err e) off mine h = other_lifted (Err e) off mine h
+
+    is_taken : (r : answer) (t : Bool) → first.mine n ≡ t → (t || others.mine n) ≡ true → Choice t (First r) (Others r) → Is r
+    is_taken r true is mine h = by_first r is h
+    is_taken r false off mine h = by_others r off mine h
+
+    -- a case is there then
+    is_there : (x : Unit {0}) (t : Bool) → first.mine n ≡ t → (t || others.mine n) ≡ true → Choice t (First (Ok x)) (Others (Ok x)) → (v : Or V W) × (at new ≡ Some v)
+    is_there x true is mine h = let there = its.puts (λ o. this_of (at o)) d old n w bs before x new after rest is h in (This there.0, seen_this (at new) there.0 there.1)
+    is_there x false off mine h = let there = laws.puts (λ o. other_of (at o)) d old n w bs before x new after rest mine h in (Other there.0, seen_other (at new) there.0 there.1)
+
+    -- memory runs out only where it is asked for
+    asks_case : (r : answer) (t : Bool) → first.mine n ≡ t → (t || others.mine n) ≡ true → Choice t (First r) (Others r) → FullOnlyIf r (Choice t (first.asks d n w bs) (others.asks d n w bs))
+    asks_case r true is mine h = its.asks_is (λ o. this_of (at o)) d old n w bs before r new after rest is h
+    asks_case r false off mine h = laws.asks_is (λ o. other_of (at o)) d old n w bs before r new after rest mine h
 
   -- ---- it is visited
-  seen_case : (v : Or P V) (z : Seen) → c.seen v z ≡ more (if_there [] c.records (c.meaning (Some v))) (if_there [] c.slots (c.meaning (Some v))) z
-  seen_case (This p) z =
-      let there = words.there p in
-      ap (λ x. more (s.records k x) (s.slots x) z) there.1 ∙ ap (λ x. more (if_there [] c.records x) (if_there [] c.slots x) z) (sym (ap (λ x. either x (others.meaning None)) there.1))
-  seen_case (Other v) z = laws.seen_is v z ∙ mapped (others.meaning (Some v)) z ∙ ap (λ x. more (if_there [] c.records x) (if_there [] c.slots x) z) (other_is v)
+  seen_case : (v : Or V W) (z : Seen) → c.seen v z ≡ more (if_there [] c.records (c.meaning (Some v))) (if_there [] c.slots (c.meaning (Some v))) z
+  seen_case (This v) z = its.seen_is v z ∙ mapped (first.meaning (Some v)) z ∙ ap (λ x. more (if_there [] c.records x) (if_there [] c.slots x) z) (this_is v)
     where
-      mapped : (x : Option B) (z : Seen) → more (if_there [] others.records x) (if_there [] others.slots x) z ≡ more (if_there [] c.records (option_map Other x)) (if_there [] c.slots (option_map Other x)) z
+      mapped : (x : Option X) (z : Seen) → more (if_there [] first.records x) (if_there [] first.slots x) z ≡ more (if_there [] c.records (option_map This x)) (if_there [] c.slots (option_map This x)) z
+      mapped None z = refl
+      mapped (Some a) z = refl
+  seen_case (Other u) z = laws.seen_is u z ∙ mapped (others.meaning (Some u)) z ∙ ap (λ x. more (if_there [] c.records x) (if_there [] c.slots x) z) (other_is u)
+    where
+      mapped : (x : Option Y) (z : Seen) → more (if_there [] others.records x) (if_there [] others.slots x) z ≡ more (if_there [] c.records (option_map Other x)) (if_there [] c.slots (option_map Other x)) z
       mapped None z = refl
       mapped (Some b) z = refl
 
-  lent_case : (v : Or P V) → c.lent v ≡ if_there [] c.slots (c.meaning (Some v))
-  lent_case (This p) =
-      let there = words.there p in
-      ap s.slots there.1 ∙ ap (λ x. if_there [] c.slots x) (sym (ap (λ x. either x (others.meaning None)) there.1))
-  lent_case (Other v) = laws.lent_is v ∙ mapped (others.meaning (Some v)) ∙ ap (λ x. if_there [] c.slots x) (other_is v)
+  lent_case : (v : Or V W) → c.lent v ≡ if_there [] c.slots (c.meaning (Some v))
+  lent_case (This v) = its.lent_is v ∙ mapped (first.meaning (Some v)) ∙ ap (λ x. if_there [] c.slots x) (this_is v)
     where
-      mapped : (x : Option B) → if_there [] others.slots x ≡ if_there [] c.slots (option_map Other x)
+      mapped : (x : Option X) → if_there [] first.slots x ≡ if_there [] c.slots (option_map This x)
+      mapped None = refl
+      mapped (Some a) = refl
+  lent_case (Other u) = laws.lent_is u ∙ mapped (others.meaning (Some u)) ∙ ap (λ x. if_there [] c.slots x) (other_is u)
+    where
+      mapped : (x : Option Y) → if_there [] others.slots x ≡ if_there [] c.slots (option_map Other x)
       mapped None = refl
       mapped (Some b) = refl
 
   -- ---- it reads back
-  this_lead : (d : ℕ) (x y : Option A) (fs : List Piece) → Leads s.takes (λ n. n == k) d x fs y → Leads c.takes c.mine d (option_map This x) fs (option_map This y)
+  this_lead : (d : ℕ) (x y : Option X) (fs : List Piece) → Leads first.takes first.mine d x fs y → Leads c.takes c.mine d (option_map This x) fs (option_map This y)
   this_lead d x y [] h = ap (option_map This) h
   this_lead d x y (f ∷ fs) (is, tag, payload, u, h, l) = (
-    or_left (f.number == k) (others.mine f.number) is,
+    or_left (first.mine f.number) (others.mine f.number) is,
     tag,
     payload,
     option_map This u,
-    rw is (ap (λ z. option_map (option_map This) (s.takes d z f.number f.wire f.payload)) (this_back B x) ∙ ap (option_map (option_map This)) h),
+    rw is (ap (λ z. option_map (option_map This) (first.takes d z f.number f.wire f.payload)) (this_back Y x) ∙ ap (option_map (option_map This)) h),
     this_lead d u y fs l,
   )
 
-  other_lead : (other : (n : ℕ) → others.mine n ≡ true → (n == k) ≡ false) (d : ℕ) (x y : Option B) (fs : List Piece) → Leads others.takes others.mine d x fs y → Leads c.takes c.mine d (option_map Other x) fs (option_map Other y)
-  other_lead other d x y [] h = ap (option_map Other) h
-  other_lead other d x y (f ∷ fs) (is, tag, payload, u, h, l) = (
-    or_right (f.number == k) (others.mine f.number) is,
+  other_lead : (apart : (n : ℕ) → others.mine n ≡ true → first.mine n ≡ false) (d : ℕ) (x y : Option Y) (fs : List Piece) → Leads others.takes others.mine d x fs y → Leads c.takes c.mine d (option_map Other x) fs (option_map Other y)
+  other_lead apart d x y [] h = ap (option_map Other) h
+  other_lead apart d x y (f ∷ fs) (is, tag, payload, u, h, l) = (
+    or_right (first.mine f.number) (others.mine f.number) is,
     tag,
     payload,
     option_map Other u,
-    rw (other f.number is) (ap (λ z. option_map (option_map Other) (others.takes d z f.number f.wire f.payload)) (other_back A x) ∙ ap (option_map (option_map Other)) h),
-    other_lead other d u y fs l,
+    rw (apart f.number is) (ap (λ z. option_map (option_map Other) (others.takes d z f.number f.wire f.payload)) (other_back X x) ∙ ap (option_map (option_map Other)) h),
+    other_lead apart d u y fs l,
   )
 
-  case_back : c.Owes → c.Fine → (d : ℕ) (x : Or A B) → Readable (records_of (c.records x)) → c.normal x → c.levels x ≤ d → ReadsBack c.takes c.mine d None (records_encoding (c.records x)) (Some x)
+  case_back : c.Owes → c.Fine → (d : ℕ) (x : Or X Y) → Readable (records_of (c.records x)) → c.normal x → c.levels x ≤ d → ReadsBack c.takes c.mine d None (records_encoding (c.records x)) (Some x)
   case_back owes fine d (This a) fits normal low =
-      let one = owes.0.back k fine.0 d (Some a) fits normal low in
-      record { pieces = one.pieces; spelled = one.spelled; leads = this_lead d None (Some a) one.pieces (subst (λ z. Leads s.takes (λ n. n == k) d z one.pieces (Some a)) words.blank one.leads) }
+      let one = its.back owes.0 fine.0 d a fits normal low in
+      record { pieces = one.pieces; spelled = one.spelled; leads = this_lead d None (Some a) one.pieces one.leads }
   case_back owes fine d (Other b) fits normal low =
       let one = laws.back owes.1 fine.2 d b fits normal low in
-      record { pieces = one.pieces; spelled = one.spelled; leads = other_lead (not_declared k others.mine fine.1) d None (Some b) one.pieces one.leads }
+      record { pieces = one.pieces; spelled = one.spelled; leads = other_lead fine.1 d None (Some b) one.pieces one.leads }
 
   -- ---- its records
-  case_valid : c.Owes → c.Fine → (x : Or A B) → c.normal x → AreValid (records_of (c.records x))
-  case_valid owes fine (This a) normal = owes.0.valid k fine.0 (Some a) normal
+  case_valid : c.Owes → c.Fine → (x : Or X Y) → c.normal x → AreValid (records_of (c.records x))
+  case_valid owes fine (This a) normal = its.valid owes.0 fine.0 a normal
   case_valid owes fine (Other b) normal = laws.valid owes.1 fine.2 b normal
 
-  more_numbers : (ys : Kept) → AllNumbers others.mine ys → AllNumbers c.mine ys
-  more_numbers [] h = tt
-  more_numbers (y ∷ ys) h = (or_right (y.0 == k) (others.mine y.0) h.0, more_numbers ys h.1)
+  this_numbers : (ys : Kept) → AllNumbers first.mine ys → AllNumbers c.mine ys
+  this_numbers [] h = tt
+  this_numbers (y ∷ ys) h = (or_left (first.mine y.0) (others.mine y.0) h.0, this_numbers ys h.1)
 
-  first_numbers : (ys : Kept) → AllNumbers (λ n. n == k) ys → AllNumbers c.mine ys
-  first_numbers [] h = tt
-  first_numbers (y ∷ ys) h = (or_left (y.0 == k) (others.mine y.0) h.0, first_numbers ys h.1)
+  other_numbers : (ys : Kept) → AllNumbers others.mine ys → AllNumbers c.mine ys
+  other_numbers [] h = tt
+  other_numbers (y ∷ ys) h = (or_right (first.mine y.0) (others.mine y.0) h.0, other_numbers ys h.1)
 
-  case_numbers : c.Owes → c.Exact → (x : Or A B) → AllNumbers c.mine (c.records x)
-  case_numbers owes exact (This a) = first_numbers (s.records k (Some a)) ((owes.0.exact exact.0).numbers k (Some a))
-  case_numbers owes exact (Other b) = more_numbers (others.records b) (laws.numbers owes.1 exact.1 b)
+  case_numbers : c.Owes → c.Exact → (x : Or X Y) → AllNumbers c.mine (c.records x)
+  case_numbers owes exact (This a) = this_numbers (first.records a) (its.numbers owes.0 exact.0 a)
+  case_numbers owes exact (Other b) = other_numbers (others.records b) (laws.numbers owes.1 exact.1 b)
 
   -- ---- how deep it nests
-  its_alone : (d : ℕ) (ys : Kept) → AllNumbers (λ n. n == k) ys → AllByRecursion (IsTakenWritten c.takes d) ys → AllByRecursion (IsTakenWritten s.takes d) ys
-  its_alone d [] n h = tt
-  its_alone d (y ∷ ys) n ((number, fits, low, v, u, h), all) =
-      let same : c.takes d v y.0 (wire_of y.1) (payload_encoding y.0 y.1) ≡ option_map (option_map This) (s.takes d (this_of v) y.0 (wire_of y.1) (payload_encoding y.0 y.1)) = rw n.0 refl in
-      let t = some_mapped (λ (x : Option A). option_map (λ a. (let z : Or A B = This a in z)) x) (s.takes d (this_of v) y.0 (wire_of y.1) (payload_encoding y.0 y.1)) u (sym same ∙ h) in
-      ((number, fits, low, this_of v, t.0, t.1), its_alone d ys n.1 all)
+  this_alone : (d : ℕ) (ys : Kept) → AllNumbers first.mine ys → AllByRecursion (IsTakenWritten c.takes d) ys → AllByRecursion (IsTakenWritten first.takes d) ys
+  this_alone d [] n h = tt
+  this_alone d (y ∷ ys) n ((number, fits, low, v, u, h), all) =
+      let same : c.takes d v y.0 (wire_of y.1) (payload_encoding y.0 y.1) ≡ option_map (option_map This) (first.takes d (this_of v) y.0 (wire_of y.1) (payload_encoding y.0 y.1)) = rw n.0 refl in
+      let t = some_mapped (λ (x : Option X). option_map (λ a. (let z : Or X Y = This a in z)) x) (first.takes d (this_of v) y.0 (wire_of y.1) (payload_encoding y.0 y.1)) u (sym same ∙ h) in
+      ((number, fits, low, this_of v, t.0, t.1), this_alone d ys n.1 all)
 
-  theirs_alone : (other : (n : ℕ) → others.mine n ≡ true → (n == k) ≡ false) (d : ℕ) (ys : Kept) → AllNumbers others.mine ys → AllByRecursion (IsTakenWritten c.takes d) ys → AllByRecursion (IsTakenWritten others.takes d) ys
-  theirs_alone other d [] n h = tt
-  theirs_alone other d (y ∷ ys) n ((number, fits, low, v, u, h), all) =
-      let same : c.takes d v y.0 (wire_of y.1) (payload_encoding y.0 y.1) ≡ option_map (option_map Other) (others.takes d (other_of v) y.0 (wire_of y.1) (payload_encoding y.0 y.1)) = rw (other y.0 n.0) refl in
-      let t = some_mapped (λ (x : Option B). option_map (λ b. (let z : Or A B = Other b in z)) x) (others.takes d (other_of v) y.0 (wire_of y.1) (payload_encoding y.0 y.1)) u (sym same ∙ h) in
-      ((number, fits, low, other_of v, t.0, t.1), theirs_alone other d ys n.1 all)
+  other_alone : (apart : (n : ℕ) → others.mine n ≡ true → first.mine n ≡ false) (d : ℕ) (ys : Kept) → AllNumbers others.mine ys → AllByRecursion (IsTakenWritten c.takes d) ys → AllByRecursion (IsTakenWritten others.takes d) ys
+  other_alone apart d [] n h = tt
+  other_alone apart d (y ∷ ys) n ((number, fits, low, v, u, h), all) =
+      let same : c.takes d v y.0 (wire_of y.1) (payload_encoding y.0 y.1) ≡ option_map (option_map Other) (others.takes d (other_of v) y.0 (wire_of y.1) (payload_encoding y.0 y.1)) = rw (apart y.0 n.0) refl in
+      let t = some_mapped (λ (x : Option Y). option_map (λ b. (let z : Or X Y = Other b in z)) x) (others.takes d (other_of v) y.0 (wire_of y.1) (payload_encoding y.0 y.1)) u (sym same ∙ h) in
+      ((number, fits, low, other_of v, t.0, t.1), other_alone apart d ys n.1 all)
 
-  case_least : c.Owes → c.Exact → c.Fine → (d : ℕ) (x : Or A B) → c.normal x → AllByRecursion (IsTakenWritten c.takes d) (c.records x) → c.levels x ≤ d
-  case_least owes exact fine d (This a) normal own =
-      let one = owes.0.exact exact.0 in
-      one.least k d (Some a) normal (its_alone d (s.records k (Some a)) (one.numbers k (Some a)) own)
-  case_least owes exact fine d (Other b) normal own =
-      laws.least owes.1 exact.1 fine.2 d b normal (theirs_alone (not_declared k others.mine fine.1) d (others.records b) (laws.numbers owes.1 exact.1 b) own)
+  case_least : c.Owes → c.Exact → c.Fine → (d : ℕ) (x : Or X Y) → c.normal x → AllByRecursion (IsTakenWritten c.takes d) (c.records x) → c.levels x ≤ d
+  case_least owes exact fine d (This a) normal own = its.least owes.0 exact.0 fine.0 d a normal (this_alone d (first.records a) (its.numbers owes.0 exact.0 a) own)
+  case_least owes exact fine d (Other b) normal own = laws.least owes.1 exact.1 fine.2 d b normal (other_alone fine.1 d (others.records b) (laws.numbers owes.1 exact.1 b) own)
 
   -- ---- its numbers, beside others
   case_fine : (D : ℕ → Bool) (sound : Bool) → c.sound D sound ≡ true → c.Fine × ((n : ℕ) → D n ≡ true → c.mine n ≡ false) × (sound ≡ true)
   case_fine D sound ok =
-      let each = sound_parts k (D k || others.mine k) _ ok in
-      let no = either_false (D k) (others.mine k) each.1 in
-      let rest = laws.fine D sound (and_parts s.whole (others.sound D sound) each.2).1 in
-      ((each.0, no.1, rest.0), (λ n is. let first = not_declared k D no.0 n is in let second = rest.1 n is in rw (first, second) refl), rest.2)
+      let one = its.fine (λ n. D n || others.mine n) (others.sound D sound) ok in
+      let rest = laws.fine D sound one.2 in
+      (
+        (one.0, (λ n is. one.1 n (or_right (D n) (others.mine n) is)), rest.0),
+        (λ n is. let no = one.1 n (or_left (D n) (others.mine n) is) in let none = rest.1 n is in rw (no, none) refl),
+        rest.2,
+      )
 
-  pub case_laws : CasesLaws c
-  case_laws = record {
+  pub either_laws : CasesLaws c
+  either_laws = record {
     fine = case_fine;
-    absent = ap (λ z. either z (others.meaning None)) words.absent ∙ ap (option_map Other) laws.absent;
-    stays = either_stays (λ n. n == k) s.need others.need s.stays laws.stays;
-    taken_is = λ at d old n w bs before r new after rest mine h. is_taken at d old n w bs before new after rest r (n == k) refl mine h;
-    puts = λ at d old n w bs before x new after rest mine h. is_there at d old n w bs before new after rest x (n == k) mine h;
-    says = λ at d old n w bs before x new after rest mine h. said at d old n w bs before new after rest x (n == k) mine h;
-    asks_is = λ at d old n w bs before r new after rest mine h. asks_case at d old n w bs before new after rest r (n == k) mine h;
+    absent = ap (λ z. either z (others.meaning None)) its.absent ∙ ap (option_map Other) laws.absent;
+    there = each_means;
+    stays = either_stays first.mine first.need others.need its.stays laws.stays;
+    taken_is = λ at d old n w bs before r new after rest mine h. is_taken at d old n w bs before new after rest r (first.mine n) refl mine h;
+    puts = λ at d old n w bs before x new after rest mine h. is_there at d old n w bs before new after rest x (first.mine n) refl mine h;
+    asks_is = λ at d old n w bs before r new after rest mine h. asks_case at d old n w bs before new after rest r (first.mine n) refl mine h;
     seen_is = seen_case;
     lent_is = lent_case;
     valid = case_valid;

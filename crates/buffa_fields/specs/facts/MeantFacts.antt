@@ -1,5 +1,5 @@
 -- What is proved of members and oneofs that are told by what they mean.
-use Rattle.std.proofs.Common.{◌≡◌, [], Option, Some, None, refl, sym, subst, ◌∙◌}
+use Rattle.std.proofs.Common.{◌≡◌, [], Option, Some, None, refl, sym, ap, subst, ◌∙◌}
 use Rattle.std.specs.Option.{option_map}
 use Rattle.buffa_wire.specs.Takes.{IsTaken}
 use Rattle.buffa_fields.specs.Aside.{Aside, IsExactKeeping, ReadsBackBeside}
@@ -7,6 +7,7 @@ use Rattle.buffa_fields.specs.Cases.{CasesLaws, if_there}
 use Rattle.buffa_fields.specs.Layout.{IsExactMember, ReadsBackTo, Seen, Shape, more}
 use Rattle.buffa_fields.specs.facts.LayoutFacts.{more_none}
 use Rattle.buffa_fields.specs.Meant.{meant_cases}
+use Rattle.buffa_fields.specs.facts.CasesFacts.{map_same}
 use Rattle.buffa_fields.specs.facts.OneOfFacts.{there_seen}
 use Rattle.buffa_fields.specs.OneOfParts.{OneOf, case_means, case_records, case_seen, case_slots}
 use Rattle.buffa_fields.specs.Words.{as_meant}
@@ -28,10 +29,6 @@ module _ {P A : Type 0} (s : Shape P A) where
     meant_beside h = record { valid = h.valid; back = h.back; again = h.again; exact = λ exact. meant_exact_keeping (h.exact exact) }
 
 -- ---- a oneof
-pub map_same : {X : Type 0} (o : Option X) → option_map (λ x. x) o ≡ o
-map_same None = refl
-map_same (Some x) = refl
-
 module _ {O X : Type 0} (e : OneOf O X) where
   pub meant_laws : CasesLaws (meant_cases e)
   meant_laws =
@@ -39,16 +36,15 @@ module _ {O X : Type 0} (e : OneOf O X) where
       let laws = e.all.laws in record {
         fine = laws.fine;
         absent = refl;
+        there = λ v. (v, refl);
         stays = laws.stays;
         taken_is = λ at d old n w bs before r new after rest mine h.
             let one = laws.taken_is (λ x. option_map e.view x) d h.0 n w bs before r h.1 after rest mine h.4 in
             subst (λ z. IsTaken c.takes c.need d (at old) n w bs before r z after rest) h.3 (subst (λ z. IsTaken c.takes c.need d z n w bs before r (case_means e h.1) after rest) h.2 one);
         puts = λ at d old n w bs before x new after rest mine h.
-            let one = laws.says (λ x. option_map e.view x) d h.0 n w bs before x h.1 after rest mine h.4 in
-            (one.0, sym h.3 ∙ one.1);
-        says = λ at d old n w bs before x new after rest mine h.
-            let one = laws.says (λ x. option_map e.view x) d h.0 n w bs before x h.1 after rest mine h.4 in
-            (one.0, sym h.3 ∙ one.1);
+            let put = laws.puts (λ x. option_map e.view x) d h.0 n w bs before x h.1 after rest mine h.4 in
+            let one = laws.there put.0 in
+            (one.0, sym h.3 ∙ ap c.meaning put.1 ∙ one.1);
         asks_is = λ at d old n w bs before r new after rest mine h. laws.asks_is (λ x. option_map e.view x) d h.0 n w bs before r h.1 after rest mine h.4;
         seen_is = λ v z. refl;
         lent_is = λ v. refl;
