@@ -110,16 +110,19 @@ def answers_of_oneof(world, one):
         return None
     head = ".".join(it for it in ("Rattle", world.crate, "proofs", world.module, snake(one.enum)) if it)
     is_behind = any(at > 0 for at in numbers + messages + joined)
+    in_groups = len(one.groups()) > 1
     common = "rules, refl, sym, ap, ◌∙◌, ◌==◌" if is_behind else "rules, sym, ◌∙◌"
+    common += ", ◌||◌, ℕ, Bool, false" * in_groups
     made = [f"use Rattle.std.proofs.Common.{{{common}}}"]
     made += ["use Rattle.std.proofs.lemmas.Result.{err_from_is_err_and}"] * bool(messages)
     if world.over == "buffa":
-        made.append(f"use Rattle.buffa.specs.Members.{{chosen{', not_here' * is_behind}}}")
+        made.append(f"use Rattle.buffa.specs.Members.{{chosen{', here' * in_groups}{', not_here' * is_behind}}}")
     else:
-        made += ["use Rattle.buffa_fields.specs.facts.LayoutFacts.{chosen}"] + ["use Rattle.buffa_fields.specs.facts.BlockFacts.{not_here}"] * is_behind
+        made.append("use Rattle.buffa_fields.specs.facts.LayoutFacts.{chosen}")
+        made += [f"use Rattle.buffa_fields.specs.facts.BlockFacts.{{{'here, ' * in_groups}not_here}}"] * is_behind
     ways = {at: f"in-{one.cases[at].number}+in_ok-it-in-{one.cases[at].number}" for at in joined}
     made += [f"use {head}.{one.enum}OneOf.take.Goals.{{{', '.join(ways.values())}}}"] * bool(ways)
-    made += [f"use {head}.{one.enum}OneOf.take.Goals as goal"]
+    made += [f"use {head}.{one.enum}OneOf.take.Goals as goal"] + groups_of_numbers(one)
     for at in numbers:
         branch = f"in_ok-it-in-{one.cases[at].number}"
         term = taken_by(one, at, f"let read = c.{branch}.ensures.ok in search (rules, read)")
@@ -149,10 +152,26 @@ def answer_of_joined(one, ways):
 
 def taken_by(one, at, term):
     """The proof that a case took the field, and none before it did."""
+    groups, (group, within) = one.groups(), one.place(at)
     term = f"chosen _ n {one.cases[at].number} is ({term})"
-    for before in reversed(one.cases[:at]):
+    for before in reversed(groups[group][:within]):
         term = f"not_here _ (sym (ap (λ z. z == {before.number}) is)) refl ({term})"
+    if group < len(groups) - 1:
+        term = f"here _ (sym (ap among-{group + 1} is)) refl ({term})"
+    for before in reversed(range(group)):
+        term = f"not_here _ (sym (ap among-{before + 1} is)) refl ({term})"
     return term
+
+
+def groups_of_numbers(one):
+    """Of each group but the last, which numbers are those of its cases."""
+    made = []
+    for at, cases in enumerate(one.groups()[:-1], 1):
+        test = "false"
+        for case in reversed(cases):
+            test = f"z == {case.number} || {test if test == 'false' else f'({test})'}"
+        made += ["", f"abbrev among-{at} : ℕ → Bool", f"among-{at} z = {test}"]
+    return made
 
 
 def answer_of_case(one, at, branch, term, more=()):

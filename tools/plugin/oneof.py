@@ -6,6 +6,8 @@ from names import TAKEN, variant
 MOST_CASES = 40
 # Of as many cases each is put into its place by itself. Of more `take` would have more statements than the borrow checker follows.
 MOST_APART = 18
+# Of more, so many at most stand together, and each is found in as many steps more as there are such groups before its own.
+MOST_TOGETHER = 8
 
 
 class OneOf:
@@ -25,7 +27,7 @@ class OneOf:
         self.inside = [it for k in self.cases for it in k.inside]
         self.rust, self.means, self.blank = f"Option<{self.enum}>", f"Option<<{self.enum} as OneOf>::Meaning>", "None"
         # The cases are one in the other.
-        self.own_depth = max(at + 2 + own_depth(k.said) for at, k in enumerate(self.cases))
+        self.own_depth = max(self.steps(at) + 2 + own_depth(k.said) for at, k in enumerate(self.cases))
         self.variants = {}
         for case in self.cases:
             self.name_variant(case)
@@ -45,6 +47,21 @@ class OneOf:
         """The bytes of the largest case, with those that say which it is, and whether one is."""
         return 16 + max(k.cost_alone or messages[k.inside[-1]].cost(messages) for k in self.cases)
 
+    def groups(self):
+        """The cases, in groups of those that stand together."""
+        if len(self.cases) <= MOST_APART:
+            return [self.cases]
+        return [self.cases[at : at + MOST_TOGETHER] for at in range(0, len(self.cases), MOST_TOGETHER)]
+
+    def place(self, at):
+        """The group of a case, and its place in that."""
+        return (at // MOST_TOGETHER, at % MOST_TOGETHER) if len(self.groups()) > 1 else (0, at)
+
+    def steps(self, at):
+        """In how many steps a case is found."""
+        group, within = self.place(at)
+        return group + within + (len(self.groups()) > 1)
+
     def declared(self):
         return [f"oneof {self.it.name} {{"] + [f"    {k.declared()}" for k in self.cases] + ["}"]
 
@@ -60,10 +77,11 @@ def head(one, crate, module, over):
     """What contracts cite, by the facade or by the crates below it."""
     variants = [k.variant if k.in_elim == k.variant else f"{k.variant} as {k.in_elim}" for k in one.cases]
     path = ".".join(["Rattle", crate, "specs.declared", *module, one.enum, "TheVariants"])
+    words = "case, enum_of, no_case" + ", some_cases" * (len(one.groups()) > 1)
     if over == "buffa":
-        made = ["ghost use Rattle.buffa.specs.Members.{Other, This, case, enum_of, no_case};"]
+        made = [f"ghost use Rattle.buffa.specs.Members.{{Other, This, {words}}};"]
     else:
-        made = ["ghost use Rattle.buffa_fields.specs.OneOfParts.{case, enum_of, no_case};"]
+        made = [f"ghost use Rattle.buffa_fields.specs.OneOfParts.{{{words}}};"]
         made += ["ghost use Rattle.buffa_fields.specs.declared.meaning.Or.TheVariants.{Other, This};"]
     return made + [f"ghost use {path}.{{{', '.join(sorted(variants))}}};", ""]
 
@@ -79,40 +97,44 @@ def enum(one, docs):
 
 def meaning(one):
     """What the cases mean, one in the other."""
-    text = "()"
-    for case in reversed(one.cases):
-        text = f"Or<{case.said}, {text}>"
-    line = f"    type Meaning = {text};"
-    if len(line) <= 100:
-        return [line]
-    return folded(one)
+    tree = "()"
+    for cases in reversed(one.groups()):
+        group = "()"
+        for case in reversed(cases):
+            group = (case.said, group)
+        tree = group if tree == "()" else (group, tree)
+    return folded("    type Meaning = ", tree, ";")
 
 
-def folded(one):
+def spelled(tree):
+    """The type of a tree of cases, on one line."""
+    return tree if isinstance(tree, str) else f"Or<{spelled(tree[0])}, {spelled(tree[1])}>"
+
+
+def folded(head, tree, end):
     """The same over several lines: what is left of the cases stands on one line as soon as it fits."""
-    texts, text = [], "()"
-    for case in reversed(one.cases):
-        texts.append(text)
-        text = f"Or<{case.said}, {text}>"
-    rests, lines, indent = texts[::-1], ["    type Meaning = Or<"], 8
-    for at, case in enumerate(one.cases):
-        lines.append(" " * indent + case.said + ",")
-        whole = " " * indent + rests[at] + ","
-        if len(whole) <= 100 or rests[at] == "()":
-            lines.append(whole)
-            break
-        lines.append(" " * indent + "Or<")
-        indent += 4
-    return lines + [" " * at + ">" + ("," if at > 4 else ";") for at in range(indent - 4, 3, -4)]
+    line = f"{head}{spelled(tree)}{end}"
+    if len(line) <= 100 or isinstance(tree, str):
+        return [line]
+    indent = " " * (len(head) - len(head.lstrip()))
+    return [f"{head}Or<", *folded(f"{indent}    ", tree[0], ","), *folded(f"{indent}    ", tree[1], ","), f"{indent}>{end}"]
 
 
 def cases(one):
     """The cases in contracts: each under its number, and which of them a value is."""
-    made = [f"case {k.number} ⟦<{k.member_type} as Case>⟧.words (" for k in one.cases]
+    last, made = len(one.groups()) - 1, []
+    for group, cases in enumerate(one.groups()):
+        for at, case in enumerate(cases):
+            head = "some_cases (" * (at == 0 and group < last) + f"case {case.number} ⟦<{case.member_type} as Case>⟧.words ("
+            made.append(head)
+        # the cases of the group end, and so do all the groups behind the last
+        made.append("no_case" + ")" * (len(cases) + 1) + (" (" if group < last else ")" * last + " (λ m. elim m ["))
     made = ["    ghost cases = { enum_of (" + made[0]] + [f"        {it}" for it in made[1:]]
-    made += [f"        no_case{')' * (len(one.cases) + 1)} (λ m. elim m ["]
     for at, case in enumerate(one.cases):
-        made.append(f"          | {case.in_elim} x ↦ {'Other (' * at}This x{')' * at}")
+        group, within = one.place(at)
+        steps = ["Other"] * within + ["This"]
+        steps = ["Other"] * group + ["This"] * (group < last) + steps
+        made.append(f"          | {case.in_elim} x ↦ {''.join(f'{it} (' for it in steps[:-1])}{steps[-1]} x{')' * (len(steps) - 1)}")
     return made + ["        ]) };", ""]
 
 

@@ -143,8 +143,8 @@ none_of = record {
 }
 
 -- one case, under a number
-abbrev pub one_case : {P A : Type 0} → ℕ → Shape (Option P) (Option A) → Bool → Cases P A
-one_case k s merges = record {
+abbrev pub single_case : {P A : Type 0} → ℕ → Shape (Option P) (Option A) → Bool → Cases P A
+single_case k s merges = record {
   meaning = s.meaning;
   mine = λ n. n == k;
   sound = λ D sound. is_number k && not (D k) && (s.whole && sound);
@@ -164,8 +164,8 @@ one_case k s merges = record {
 }
 
 -- some cases, and others after them
-abbrev pub either_of : {V X W Y : Type 0} → Cases V X → Cases W Y → Cases (Or V W) (Or X Y)
-either_of first others = record {
+abbrev pub or_cases : {V X W Y : Type 0} → Cases V X → Cases W Y → Cases (Or V W) (Or X Y)
+or_cases first others = record {
   meaning = λ o. either (first.meaning (this_of o)) (others.meaning (other_of o));
   mine = λ n. first.mine n || others.mine n;
   sound = λ D sound. first.sound (λ n. D n || others.mine n) (others.sound D sound);

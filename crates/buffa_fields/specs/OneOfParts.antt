@@ -2,8 +2,8 @@
 use Rattle.std.specs.Prelude.{◌≡◌, ℕ, Bool, not, max, List, [], Option, None}
 use Rattle.std.specs.Option.{option_map}
 use Rattle.buffa_fields.specs.Aside.{Kept}
-use Rattle.buffa_fields.specs.Cases.{Cases, CasesLaws, CaseWords, either_of, if_there, none_of, one_case}
-use Rattle.buffa_fields.specs.facts.CasesFacts.{either_laws, none_laws, one_laws}
+use Rattle.buffa_fields.specs.Cases.{Cases, CasesLaws, CaseWords, or_cases, if_there, none_of, single_case}
+use Rattle.buffa_fields.specs.facts.CasesFacts.{or_laws, none_laws, single_laws}
 use Rattle.buffa_fields.specs.Keep.{AllNumbers}
 use Rattle.buffa_fields.specs.Layout.{Seen, Shape}
 use Rattle.buffa_fields.specs.Parts.{Part}
@@ -20,11 +20,11 @@ no_case = record { cases = none_of; laws = none_laws }
 
 -- Some cases, and others after them. Of many cases each is found in fewer steps, where some of them stand together.
 abbrev pub some_cases : {V X W Y : Type 0} → CaseList V X → CaseList W Y → CaseList (Or V W) (Or X Y)
-some_cases first others = record { cases = either_of first.cases others.cases; laws = either_laws first.cases others.cases first.laws others.laws }
+some_cases first others = record { cases = or_cases first.cases others.cases; laws = or_laws first.cases others.cases first.laws others.laws }
 
 -- a case under a number, and those after it
 abbrev pub case : {P A V B : Type 0} → ℕ → {s : Shape (Option P) (Option A)} {merges : Bool} → CaseWords s merges → CaseList V B → CaseList (Or P V) (Or A B)
-case k {s} {merges} words others = some_cases (record { cases = one_case k s merges; laws = one_laws k s merges words }) others
+case k {s} {merges} words others = some_cases (record { cases = single_case k s merges; laws = single_laws k s merges words }) others
 
 -- An enum O, by its cases: each value of it has that of one case.
 pub record OneOf (O X : Type 0) : Type 1 where

@@ -13,7 +13,7 @@ use Rattle.buffa_wire.specs.ReadableFacts.{Readable}
 use Rattle.buffa_wire.specs.Records.{records_of}
 use Rattle.buffa_wire.specs.Takes.{IsTaken, Leads, Piece, ReadsBack}
 use Rattle.buffa_fields.specs.Aside.{Kept}
-use Rattle.buffa_fields.specs.Cases.{Cases, CasesLaws, CaseWords, IsCasePut, IsPutNew, IsPutOver, either, either_of, if_there, none_of, one_case, other_of, this_of}
+use Rattle.buffa_fields.specs.Cases.{Cases, CasesLaws, CaseWords, IsCasePut, IsPutNew, IsPutOver, either, or_cases, if_there, none_of, single_case, other_of, this_of}
 use Rattle.buffa_fields.specs.Keep.{AllNumbers}
 use Rattle.buffa_fields.specs.Layout.{Choice, Seen, Shape, Took, more}
 use Rattle.buffa_fields.specs.facts.LevelFacts.{some_mapped}
@@ -91,7 +91,7 @@ map_same (Some x) = refl
 
 module _ {P A : Type 0} (k : ℕ) (s : Shape (Option P) (Option A)) (merges : Bool) (words : CaseWords s merges) where
   abbrev one : Cases P A
-  one = one_case k s merges
+  one = single_case k s merges
 
   -- ---- a field is taken
   module _ {O : Type 0} (at : Option O → Option P) (d : ℕ) (old : Option O) (n : ℕ) (w : WireType) (bs : List ℕ) (before : BudgetLeft) (new : Option O) (after : BudgetLeft) (rest : List ℕ) where
@@ -163,8 +163,8 @@ module _ {P A : Type 0} (k : ℕ) (s : Shape (Option P) (Option A)) (merges : Bo
       let each = sound_parts k (D k) _ ok in
       (each.0, not_declared k D each.1, (and_parts s.whole sound each.2).1)
 
-  pub one_laws : CasesLaws one
-  one_laws = record {
+  pub single_laws : CasesLaws one
+  single_laws = record {
     fine = one_fine;
     absent = words.absent;
     there = words.there;
@@ -183,7 +183,7 @@ module _ {P A : Type 0} (k : ℕ) (s : Shape (Option P) (Option A)) (merges : Bo
 -- ---- some cases, and others after them
 module _ {V X W Y : Type 0} (first : Cases V X) (others : Cases W Y) (its : CasesLaws first) (laws : CasesLaws others) where
   abbrev c : Cases (Or V W) (Or X Y)
-  c = either_of first others
+  c = or_cases first others
 
   -- what stands of the others, by what it means
   others_mean : (o : Option (Or V W)) → other_of (c.meaning o) ≡ others.meaning (other_of o)
@@ -357,8 +357,8 @@ module _ {V X W Y : Type 0} (first : Cases V X) (others : Cases W Y) (its : Case
         rest.2,
       )
 
-  pub either_laws : CasesLaws c
-  either_laws = record {
+  pub or_laws : CasesLaws c
+  or_laws = record {
     fine = case_fine;
     absent = ap (λ z. either z (others.meaning None)) its.absent ∙ ap (option_map Other) laws.absent;
     there = each_means;
