@@ -1,5 +1,5 @@
 -- What is proved of the cases of a oneof.
-use Rattle.std.proofs.Common.{◌≡◌, ℕ, ◌==◌, ◌≤◌, Bool, true, false, ◌||◌, List, [], ◌∷◌, Option, Some, None, Result, Ok, Err, refl, sym, ap, subst, ◌∙◌, arith, if◌then◌else◌}
+use Rattle.std.proofs.Common.{◌≡◌, ℕ, ◌≤◌, Bool, true, false, ◌||◌, List, [], ◌∷◌, Option, Some, None, Result, Ok, Err, refl, sym, ap, subst, ◌∙◌, arith, if◌then◌else◌}
 use Rattle.std.proofs.lemmas.Bool.{and_parts, or_left, or_right}
 use Rattle.std.specs.List.{AllByRecursion}
 use Rattle.std.specs.Option.{option_map}
@@ -350,8 +350,7 @@ module _ {V X W Y : Type 0} (first : Cases V X) (others : Cases W Y) (its : Case
   case_fine : (D : ℕ → Bool) (sound : Bool) → c.sound D sound ≡ true → c.Fine × ((n : ℕ) → D n ≡ true → c.mine n ≡ false) × (sound ≡ true)
   case_fine D sound ok =
       let one = its.fine (λ n. D n || others.mine n) (others.sound D sound) ok in
-      let rest = laws.fine D sound one.2 in
-      (
+      let rest = laws.fine D sound one.2 in (
         (one.0, (λ n is. one.1 n (or_right (D n) (others.mine n) is)), rest.0),
         (λ n is. let no = one.1 n (or_left (D n) (others.mine n) is) in let none = rest.1 n is in rw (no, none) refl),
         rest.2,
