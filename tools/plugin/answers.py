@@ -2,7 +2,7 @@
 and messages."""
 from blocks import Block, blocks, holds_messages, lends, pieces
 from names import snake
-from oneof import OneOf, is_joined
+from oneof import OneOf
 
 # Of as many members and blocks it is proved without an answer that they were visited in turn.
 MOST_SEEN = 7
@@ -101,84 +101,86 @@ def answers(world, message):
 
 
 def answers_of_oneof(world, one):
-    """The file of the answers of `take`, by its name beside `src`: of each case that is a number, that it is no case before it; and of each
-    message, if there are some cases, that a refused one leaves what stands. Of many cases, how each that was read is put into its place."""
-    numbers = [at for at, it in enumerate(one.cases) if it.is_number and len(one.cases) > 1 and not is_joined(one)]
-    messages = [at for at, it in enumerate(one.cases) if it.is_message and len(one.cases) > MOST_REFUSED]
-    joined = [at for at, it in enumerate(one.cases) if is_joined(one) and not it.is_message]
-    if not numbers and not messages and not joined:
+    """The files of the answers of `take` of a oneof, each by its name beside `src`: of all its cases; or of those of each group, and of how a
+    field is handed on to a group."""
+    if len(one.groups()) == 1:
+        return [answers_of_cases(world, one, one.cases, f"{one.enum}OneOf", "take")]
+    found = [answers_of_cases(world, one, cases, one.enum, f"take_{at}") for at, cases in enumerate(one.groups(), 1)]
+    return [*found, answers_of_groups(world, one)]
+
+
+def home_of(world, one, holder, call):
+    """The module of the goals of a call of a oneof, and the file of their answers."""
+    names = [it for it in (world.module, snake(one.enum)) if it]
+    return ".".join(["Rattle", world.crate, "proofs", *names, holder, call, "Goals"]), "/".join(["../proofs", *names, holder, call, "Answers.antt"])
+
+
+def answers_of_cases(world, one, cases, holder, call):
+    """Of each case that is a number, that it is no case before it; and of each message, if there are some cases, that a refused one leaves
+    what stands."""
+    numbers = [at for at, it in enumerate(cases) if it.is_number and len(cases) > 1]
+    messages = [at for at, it in enumerate(cases) if it.is_message and len(cases) > MOST_REFUSED]
+    if not numbers and not messages:
         return None
-    head = ".".join(it for it in ("Rattle", world.crate, "proofs", world.module, snake(one.enum)) if it)
-    is_behind = any(at > 0 for at in numbers + messages + joined)
-    in_groups = len(one.groups()) > 1
+    goals, file = home_of(world, one, holder, call)
+    is_behind = any(at > 0 for at in numbers + messages)
     common = "rules, refl, sym, ap, ◌∙◌, ◌==◌" if is_behind else "rules, sym, ◌∙◌"
-    common += ", ◌||◌, ℕ, Bool, false" * in_groups
     made = [f"use Rattle.std.proofs.Common.{{{common}}}"]
     made += ["use Rattle.std.proofs.lemmas.Result.{err_from_is_err_and}"] * bool(messages)
     if world.over == "buffa":
-        made.append(f"use Rattle.buffa.specs.Members.{{chosen{', here' * in_groups}{', not_here' * is_behind}}}")
+        made.append(f"use Rattle.buffa.specs.Members.{{chosen{', not_here' * is_behind}}}")
     else:
-        made.append("use Rattle.buffa_fields.specs.facts.LayoutFacts.{chosen}")
-        made += [f"use Rattle.buffa_fields.specs.facts.BlockFacts.{{{'here, ' * in_groups}not_here}}"] * is_behind
-    ways = {at: f"in-{one.cases[at].number}+in_ok-it-in-{one.cases[at].number}" for at in joined}
-    made += [f"use {head}.{one.enum}OneOf.take.Goals.{{{', '.join(ways.values())}}}"] * bool(ways)
-    made += [f"use {head}.{one.enum}OneOf.take.Goals as goal"] + groups_of_numbers(one)
+        made += ["use Rattle.buffa_fields.specs.facts.LayoutFacts.{chosen}"] + ["use Rattle.buffa_fields.specs.facts.BlockFacts.{not_here}"] * is_behind
+    made += [f"use {goals} as goal"]
     for at in numbers:
-        branch = f"in_ok-it-in-{one.cases[at].number}"
-        term = taken_by(one, at, f"let read = c.{branch}.ensures.ok in search (rules, read)")
-        made += answer_of_case(one, at, branch, term)
+        branch = f"in_ok-it-in-{cases[at].number}"
+        term = taken_by(cases, at, f"let read = c.{branch}.ensures.ok in search (rules, read)")
+        made += answer_of_case(cases[at], branch, term)
     for count, at in enumerate(messages, 1):
         branch = f"in_err-it-{place('in_default-slot', count)}"
-        term = taken_by(one, at, f"let refused = c.{branch}.ensures.err in search (rules, refused)")
+        term = taken_by(cases, at, f"let refused = c.{branch}.ensures.err in search (rules, refused)")
         residual = f"c.from_residual{f'-{branch}' * (at > 0)}"
         told = f"    let told = err_from_is_err_and {residual}.result {residual}.ensures.1 in"
-        made += answer_of_case(one, at, branch, f"rw (told.1, told.2) ({term})", [told])
-    made += answer_of_joined(one, ways)
-    folder = "/".join(it for it in ("../proofs", world.module, snake(one.enum)) if it)
-    return f"{folder}/{one.enum}OneOf/take/Answers.antt", "\n".join(made) + "\n"
+        made += answer_of_case(cases[at], branch, f"rw (told.1, told.2) ({term})", [told])
+    return file, "\n".join(made) + "\n"
 
 
-def answer_of_joined(one, ways):
-    """The answer of where what was read is put into its place, by the case that it is."""
-    if not ways:
-        return []
-    made = ["", "pub returns : goal.returns", "returns c =", "    let n = c.args.tag.number in", "    elim c.match-field_number.branch ["]
-    for at, way in ways.items():
-        number = one.cases[at].number
-        read = f"let read = w.in_ok-it-in-{number}.ensures.ok in rw (w.buf-is, w.ctx-is, w.case-is) (search (rules, read))"
-        made.append(f"      | {way} w ↦ (let is = sym c.field_number.ensures ∙ w.in-{number}.is in {taken_by(one, at, read)})")
-    return [*made, "      ]"]
-
-
-def taken_by(one, at, term):
+def taken_by(cases, at, term):
     """The proof that a case took the field, and none before it did."""
-    groups, (group, within) = one.groups(), one.place(at)
-    term = f"chosen _ n {one.cases[at].number} is ({term})"
-    for before in reversed(groups[group][:within]):
+    term = f"chosen _ n {cases[at].number} is ({term})"
+    for before in reversed(cases[:at]):
         term = f"not_here _ (sym (ap (λ z. z == {before.number}) is)) refl ({term})"
-    if group < len(groups) - 1:
-        term = f"here _ (sym (ap among-{group + 1} is)) refl ({term})"
-    for before in reversed(range(group)):
-        term = f"not_here _ (sym (ap among-{before + 1} is)) refl ({term})"
     return term
 
 
-def groups_of_numbers(one):
-    """Of each group but the last, which numbers are those of its cases."""
-    made = []
-    for at, cases in enumerate(one.groups()[:-1], 1):
+def answer_of_case(case, branch, term, more=()):
+    """The answer of where a case was read, or was refused."""
+    made = ["", f"pub returns-{branch} : goal.returns-{branch}", f"returns-{branch} c =", "    let n = c.args.tag.number in"]
+    made += [f"    let is = sym c.field_number.ensures ∙ c.in-{case.number}.is in"]
+    return [*made, *more, f"    {term}"]
+
+
+def answers_of_groups(world, one):
+    """Of each group but the last, which numbers are its own; and of each that its function took the field, and none before it did."""
+    goals, file = home_of(world, one, f"{one.enum}OneOf", "take")
+    groups = one.groups()
+    facts = "buffa.specs.Members" if world.over == "buffa" else "buffa_fields.specs.facts.BlockFacts"
+    made = ["use Rattle.std.proofs.Common.{refl, sym, ap, ◌∙◌, ◌==◌, ◌||◌, ℕ, Bool, false}", f"use Rattle.{facts}.{{here, not_here}}", f"use {goals} as goal"]
+    for at, cases in enumerate(groups[:-1], 1):
         test = "false"
         for case in reversed(cases):
             test = f"z == {case.number} || {test if test == 'false' else f'({test})'}"
         made += ["", f"abbrev among-{at} : ℕ → Bool", f"among-{at} z = {test}"]
-    return made
-
-
-def answer_of_case(one, at, branch, term, more=()):
-    """The answer of where a case was read, or was refused."""
-    made = ["", f"pub returns-{branch} : goal.returns-{branch}", f"returns-{branch} c =", "    let n = c.args.tag.number in"]
-    made += [f"    let is = sym c.field_number.ensures ∙ c.in-{one.cases[at].number}.is in"]
-    return [*made, *more, f"    {term}"]
+    for at, cases in enumerate(groups):
+        for case in cases:
+            # the checker names the first such call without its place
+            term = f"c.take_{at + 1}{f'-in-{case.number}' * (case is not cases[0])}.ensures"
+            if at < len(groups) - 1:
+                term = f"here _ (sym (ap among-{at + 1} is)) refl {term}"
+            for before in reversed(range(at)):
+                term = f"not_here _ (sym (ap among-{before + 1} is)) refl {term if term.startswith('c.') else f'({term})'}"
+            made += answer_of_case(case, f"in-{case.number}", term)
+    return file, "\n".join(made) + "\n"
 
 
 def answers_of_take(world, message):

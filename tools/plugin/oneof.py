@@ -4,9 +4,9 @@ from names import TAKEN, variant
 
 # As many cases of one oneof are written.
 MOST_CASES = 40
-# Of as many cases each is put into its place by itself. Of more `take` would have more statements than the borrow checker follows.
+# As many cases stand one after the other. Of more `take` would have more statements than the borrow checker follows.
 MOST_APART = 18
-# Of more, so many at most stand together, and each is found in as many steps more as there are such groups before its own.
+# Of more, so many at most stand together: each is found in few steps, and such a group has a function of its own that takes its fields.
 MOST_TOGETHER = 8
 
 
@@ -77,12 +77,18 @@ def head(one, crate, module, over):
     """What contracts cite, by the facade or by the crates below it."""
     variants = [k.variant if k.in_elim == k.variant else f"{k.variant} as {k.in_elim}" for k in one.cases]
     path = ".".join(["Rattle", crate, "specs.declared", *module, one.enum, "TheVariants"])
-    words = "case, enum_of, no_case" + ", some_cases" * (len(one.groups()) > 1)
+    in_groups = len(one.groups()) > 1
+    found = ["other_of", "this_of"] * in_groups
+    words = sorted(["case", "enum_of", "no_case", *["some_cases"] * in_groups, *found])
     if over == "buffa":
-        made = [f"ghost use Rattle.buffa.specs.Members.{{Other, This, {words}}};"]
+        made = [f"ghost use Rattle.buffa.specs.Members.{{{', '.join(['Other', 'This', *words])}}};"]
     else:
-        made = [f"ghost use Rattle.buffa_fields.specs.OneOfParts.{{{words}}};"]
+        made = [f"ghost use Rattle.buffa_fields.specs.OneOfParts.{{{', '.join(it for it in words if it not in found)}}};"]
+        made += [f"ghost use Rattle.buffa_fields.specs.Cases.{{{', '.join(found)}}};"] * in_groups
         made += ["ghost use Rattle.buffa_fields.specs.declared.meaning.Or.TheVariants.{Other, This};"]
+    if in_groups:
+        home = "buffa.specs.Wire" if over == "buffa" else "buffa_wire.specs.BudgetLeft"
+        made = ["ghost use Rattle.std.specs.Option.{option_map};", f"ghost use Rattle.{home}.{{budget_left}};"] + made
     return made + [f"ghost use {path}.{{{', '.join(sorted(variants))}}};", ""]
 
 
@@ -154,15 +160,9 @@ def merge_value(one, case):
     """The arm by which a message is merged into its own case, where that stands."""
     head = f"                Some({one.enum}::{case.variant}(it)) => "
     call = f"{case.member_type.replace('<', '::<', 1)}::merge_value(it, alloc, tag, buf, ctx)"
-    call = f"return {call}" if is_joined(one) else call
     if len(head) + len(call) < 100:
         return [f"{head}{call},"]
-    return [f"{head}{{", f"                    {call}{';' * is_joined(one)}", "                }"]
-
-
-def is_joined(one):
-    """Whether what was read is put into its place behind all cases but the messages."""
-    return len(one.cases) > MOST_APART and not all(k.is_message for k in one.cases)
+    return [f"{head}{{", f"                    {call}", "                }"]
 
 
 def read_value(one, case, head, indent):
@@ -171,26 +171,59 @@ def read_value(one, case, head, indent):
     made = [f"{indent}{head} => {{", f"{indent}    let it = {call}"]
     if len(made[-1]) > 100:
         made[-1:] = [f"{indent}    let it =", f"{indent}        {call}"]
-    if is_joined(one) and not case.is_message:
-        return made + [f"{indent}    {one.enum}::{case.variant}(it)", f"{indent}}}"]
-    end = f"{indent}    return Ok(());" if is_joined(one) else f"{indent}    Ok(())"
-    return made + [f"{indent}    *slot = Some({one.enum}::{case.variant}(it));", end, f"{indent}}}"]
+    return made + [f"{indent}    *slot = Some({one.enum}::{case.variant}(it));", f"{indent}    Ok(())", f"{indent}}}"]
 
 
-def take(one):
-    """The function that takes a field: a message is merged into its own case, where that stands."""
-    made = ["    fn take("]
+def head_of_take(one, name):
+    """The head of a function that takes a field, but for its contract."""
+    made = [f"    fn {name}("]
     made += [f"        {it}," for it in (f"slot: &mut Option<{one.enum}>", "alloc: Global", "tag: Tag", "buf: &mut &[u8]", "ctx: DecodeContext<'_>")]
-    made += ["    ) -> Result<(), DecodeError> {", f"        {'let case = ' * is_joined(one)}match tag.field_number() {{"]
-    for case in one.cases:
+    return [*made, "    ) -> Result<(), DecodeError>"]
+
+
+def arms(one, cases):
+    """The arms of some cases: a message is merged into its own case, where that stands."""
+    made = ["        match tag.field_number() {"]
+    for case in cases:
         if case.is_message:
             made += [f"            {case.number} => match slot {{"] + merge_value(one, case)
             made += read_value(one, case, "_", "                ") + ["            },"]
         else:
             made += read_value(one, case, str(case.number), "            ")
-    if is_joined(one):
-        return made + ["            _ => return Ok(()),", "        };", "        *slot = Some(case);", "        Ok(())", "    }"]
     return made + ["            _ => Ok(()),", "        }", "    }"]
+
+
+def take(one, arm):
+    """The function that takes a field. Of many cases it hands the field on to the function of the case's group."""
+    head = head_of_take(one, "take")
+    head[-1] += " {"
+    if len(one.groups()) == 1:
+        return head + arms(one, one.cases)
+    made = [*head, "        match tag.field_number() {"]
+    for at, cases in enumerate(one.groups(), 1):
+        made += arm([str(k.number) for k in cases], f"{one.enum}::take_{at}", ["slot", "alloc", "tag", "buf", "ctx"])
+    return made + ["            _ => Ok(()),", "        }", "    }"]
+
+
+def group_of(one, at):
+    """How the cases of a group are found in an enum, in contracts."""
+    last = at == len(one.groups()) - 1
+    steps = ["this_of"] * (not last) + ["other_of"] * at
+    return f"(λ o. {''.join(f'{it} (' for it in steps)}option_map ⟦<{one.enum} as OneOf>⟧.cases.view o{')' * len(steps)})"
+
+
+def takes_of_groups(one):
+    """The functions that take the fields of each group of cases."""
+    if len(one.groups()) == 1:
+        return []
+    made = ["", f"impl {one.enum} {{"]
+    for at, cases in enumerate(one.groups()):
+        made += [""] * (at > 0) + [f"    // Takes a field of the cases {cases[0].number} to {cases[-1].number}."] + head_of_take(one, f"take_{at + 1}")
+        words = [f"case {k.number} ⟦<{k.member_type} as Case>⟧.words (" for k in cases] + [f"no_case{')' * len(cases)}).cases.Took {group_of(one, at)}"]
+        made += [f"        ensures {{ ({words[0]}"] + [f"            {it}" for it in words[1:]]
+        made += ["            ctx.entry.depth slot.old tag.number tag.wire_type buf.old.now ctx.entry.budget.now result slot.new"]
+        made += ["            (budget_left ctx.exit) buf.new.now }", "    {"] + arms(one, cases)
+    return made + ["}"]
 
 
 def reads_back(one):

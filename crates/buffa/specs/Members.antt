@@ -3,6 +3,7 @@ unfoldable pub use Rattle.buffa_fields.specs.Aside.{TookBeside}
 unfoldable pub use Rattle.buffa_fields.specs.Layout.{Took}
 pub use Rattle.buffa_fields.specs.facts.BlockFacts.{both_waited, first_comes, here, not_here, second_comes}
 pub use Rattle.buffa_fields.specs.Blocks.{TakesBlock, TakesKeeping, aloof, block, block_of, both_blocks, eight, five, four, one, one_case, one_kept, seven, six, three, two}
+pub use Rattle.buffa_fields.specs.Cases.{other_of, this_of}
 pub use Rattle.buffa_fields.specs.Levels.{AreExactLevels}
 pub use Rattle.buffa_fields.specs.Members.{field, field_kept, keep, skip}
 pub use Rattle.buffa_fields.specs.OneOf.{one_of}
