@@ -53,17 +53,36 @@ class OneOf:
             return [self.cases]
         return [self.cases[at : at + MOST_TOGETHER] for at in range(0, len(self.cases), MOST_TOGETHER)]
 
+    def steps(self, at):
+        """In how many steps a case is found."""
+        group, within = self.place(at)
+        return len(way(group, len(self.groups()))) + within
+
     def place(self, at):
         """The group of a case, and its place in that."""
         return (at // MOST_TOGETHER, at % MOST_TOGETHER) if len(self.groups()) > 1 else (0, at)
 
-    def steps(self, at):
-        """In how many steps a case is found."""
-        group, within = self.place(at)
-        return group + within + (len(self.groups()) > 1)
-
     def declared(self):
         return [f"oneof {self.it.name} {{"] + [f"    {k.declared()}" for k in self.cases] + ["}"]
+
+
+def halved(items, node):
+    """The items in a tree of halves, by what makes one node of two."""
+    if len(items) == 1:
+        return items[0]
+    middle = (len(items) + 1) // 2
+    return node(halved(items[:middle], node), halved(items[middle:], node))
+
+
+def way(at, count):
+    """The way to an item in the tree of halves of so many: of each node the first and the last item of its first half, and whether
+    the item is there."""
+    found, first, last = [], 0, count - 1
+    while first < last:
+        middle = first + (last - first + 2) // 2 - 1
+        found.append((first, middle, at <= middle))
+        first, last = (first, middle) if at <= middle else (middle + 1, last)
+    return found
 
 
 def uses_of_enum(one):
@@ -103,13 +122,13 @@ def enum(one, docs):
 
 def meaning(one):
     """What the cases mean, one in the other."""
-    tree = "()"
-    for cases in reversed(one.groups()):
+    groups = []
+    for cases in one.groups():
         group = "()"
         for case in reversed(cases):
             group = (case.said, group)
-        tree = group if tree == "()" else (group, tree)
-    return folded("    type Meaning = ", tree, ";")
+        groups.append(group)
+    return folded("    type Meaning = ", halved(groups, lambda a, b: (a, b)), ";")
 
 
 def spelled(tree):
@@ -128,18 +147,13 @@ def folded(head, tree, end):
 
 def cases(one):
     """The cases in contracts: each under its number, and which of them a value is."""
-    last, made = len(one.groups()) - 1, []
-    for group, cases in enumerate(one.groups()):
-        for at, case in enumerate(cases):
-            head = "some_cases (" * (at == 0 and group < last) + f"case {case.number} ⟦<{case.member_type} as Case>⟧.words ("
-            made.append(head)
-        # the cases of the group end, and so do all the groups behind the last
-        made.append("no_case" + ")" * (len(cases) + 1) + (" (" if group < last else ")" * last + " (λ m. elim m ["))
-    made = ["    ghost cases = { enum_of (" + made[0]] + [f"        {it}" for it in made[1:]]
+    groups = [[*(f"case {k.number} ⟦<{k.member_type} as Case>⟧.words (" for k in cases), f"no_case{')' * len(cases)}"] for cases in one.groups()]
+    made = halved(groups, lambda a, b: [f"some_cases ({a[0]}", *a[1:-1], f"{a[-1]}) (", *b[:-1], f"{b[-1]})"])
+    made = [f"    ghost cases = {{ enum_of ({made[0]}"] + [f"        {it}" for it in made[1:]]
+    made[-1] += ") (λ m. elim m ["
     for at, case in enumerate(one.cases):
         group, within = one.place(at)
-        steps = ["Other"] * within + ["This"]
-        steps = ["Other"] * group + ["This"] * (group < last) + steps
+        steps = ["This" if is_first else "Other" for _, _, is_first in way(group, len(groups))] + ["Other"] * within + ["This"]
         made.append(f"          | {case.in_elim} x ↦ {''.join(f'{it} (' for it in steps[:-1])}{steps[-1]} x{')' * (len(steps) - 1)}")
     return made + ["        ]) };", ""]
 
@@ -207,8 +221,7 @@ def take(one, arm):
 
 def group_of(one, at):
     """How the cases of a group are found in an enum, in contracts."""
-    last = at == len(one.groups()) - 1
-    steps = ["this_of"] * (not last) + ["other_of"] * at
+    steps = ["this_of" if is_first else "other_of" for _, _, is_first in reversed(way(at, len(one.groups())))]
     return f"(λ o. {''.join(f'{it} (' for it in steps)}option_map ⟦<{one.enum} as OneOf>⟧.cases.view o{')' * len(steps)})"
 
 
