@@ -10,7 +10,7 @@ use Rattle.buffa_fields.specs.Layout.{Choice, Layout, Shape}
 use Rattle.buffa_fields.specs.Members.{field, field_kept}
 use Rattle.buffa_fields.specs.OneOf.{one_of}
 use Rattle.buffa_fields.specs.OneOfParts.{OneOf}
-use Rattle.buffa_fields.specs.facts.MeantFacts.{map_same}
+use Rattle.buffa_fields.specs.facts.CasesFacts.{map_same}
 use Rattle.buffa_fields.specs.MemberParts.{member_part}
 
 -- ---- which of two blocks takes a field
