@@ -2,7 +2,7 @@
 and messages."""
 from blocks import Block, blocks, holds_messages, lends, pieces
 from names import snake
-from oneof import OneOf, halved, way
+from oneof import OneOf
 
 # Of as many members and blocks it is proved without an answer that they were visited in turn.
 MOST_SEEN = 7
@@ -160,34 +160,20 @@ def answer_of_case(case, branch, term, more=()):
     return [*made, *more, f"    {term}"]
 
 
-def among(cases):
-    """That a number z is that of one of some cases."""
-    made = "false"
-    for case in reversed(cases):
-        made = f"z == {case.number} || {made if made == 'false' else f'({made})'}"
-    return made
-
-
 def answers_of_groups(world, one):
-    """Which numbers are those of the first of two halves; and of each group that its function took the field, and none before it did."""
+    """Of each group that its function took the field, and none before it did."""
     goals, file = home_of(world, one, f"{one.enum}OneOf", "take")
-    groups = one.groups()
     facts = "buffa.specs.Members" if world.over == "buffa" else "buffa_fields.specs.facts.BlockFacts"
-    made = ["use Rattle.std.proofs.Common.{refl, sym, ap, ◌∙◌, ◌==◌, ◌||◌, ℕ, Bool, false}", f"use Rattle.{facts}.{{here, not_here}}", f"use {goals} as goal"]
-    tests = {}
-    for at, cases in enumerate(groups):
-        for first, last, _ in way(at, len(groups)):
-            if (first, last) not in tests:
-                tests[first, last] = f"among-{len(tests) + 1}"
-                halves = [among(it) for it in groups[first : last + 1]]
-                made += ["", f"abbrev {tests[first, last]} : ℕ → Bool", f"{tests[first, last]} z = {halved(halves, lambda a, b: f'({a}) || ({b})')}"]
-    for at, cases in enumerate(groups):
-        for case in cases:
-            # the checker names the first such call without its place
-            term = f"c.take_{at + 1}{f'-in-{case.number}' * (case is not cases[0])}.ensures"
-            for first, last, is_first in reversed(way(at, len(groups))):
-                term = f"{'here' if is_first else 'not_here'} _ (sym (ap {tests[first, last]} is)) refl {term if term.startswith('c.') else f'({term})'}"
-            made += answer_of_case(case, f"in-{case.number}", term)
+    made = [f"use Rattle.{facts}.{{here, not_here}}", f"use {goals} as goal"]
+    last = len(one.groups()) - 1
+    for at in range(last + 1):
+        name = f"returns-else-has_{at}" if at == last else f"returns-then-has_{at + 1}"
+        term = f"c.take_{at + 1}.ensures"
+        if at < last:
+            term = f"here _ (rw number at c.has_{at + 1}.ensures) c.if-has_{at + 1}.true {term}"
+        for before in reversed(range(at)):
+            term = f"not_here _ (rw number at c.has_{before + 1}.ensures) c.if-has_{before + 1}.false ({term})"
+        made += ["", f"pub {name} : goal.{name}", f"{name} c =", "    let number = c.field_number-number.ensures in", f"    {term}"]
     return file, "\n".join(made) + "\n"
 
 

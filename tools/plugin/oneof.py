@@ -1,13 +1,15 @@
 """A oneof: the member of the message that has it, and the file of its enum, laid out as rt fmt has it."""
+import math
+
 from depths import own_depth
 from names import TAKEN, variant
 
 # As many cases of one oneof are written.
 MOST_CASES = 40
-# As many cases stand one after the other. Of more `take` would have more statements than the borrow checker follows.
-MOST_APART = 18
-# Of more, so many at most stand together: each is found in few steps, and such a group has a function of its own that takes its fields.
-MOST_TOGETHER = 8
+# As many cases stand one after the other. Of more, some stand together: each is found in few steps, and such a group has a function of its
+# own that takes its fields.
+MOST_APART = 12
+LEAST_TOGETHER = 8
 
 
 class OneOf:
@@ -48,41 +50,29 @@ class OneOf:
         return 16 + max(k.cost_alone or messages[k.inside[-1]].cost(messages) for k in self.cases)
 
     def groups(self):
-        """The cases, in groups of those that stand together."""
+        """The cases, in groups of those that stand together: as many in each as there are groups, or some."""
         if len(self.cases) <= MOST_APART:
             return [self.cases]
-        return [self.cases[at : at + MOST_TOGETHER] for at in range(0, len(self.cases), MOST_TOGETHER)]
+        size = max(LEAST_TOGETHER, math.isqrt(len(self.cases) - 1) + 1)
+        return [self.cases[at : at + size] for at in range(0, len(self.cases), size)]
 
     def steps(self, at):
         """In how many steps a case is found."""
-        group, within = self.place(at)
-        return len(way(group, len(self.groups()))) + within
+        return len(self.way(at)) - 1
 
-    def place(self, at):
-        """The group of a case, and its place in that."""
-        return (at // MOST_TOGETHER, at % MOST_TOGETHER) if len(self.groups()) > 1 else (0, at)
+    def way(self, at):
+        """How a case is found: the first of two is `This`, and the second `Other`; the groups first, and then the cases of its group."""
+        size = len(self.groups()[0])
+        group, within = divmod(at, size)
+        return ["Other"] * group + ["This"] * (group < len(self.groups()) - 1) + ["Other"] * within + ["This"]
 
     def declared(self):
         return [f"oneof {self.it.name} {{"] + [f"    {k.declared()}" for k in self.cases] + ["}"]
 
 
-def halved(items, node):
-    """The items in a tree of halves, by what makes one node of two."""
-    if len(items) == 1:
-        return items[0]
-    middle = (len(items) + 1) // 2
-    return node(halved(items[:middle], node), halved(items[middle:], node))
-
-
-def way(at, count):
-    """The way to an item in the tree of halves of so many: of each node the first and the last item of its first half, and whether
-    the item is there."""
-    found, first, last = [], 0, count - 1
-    while first < last:
-        middle = first + (last - first + 2) // 2 - 1
-        found.append((first, middle, at <= middle))
-        first, last = (first, middle) if at <= middle else (middle + 1, last)
-    return found
+def nested(items, node):
+    """The items one in the other, by what makes one of an item and those behind it."""
+    return items[0] if len(items) == 1 else node(items[0], nested(items[1:], node))
 
 
 def uses_of_enum(one):
@@ -107,7 +97,7 @@ def head(one, crate, module, over):
         made += ["ghost use Rattle.buffa_fields.specs.declared.meaning.Or.TheVariants.{Other, This};"]
     if in_groups:
         home = "buffa.specs.Wire" if over == "buffa" else "buffa_wire.specs.BudgetLeft"
-        made = ["ghost use Rattle.std.specs.Option.{option_map};", f"ghost use Rattle.{home}.{{budget_left}};"] + made
+        made = ["ghost use Rattle.std.specs.Prelude.{◌≡◌, ◌==◌, ◌||◌, false};", "ghost use Rattle.std.specs.Option.{option_map};", f"ghost use Rattle.{home}.{{budget_left}};"] + made
     return made + [f"ghost use {path}.{{{', '.join(sorted(variants))}}};", ""]
 
 
@@ -128,7 +118,7 @@ def meaning(one):
         for case in reversed(cases):
             group = (case.said, group)
         groups.append(group)
-    return folded("    type Meaning = ", halved(groups, lambda a, b: (a, b)), ";")
+    return folded("    type Meaning = ", nested(groups, lambda a, b: (a, b)), ";")
 
 
 def spelled(tree):
@@ -148,12 +138,11 @@ def folded(head, tree, end):
 def cases(one):
     """The cases in contracts: each under its number, and which of them a value is."""
     groups = [[*(f"case {k.number} ⟦<{k.member_type} as Case>⟧.words (" for k in cases), f"no_case{')' * len(cases)}"] for cases in one.groups()]
-    made = halved(groups, lambda a, b: [f"some_cases ({a[0]}", *a[1:-1], f"{a[-1]}) (", *b[:-1], f"{b[-1]})"])
+    made = nested(groups, lambda a, b: [f"some_cases ({a[0]}", *a[1:-1], f"{a[-1]}) (", *b[:-1], f"{b[-1]})"])
     made = [f"    ghost cases = {{ enum_of ({made[0]}"] + [f"        {it}" for it in made[1:]]
     made[-1] += ") (λ m. elim m ["
     for at, case in enumerate(one.cases):
-        group, within = one.place(at)
-        steps = ["This" if is_first else "Other" for _, _, is_first in way(group, len(groups))] + ["Other"] * within + ["This"]
+        steps = one.way(at)
         made.append(f"          | {case.in_elim} x ↦ {''.join(f'{it} (' for it in steps[:-1])}{steps[-1]} x{')' * (len(steps) - 1)}")
     return made + ["        ]) };", ""]
 
@@ -185,7 +174,7 @@ def read_value(one, case, head, indent):
     made = [f"{indent}{head} => {{", f"{indent}    let it = {call}"]
     if len(made[-1]) > 100:
         made[-1:] = [f"{indent}    let it =", f"{indent}        {call}"]
-    return made + [f"{indent}    *slot = Some({one.enum}::{case.variant}(it));", f"{indent}    Ok(())", f"{indent}}}"]
+    return made + [f"{indent}    drop(slot.replace({one.enum}::{case.variant}(it)));", f"{indent}    Ok(())", f"{indent}}}"]
 
 
 def head_of_take(one, name):
@@ -207,31 +196,53 @@ def arms(one, cases):
     return made + ["            _ => Ok(()),", "        }", "    }"]
 
 
-def take(one, arm):
-    """The function that takes a field. Of many cases it hands the field on to the function of the case's group."""
+def take(one):
+    """The function that takes a field. Of many cases it hands the field on to the function of the group that has its number, or the last."""
     head = head_of_take(one, "take")
     head[-1] += " {"
     if len(one.groups()) == 1:
         return head + arms(one, one.cases)
-    made = [*head, "        match tag.field_number() {"]
-    for at, cases in enumerate(one.groups(), 1):
-        made += arm([str(k.number) for k in cases], f"{one.enum}::take_{at}", ["slot", "alloc", "tag", "buf", "ctx"])
-    return made + ["            _ => Ok(()),", "        }", "    }"]
+    made, indent = [*head, "        let number = tag.field_number();"], "        "
+    for at in range(1, len(one.groups())):
+        made += [f"{indent}if {one.enum}::has_{at}(number) {{", f"{indent}    return {one.enum}::take_{at}(slot, alloc, tag, buf, ctx);", f"{indent}}}"]
+    return made + [f"{indent}{one.enum}::take_{len(one.groups())}(slot, alloc, tag, buf, ctx)", "    }"]
+
+
+def test_of(cases):
+    """That a number is that of one of some cases, in contracts, over several lines."""
+    lines = ["            ≡ ("]
+    for at, case in enumerate(cases):
+        if len(lines[-1]) > 100:
+            lines.append("            ")
+        lines[-1] += f"{'(' * (at > 0)}number == {case.number} || "
+    lines[-1] += f"false{')' * len(cases)} }}"
+    return [it.rstrip() for it in lines]
+
+
+def has(cases, at):
+    """The function that says whether a group has a case of a number."""
+    made = [f"    // Whether one of the cases {cases[0].number} to {cases[-1].number} has the number.", f"    fn has_{at}(number: u32) -> bool"]
+    made += ["        ensures { result", *test_of(cases), "    {"]
+    line = " || ".join(f"number == {k.number}" for k in cases)
+    if len(line) > 92:
+        return made + [f"        number == {cases[0].number}"] + [f"            || number == {k.number}" for k in cases[1:]] + ["    }"]
+    return made + [f"        {line}", "    }"]
 
 
 def group_of(one, at):
     """How the cases of a group are found in an enum, in contracts."""
-    steps = ["this_of" if is_first else "other_of" for _, _, is_first in reversed(way(at, len(one.groups())))]
+    steps = ["this_of"] * (at < len(one.groups()) - 1) + ["other_of"] * at
     return f"(λ o. {''.join(f'{it} (' for it in steps)}option_map ⟦<{one.enum} as OneOf>⟧.cases.view o{')' * len(steps)})"
 
 
 def takes_of_groups(one):
-    """The functions that take the fields of each group of cases."""
+    """The functions that take the fields of each group of cases, and say whether it has a number."""
     if len(one.groups()) == 1:
         return []
     made = ["", f"impl {one.enum} {{"]
     for at, cases in enumerate(one.groups()):
-        made += [""] * (at > 0) + [f"    // Takes a field of the cases {cases[0].number} to {cases[-1].number}."] + head_of_take(one, f"take_{at + 1}")
+        made += [""] * (at > 0) + ([*has(cases, at + 1), ""] if at < len(one.groups()) - 1 else [])
+        made += [f"    // Takes a field of the cases {cases[0].number} to {cases[-1].number}."] + head_of_take(one, f"take_{at + 1}")
         words = [f"case {k.number} ⟦<{k.member_type} as Case>⟧.words (" for k in cases] + [f"no_case{')' * len(cases)}).cases.Took {group_of(one, at)}"]
         made += [f"        ensures {{ ({words[0]}"] + [f"            {it}" for it in words[1:]]
         made += ["            ctx.entry.depth slot.old tag.number tag.wire_type buf.old.now ctx.entry.budget.now result slot.new"]

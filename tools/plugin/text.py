@@ -439,7 +439,7 @@ def write_oneof(world, one, message):
     needs = oneof.uses_of_enum(one) | ({"Required"} if one.asked else set())
     made += uses(world, needs, {i for k in one.cases for i in k.imports}) + [""] + oneof.enum(one, docs)
     made += [f"impl OneOf for {one.enum} {{"] + oneof.meaning(one) + [""] + oneof.cases(one) + oneof.visit(one)
-    made += oneof.take(one, lambda numbers, call, args: blocks.arm(numbers, call, args, called)) + oneof.reads_back(one) + ["}"] + oneof.takes_of_groups(one)
+    made += oneof.take(one) + oneof.reads_back(one) + ["}"] + oneof.takes_of_groups(one)
     return "\n".join(made + required.initialized_enum(one)) + "\n"
 
 

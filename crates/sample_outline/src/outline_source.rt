@@ -54,12 +54,12 @@ impl OneOf for OutlineSource {
         match tag.field_number() {
             7 => {
                 let it = Optional::<Str>::read_value(alloc, tag, buf, ctx)?;
-                *slot = Some(OutlineSource::Book(it));
+                drop(slot.replace(OutlineSource::Book(it)));
                 Ok(())
             }
             8 => {
                 let it = Optional::<Int32>::read_value(alloc, tag, buf, ctx)?;
-                *slot = Some(OutlineSource::Page(it));
+                drop(slot.replace(OutlineSource::Page(it)));
                 Ok(())
             }
             9 => match slot {
@@ -68,7 +68,7 @@ impl OneOf for OutlineSource {
                 }
                 _ => {
                     let it = Nested::<Spot>::read_value(alloc, tag, buf, ctx)?;
-                    *slot = Some(OutlineSource::Spot(it));
+                    drop(slot.replace(OutlineSource::Spot(it)));
                     Ok(())
                 }
             },

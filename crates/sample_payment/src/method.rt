@@ -52,12 +52,12 @@ impl OneOf for Method {
         match tag.field_number() {
             2 => {
                 let it = Optional::<Str>::read_value(alloc, tag, buf, ctx)?;
-                *slot = Some(Method::Card(it));
+                drop(slot.replace(Method::Card(it)));
                 Ok(())
             }
             3 => {
                 let it = Optional::<Int32>::read_value(alloc, tag, buf, ctx)?;
-                *slot = Some(Method::Cash(it));
+                drop(slot.replace(Method::Cash(it)));
                 Ok(())
             }
             4 => match slot {
@@ -66,7 +66,7 @@ impl OneOf for Method {
                 }
                 _ => {
                     let it = Nested::<Transfer>::read_value(alloc, tag, buf, ctx)?;
-                    *slot = Some(Method::Transfer(it));
+                    drop(slot.replace(Method::Transfer(it)));
                     Ok(())
                 }
             },
