@@ -167,12 +167,13 @@ def answers_of_groups(world, one):
     made = [f"use Rattle.{facts}.{{here, not_here}}", f"use {goals} as goal"]
     last = len(one.groups()) - 1
     for at in range(last + 1):
-        name = f"returns-else-has_{at}" if at == last else f"returns-then-has_{at + 1}"
+        name = "returns" if at == last else f"returns-then-has_{at + 1}"
         term = f"c.take_{at + 1}.ensures"
         if at < last:
             term = f"here _ (rw number at c.has_{at + 1}.ensures) c.if-has_{at + 1}.true {term}"
         for before in reversed(range(at)):
-            term = f"not_here _ (rw number at c.has_{before + 1}.ensures) c.if-has_{before + 1}.false ({term})"
+            behind = term if term.startswith("c.") else f"({term})"
+            term = f"not_here _ (rw number at c.has_{before + 1}.ensures) c.if-has_{before + 1}.false {behind}"
         made += ["", f"pub {name} : goal.{name}", f"{name} c =", "    let number = c.field_number-number.ensures in", f"    {term}"]
     return file, "\n".join(made) + "\n"
 
