@@ -97,7 +97,8 @@ def head(one, crate, module, over):
         made += ["ghost use Rattle.buffa_fields.specs.declared.meaning.Or.TheVariants.{Other, This};"]
     if in_groups:
         home = "buffa.specs.Wire" if over == "buffa" else "buffa_wire.specs.BudgetLeft"
-        made = ["ghost use Rattle.std.specs.Prelude.{◌≡◌, ◌==◌, ◌||◌, false};", "ghost use Rattle.std.specs.Option.{option_map};", f"ghost use Rattle.{home}.{{budget_left}};"] + made
+        more = ["std.specs.Prelude.{◌≡◌, ◌==◌, ◌||◌, false}", "std.specs.Option.{option_map}", f"{home}.{{budget_left}}"]
+        made = [f"ghost use Rattle.{it};" for it in more] + made
     return made + [f"ghost use {path}.{{{', '.join(sorted(variants))}}};", ""]
 
 
