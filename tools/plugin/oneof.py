@@ -5,7 +5,7 @@ from depths import own_depth
 from names import TAKEN, variant
 
 # As many cases of one oneof are written.
-MOST_CASES = 64
+MOST_CASES = 40
 # As many cases stand one after the other. Of more, some stand together: each is found in few steps, and such a group has a function of its
 # own that takes its fields.
 MOST_APART = 12
