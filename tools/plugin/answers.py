@@ -11,7 +11,8 @@ MOST_REFUSED = 4
 
 
 def to_answer(message):
-    """The places of the members that hold messages and whose call of `visit` is answered: all but the first, and all behind a block."""
+    """The places of the members that hold messages and whose call of `visit` is answered: all but the first, that too where many stand before it,
+    and all behind a block."""
     found, is_second, is_behind = [], False, False
     for at, member in enumerate(pieces(message)):
         if is_behind and lends(message, member):
@@ -19,7 +20,7 @@ def to_answer(message):
         is_behind = is_behind or isinstance(member, Block)
         if is_behind or not holds_messages(message, member):
             continue
-        if is_second:
+        if is_second or at > MOST_SEEN:
             found.append(at)
         is_second = True
     return found
