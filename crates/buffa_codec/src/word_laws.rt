@@ -4,7 +4,6 @@ ghost use Rattle.std.specs.Prelude.{◌≡◌, ◌≢◌, ◌↔◌, ◌<◌, �
 ghost use Rattle.std.specs.Prelude.{◌^◌, Err, None, Ok, Option, Some, filter, length, map, not, take};
 ghost use Rattle.std.specs.Option.{option_map, option_or};
 ghost use Rattle.std.specs.Str.{is_utf8};
-ghost use Rattle.std.specs.declared.alloc.AllocError.{AllocError};
 ghost use Rattle.buffa_bytes.specs.declared.error.DecodeError.{DecodeError};
 ghost use Rattle.buffa_bytes.specs.declared.error.DecodeError.TheVariants.{InvalidUtf8, OutOfMemory as NoMemory, WireTypeMismatch};
 ghost use Rattle.buffa_bytes.specs.declared.error.EncodeError.{EncodeError};
@@ -93,7 +92,7 @@ pub fn lists_are_written_so<C: SingularCodec, P: PackableCodec>()
 
 /// What is written stands behind what was there, and what is refused leaves a beginning that isn't all. A value is
 /// refused for its own reason, or for want of memory; and no spare capacity is lost.
-pub fn additions_are_these<C: SingularCodec>()
+pub fn additions_are_these<C: SingularCodec, T, E>()
     ensures all { (old more new : List (ℕ × Datum)) → Adds old more new ↔ (new ≡ old ++ more) }
     ensures some { (old more new : List (ℕ × Datum)) → AddsSome old more new
         ↔ ((k : ℕ) × (k < length more) × (new ≡ old ++ take k more)) }
@@ -102,15 +101,15 @@ pub fn additions_are_these<C: SingularCodec>()
     ensures some_values { (old new : List C.Value) (more : List C.Value.Meaning) →
         AddsSomeValues C.Value.meaning old more new
         ↔ ((k : ℕ) × (k < length more) × (map C.Value.meaning new ≡ map C.Value.meaning old ++ take k more)) }
-    ensures written { (why : Option EncodeError) → Refuses {T = Unit {0}} (Ok tt) why ↔ (why ≡ None) }
-    ensures refused { (e : EncodeError) (why : Option EncodeError) → Refuses {T = Unit {0}} (Err e) why
+    ensures written { (x : T) (why : Option EncodeError) → Refuses (Ok x) why ↔ (why ≡ None) }
+    ensures refused { (e : EncodeError) (why : Option EncodeError) → Refuses {T = T} (Err e) why
         ↔ ((e ≡ OutOfMemory) ⊎ (why ≡ Some e)) }
     ensures capacity { (old new : Held) → KeepsCapacity old new
         ↔ (length old.records + old.spare ≤ length new.records + new.spare) }
-    ensures room { (room left : ℕ) (more : List C.Value.Meaning) →
-        UsesVecRoom {T = Unit {0}} {E = AllocError} (Ok tt) room more left ↔ (room ≤ left + length more) }
-    ensures no_room { (e : AllocError) (room left : ℕ) (more : List C.Value.Meaning) →
-        UsesVecRoom {T = Unit {0}} {E = AllocError} (Err e) room more left ↔ (room < length more) }
+    ensures room { (x : T) (room left : ℕ) (more : List C.Value.Meaning) →
+        UsesVecRoom {T = T} {E = E} (Ok x) room more left ↔ (room ≤ left + length more) }
+    ensures no_room { (e : E) (room left : ℕ) (more : List C.Value.Meaning) →
+        UsesVecRoom {T = T} {E = E} (Err e) room more left ↔ (room < length more) }
 {}
 
 /// The fault of a record of a number is that it has another wire type, and which it has and which is read; of a string

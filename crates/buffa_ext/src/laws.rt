@@ -37,8 +37,8 @@ pub use crate::strict_laws::{
     strict_messages_are_pinned, strict_number_lists_are_pinned, strict_values_are_pinned,
 };
 pub use crate::word_laws::{
-    answers_with_a_default_are_these, groups_are_these, histories_are_these,
-    merged_messages_are_these, replays_are_refused_so, steps_are_these,
+    answers_of_codecs_are_these, answers_with_a_default_are_these, groups_are_these,
+    histories_are_these, merged_messages_are_these, replays_are_refused_so, steps_are_these,
 };
 use buffa_codec::{ExtensionCodec, LastWins, Repeated, SingularCodec};
 use buffa_wire::{Message, MessageSpec};
@@ -53,9 +53,11 @@ pub fn equal_steps_are_one()
     ensures fault { SameIsOne ⟦<ReplayFault as PartialEq>⟧.eq }
 {}
 
-/// What `clone` makes of a fault is the same again, and it doesn't fail. It leaves nothing out.
+/// What `clone` makes of a fault, or of a default that isn't declared, is the same again, and it doesn't fail. It leaves
+/// nothing out.
 pub fn clones_are_these()
-    ensures { IsCopied ⟦<ReplayFault as Clone>⟧.is_clone ⟦<ReplayFault as Clone>⟧.is_infallible }
+    ensures fault { IsCopied ⟦<ReplayFault as Clone>⟧.is_clone ⟦<ReplayFault as Clone>⟧.is_infallible }
+    ensures no_default { IsCopied ⟦<NoDefault as Clone>⟧.is_clone ⟦<NoDefault as Clone>⟧.is_infallible }
 {}
 
 /// The records of a number after steps are what its last step says.
@@ -152,8 +154,31 @@ pub fn messages_are_read<M: Message>()
         ⟦<GroupCodec<M> as ExtensionCodec>⟧.refusal v ≡ group_refusal (M.encoding v) }
 {}
 
+/// The same of a message in records of any kind, by what the kind says a record holds, which record holds an encoding, which
+/// take memory, and why none holds one.
+pub fn messages_in_records_are_read<K: MessageRecord, M: Message>()
+    ensures read { (ds : List Datum) (o : Option M.Meaning) → ⟦<MessageIn<K, M> as ExtensionCodec>⟧.reads ds o
+        ↔ (o ≡ message_of (M.merged 100) (M.cost 100) M.blank_is defaults (filter_map K.held ds)) }
+    ensures records { (v : M.Meaning) → ⟦<MessageIn<K, M> as ExtensionCodec>⟧.recs v ≡ K.holder (M.encoding v) ∷ [] }
+    ensures normal { (v : M.Meaning) → ⟦<MessageIn<K, M> as ExtensionCodec>⟧.normal v
+        ↔ ((M.normal v × (M.levels v ≤ 100) × Fits (records_of (M.records v)))
+        × Covers defaults (cost_all (M.cost 100) (filter_map K.held (K.holder (M.encoding v) ∷ [])))) }
+    ensures holds { (v : M.Meaning) (o : Option M.Meaning) → ⟦<MessageIn<K, M> as ExtensionCodec>⟧.holds v o
+        ↔ (o ≡ Some v) }
+    ensures asks { (ds : List Datum) → ⟦<MessageIn<K, M> as ExtensionCodec>⟧.asks ds
+        ↔ ((front : List Datum) × (d : Datum) × (back : List Datum) × (mid : M.Meaning) × (left : BudgetLeft)
+        × (ds ≡ front ++ d ∷ back) × ((merged_all (M.merged 100) M.blank_is (encodings_in K.held front) ≡ Some mid)
+        × Pays defaults (cost_all (M.cost 100) (encodings_in K.held front)) left) × K.asks 100 d) }
+    ensures too_large { (v : M.Meaning) → 2 ^ 31 ≤ length (M.encoding v) → ⟦<MessageIn<K, M> as ExtensionCodec>⟧.refusal v
+        ≡ Some MessageTooLarge }
+    ensures written { (v : M.Meaning) → length (M.encoding v) < 2 ^ 31 → ⟦<MessageIn<K, M> as ExtensionCodec>⟧.refusal v
+        ≡ K.refusal (M.encoding v) }
+    ensures fits { (v : M.Meaning) → ⟦<MessageIn<K, M> as ExtensionCodec>⟧.fits v
+        ↔ ((length (M.encoding v) < 2 ^ 31) × (K.refusal (M.encoding v) ≡ None)) }
+{}
+
 /// One record of bytes is read and written as a message, at any depth and of any budget, and so is an element
-/// of a list.
+/// of a list. A value is refused exactly where its encoding is 2^31 bytes long or longer.
 pub fn message_records_are_read<M: Message>()
     ensures one { (n : ℕ) (b : BudgetLeft) (d : Datum) → ⟦<MessageCodec<M> as SingularCodec>⟧.one n b d
         ≡ message_of (M.merged n) (M.cost n) M.blank_is b (encodings_in bytes_held (d ∷ [])) }
@@ -169,6 +194,12 @@ pub fn message_records_are_read<M: Message>()
         ≡ encoding_refusal (λ t. None) (M.encoding v) }
     ensures fits { (v : M.Meaning) → ⟦<MessageCodec<M> as SingularCodec>⟧.fits v
         ↔ (encoding_refusal (λ t. None) (M.encoding v) ≡ None) }
+    ensures too_large { (v : M.Meaning) → 2 ^ 31 ≤ length (M.encoding v) →
+        ⟦<MessageCodec<M> as SingularCodec>⟧.refusal v ≡ Some MessageTooLarge }
+    ensures written { (v : M.Meaning) → length (M.encoding v) < 2 ^ 31 →
+        ⟦<MessageCodec<M> as SingularCodec>⟧.refusal v ≡ None }
+    ensures short { (v : M.Meaning) → ⟦<MessageCodec<M> as SingularCodec>⟧.fits v
+        ↔ (length (M.encoding v) < 2 ^ 31) }
     ensures normal { (v : M.Meaning) → ⟦<MessageCodec<M> as SingularCodec>⟧.normal v
         ↔ (M.normal v × (M.levels v ≤ 100) × Fits (records_of (M.records v))) }
     ensures back { (v : M.Meaning) → ⟦<MessageCodec<M> as SingularCodec>⟧.back v ≡ v }
@@ -176,7 +207,7 @@ pub fn message_records_are_read<M: Message>()
     ensures packed { (bs : List ℕ) → ⟦<MessageCodec<M> as SingularCodec>⟧.packed bs ≡ [] }
 {}
 
-/// The same of a group.
+/// The same of a group, where a shorter encoding is refused too if no records are read of it.
 pub fn group_records_are_read<M: Message>()
     ensures one { (n : ℕ) (b : BudgetLeft) (d : Datum) → ⟦<GroupCodec<M> as SingularCodec>⟧.one n b d
         ≡ message_of (M.merged n) (M.cost n) M.blank_is b (encodings_in group_held (d ∷ [])) }
@@ -192,6 +223,12 @@ pub fn group_records_are_read<M: Message>()
         ≡ encoding_refusal group_refusal (M.encoding v) }
     ensures fits { (v : M.Meaning) → ⟦<GroupCodec<M> as SingularCodec>⟧.fits v
         ↔ (encoding_refusal group_refusal (M.encoding v) ≡ None) }
+    ensures too_large { (v : M.Meaning) → 2 ^ 31 ≤ length (M.encoding v) →
+        ⟦<GroupCodec<M> as SingularCodec>⟧.refusal v ≡ Some MessageTooLarge }
+    ensures written { (v : M.Meaning) → length (M.encoding v) < 2 ^ 31 →
+        ⟦<GroupCodec<M> as SingularCodec>⟧.refusal v ≡ group_refusal (M.encoding v) }
+    ensures short { (v : M.Meaning) → ⟦<GroupCodec<M> as SingularCodec>⟧.fits v
+        ↔ ((length (M.encoding v) < 2 ^ 31) × (group_refusal (M.encoding v) ≡ None)) }
     ensures normal { (v : M.Meaning) → ⟦<GroupCodec<M> as SingularCodec>⟧.normal v
         ↔ (M.normal v × (M.levels v ≤ 100) × Fits (records_of (M.records v))) }
     ensures back { (v : M.Meaning) → ⟦<GroupCodec<M> as SingularCodec>⟧.back v ≡ v }

@@ -10,7 +10,7 @@ ghost use Rattle.buffa_wire.specs.BudgetLeft.{BudgetLeft, Covers, Lacks, Pays, P
 ghost use Rattle.buffa_wire.specs.Encoding.{fields_encoding};
 ghost use Rattle.buffa_wire.specs.Message.{BeginsField};
 ghost use Rattle.buffa_wire.specs.RecordReading.{list_at};
-ghost use Rattle.buffa_wire.specs.Records.{Datum, Held, Records, bytes, fixed32, fixed64, group, records_of, varint};
+ghost use Rattle.buffa_wire.specs.Records.{Datum, Held, Records, bytes, fixed32, fixed64, group, no_records, records_of, varint};
 ghost use Rattle.buffa_wire.specs.View.{datum_of};
 ghost use Rattle.buffa_codec.specs.Decoded.{bytes_held};
 ghost use Rattle.buffa_codec.specs.Sub.{sub};
@@ -23,7 +23,7 @@ ghost use Rattle.buffa_ext.specs.declared.steps.Step.TheVariants.{Clear, Set};
 
 use crate::descriptor::Declared;
 use buffa_codec::{ExtensionCodec, LastWins};
-use buffa_wire::Message;
+use buffa_wire::{Blank, Message};
 
 /// A set takes the records of its number out and puts its own behind the others; a clear takes them out. Steps are taken
 /// one after the other. An extension is there where a record has its number. A value may be set that isn't read back, where
@@ -92,6 +92,25 @@ pub fn answers_with_a_default_are_these<C: LastWins, D: Declared<C::Value>>()
         ↔ (⟦<C as ExtensionCodec>⟧.asks ds ⊎ (⟦<C as ExtensionCodec>⟧.reads ds None × D.may_refuse s)) }
 {}
 
+/// The same of any codec that answers with a value or none, of the records of one number among others.
+pub fn answers_of_codecs_are_these<
+    V: Blank,
+    C: ExtensionCodec<Value = V, Output = Option<V>>,
+    D: Declared<V>,
+>()
+    ensures number { (n : ℕ) (held : Held) (o : Option V) → ReadsNumber C.reads C.answer n held o
+        ↔ C.reads (map (λ r. r.1) (filter (λ r. r.0 == n) held.records)) (C.answer o) }
+    ensures value { (n : ℕ) (held : Held) (s : D) (v : V) → IsDefaulted (ReadsNumber C.reads C.answer n held)
+        (D.may_declare s) (V.meaning v ≡ V.blank_is) v
+        ↔ (C.reads (map (λ r. r.1) (filter (λ r. r.0 == n) held.records)) (C.answer (Some v))
+        ⊎ (C.reads (map (λ r. r.1) (filter (λ r. r.0 == n) held.records)) (C.answer None)
+        × (D.may_declare s (Some v) ⊎ (D.may_declare s None × (V.meaning v ≡ V.blank_is))))) }
+    ensures refused { (n : ℕ) (held : Held) (s : D) → IsRefused (C.asks (sub n held.records))
+        (ReadsNumber C.reads C.answer n held) (D.may_refuse s)
+        ↔ (C.asks (map (λ r. r.1) (filter (λ r. r.0 == n) held.records))
+        ⊎ (C.reads (map (λ r. r.1) (filter (λ r. r.0 == n) held.records)) (C.answer None) × D.may_refuse s)) }
+{}
+
 /// The encodings in records are merged one after the other, and their costs are added. They are a message where there is one at
 /// all, what they cost is left, and each is merged.
 pub fn merged_messages_are_these<M: Message>()
@@ -116,7 +135,7 @@ pub fn merged_messages_are_these<M: Message>()
 {}
 
 /// A group holds the encoding of its records, and no other record is a group. The group of an encoding has the records that
-/// are read of it, 100 levels deep and a million at most; where none are read it has no group, for that fault.
+/// are read of it, 100 levels deep and a million at most; where none are read it is empty, and refused for that fault.
 pub fn groups_are_these()
     ensures held { (rs : Records) → group_held (group rs) ≡ Some (fields_encoding rs) }
     ensures others { (x : ℕ) (b : List ℕ) → (group_held (varint x) ≡ None) × (group_held (fixed32 x) ≡ None)
@@ -124,7 +143,7 @@ pub fn groups_are_these()
     ensures read { (t : List ℕ) (rs : List (ℕ × Datum)) → list_at 100 1000000 t ≡ Ok rs →
         (group_of t ≡ group (records_of rs)) × (group_refusal t ≡ None) }
     ensures refused { (t : List ℕ) (e : DecodeError) → list_at 100 1000000 t ≡ Err e →
-        group_refusal t ≡ Some (GroupRefused e) }
+        (group_of t ≡ group no_records) × (group_refusal t ≡ Some (GroupRefused e)) }
     ensures begins { (b : List ℕ) → BeginsFieldIn bytes_held (bytes b) ↔ BeginsField b }
     ensures begins_none { (x : ℕ) (rs : Records) → (BeginsFieldIn bytes_held (varint x) → ⊥)
         × (BeginsFieldIn bytes_held (fixed32 x) → ⊥) × (BeginsFieldIn bytes_held (fixed64 x) → ⊥)

@@ -13,6 +13,7 @@ use Rattle.buffa_wire.specs.BudgetLeft.{BudgetLeft, Covers, Lacks, PaysAtMost, p
 use Rattle.buffa_wire.specs.Takes.{IsTaken, Untaken}
 use Rattle.buffa_wire.specs.Pinned.{done, refusal}
 use Rattle.buffa_map.proofs.EntryLemmas.{entry_complete, entry_faulty}
+use Rattle.buffa_map.proofs.TailLemmas.{not_delimited}
 use Rattle.buffa_map.specs.Codec.{Reading}
 use Rattle.buffa_map.specs.Entry.{EntryFault, FaultOf, IsEntry, inner_need, need_of}
 use Rattle.buffa_map.specs.Laws.{LimitsAreTrue}
@@ -94,7 +95,7 @@ module _ {K V X : Type 0} (r : Rules K V) (does : X → List ℕ → MapEntry K 
       spent : (q : Result (List ℕ × List ℕ) DecodeError) → delimited_at bs ≡ q → PaysAtMost s.left (entry_cost costs r.depth n LengthDelimited bs) after
       unfolding entry_cost
       spent (Err x) is =
-          let b = ap (λ (z : BudgetLeft). z.memory) (k.spent.unspent (rw is (λ h. cc))) in
+          let b = ap (λ (z : BudgetLeft). z.memory) (k.spent.unspent (not_delimited bs x is)) in
           let c = rw is at least in
           rw is (omega (arith, most), omega (arith, c), omega (arith, b, units), omega (arith, b, units))
       spent (Ok (e, more)) is =

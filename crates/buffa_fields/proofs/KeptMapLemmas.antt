@@ -1,9 +1,9 @@
 -- What is proved of entries of a map field that are put or put aside, or refused.
 use Rattle.std.proofs.Common.{◌≡◌, inl, inr, ℕ, Bool, List, Result, Ok, Err, refl, sym, ap, subst, ◌∙◌, arith}
 use Rattle.std.specs.Prelude.{OnErr}
+use Rattle.buffa_bytes.proofs.DelimitedLemmas.{delimited_taken}
 use Rattle.buffa_bytes.proofs.WireLemmas.{checked_same}
 use Rattle.buffa_bytes.specs.declared.error.DecodeError.{DecodeError}
-use Rattle.buffa_bytes.specs.declared.error.DecodeError.TheVariants.{OutOfMemory}
 use Rattle.buffa_bytes.specs.declared.wire_type.WireType.{WireType}
 use Rattle.buffa_bytes.specs.declared.wire_type.WireType.TheVariants.{LengthDelimited}
 use Rattle.buffa_bytes.specs.Front.{check_wire}
@@ -11,7 +11,7 @@ use Rattle.buffa_wire.specs.BudgetLeft.{BudgetLeft}
 use Rattle.buffa_wire.specs.Takes.{IsTaken}
 use Rattle.buffa_map.proofs.EntryLemmas.{entry_complete}
 use Rattle.buffa_map.specs.Codec.{Reading}
-use Rattle.buffa_map.specs.Entry.{EntryFault, EntryFieldsTakeMemory}
+use Rattle.buffa_map.specs.Entry.{EntryFault}
 use Rattle.buffa_map.specs.Merge.{EntryTakesMemory, MergesEntry, RefusesEntry, Rules, State}
 use Rattle.buffa_map.proofs.ReaderRules.{keeping}
 use Rattle.buffa_map.specs.Laws.{LimitsAreTrue}
@@ -45,10 +45,10 @@ module _ {K V : Type 0} (key : Reading K) (val : Reading V) (same : K → K → 
 
   -- ---- where it takes memory
   pub kept_full : (left : BudgetLeft) → check_wire n LengthDelimited w ≡ Ok tt → EntryTakesMemory by left bs → KeptPairTakesMemory key val cost left.unknown d n w bs
-  kept_full left checked (e, rest, is, inl copied) = (checked_same n LengthDelimited w checked, e, rest, is, inl (copied.1, copied.2))
-  kept_full left checked (e, rest, is, inr (enough, inl field)) = (checked_same n LengthDelimited w checked, e, rest, is, inr (inl field))
-  kept_full left checked (e, rest, is, inr (enough, inr (s, entry, inl known))) = (checked_same n LengthDelimited w checked, e, rest, is, inr (inr (s, entry, inl known)))
-  kept_full left checked (e, rest, is, inr (enough, inr (s, entry, inr kept))) = (checked_same n LengthDelimited w checked, e, rest, is, inr (inr (s, entry, inr (omega (arith, kept.1)))))
+  kept_full left checked (e, rest, is, inl copied) = (checked_same n LengthDelimited w checked, e, rest, delimited_taken bs e rest is, inl (copied.1, copied.2))
+  kept_full left checked (e, rest, is, inr (enough, inl field)) = (checked_same n LengthDelimited w checked, e, rest, delimited_taken bs e rest is, inr (inl field))
+  kept_full left checked (e, rest, is, inr (enough, inr (s, entry, inl known))) = (checked_same n LengthDelimited w checked, e, rest, delimited_taken bs e rest is, inr (inr (s, entry, inl known)))
+  kept_full left checked (e, rest, is, inr (enough, inr (s, entry, inr kept))) = (checked_same n LengthDelimited w checked, e, rest, delimited_taken bs e rest is, inr (inr (s, entry, inr (omega (arith, kept.1)))))
 
   -- ---- what is told of a refused one
   pub kept_other : (ps : List (K × V)) (left : BudgetLeft) (f e : DecodeError) → check_wire n LengthDelimited w ≡ Err f → f ≡ e → RefusesKeptPair key val cost d ps n w bs left e ps

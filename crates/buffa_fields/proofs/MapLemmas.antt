@@ -1,5 +1,6 @@
 -- What is proved of map fields in messages: of what is taken, and of sizes and encodings.
 use Rattle.std.proofs.Common.{◌≡◌, inl, inr, ℕ, ◌≤◌, Bool, true, false, cond, List, ◌∷◌, ◌++◌, length, Result, Ok, Err, refl, sym, ap, subst, ◌∙◌, arith, length-append}
+use Rattle.buffa_bytes.proofs.DelimitedLemmas.{delimited_taken}
 use Rattle.buffa_bytes.specs.declared.error.DecodeError.{DecodeError}
 use Rattle.buffa_bytes.specs.declared.error.DecodeError.TheVariants.{OutOfMemory}
 use Rattle.buffa_bytes.specs.Front.{check_wire}
@@ -11,7 +12,7 @@ use Rattle.buffa_wire.proofs.ByValueLemmas.{length_cut, write_cut}
 use Rattle.buffa_wire.proofs.CostLemmas.{plus_nothing}
 use Rattle.buffa_wire.specs.Encoding.{records_encoding}
 use Rattle.buffa_map.specs.Codec.{Reading, Writing}
-use Rattle.buffa_map.specs.Entry.{EntryFault, need_of, EntryFieldsTakeMemory}
+use Rattle.buffa_map.specs.Entry.{EntryFault, need_of}
 use Rattle.buffa_map.specs.Laws.{LimitsAreTrue, SizeIsLength}
 use Rattle.buffa_map.specs.Merge.{EntryTakesMemory, MergesEntry, RefusesEntry, State}
 use Rattle.buffa_map.proofs.ReaderRules.{dropping}
@@ -44,8 +45,8 @@ module _ {K V : Type 0} (key : Reading K) (val : Reading V) (same : K → K → 
   -- ---- where it takes memory
   pub map_full : (d n : ℕ) (w : WireType) (bs : List ℕ) (left : BudgetLeft) → check_wire n LengthDelimited w ≡ Ok tt → EntryTakesMemory (dropping key val same keeps d 0 cost) left bs → PairTakesMemory key val d n w bs
   map_full d n w bs left checked (e, rest, is, inl copied) = let no = copied.0 in cc
-  map_full d n w bs left checked (e, rest, is, inr (enough, inl field)) = (checked_same n LengthDelimited w checked, e, rest, is, inl field)
-  map_full d n w bs left checked (e, rest, is, inr (enough, inr (s, entry, inl known))) = (checked_same n LengthDelimited w checked, e, rest, is, inr (s, entry, known))
+  map_full d n w bs left checked (e, rest, is, inr (enough, inl field)) = (checked_same n LengthDelimited w checked, e, rest, delimited_taken bs e rest is, inl field)
+  map_full d n w bs left checked (e, rest, is, inr (enough, inr (s, entry, inl known))) = (checked_same n LengthDelimited w checked, e, rest, delimited_taken bs e rest is, inr (s, entry, known))
   map_full d n w bs left checked (e, rest, is, inr (enough, inr (s, entry, inr kept))) = let no = kept.0 in cc
 
   -- it isn't put, where it is of another wire type

@@ -8,7 +8,7 @@ use Rattle.std.specs.Prelude.{◌↔◌, map}
 use Rattle.buffa_bytes.proofs.ContentLemmas.{content_complete}
 use Rattle.buffa_bytes.proofs.DelimitedLemmas.{delimited_complete, delimited_sound}
 use Rattle.buffa_bytes.proofs.FieldLemmas.{same_refl, same_false}
-use Rattle.buffa_bytes.proofs.SequenceLemmas.{along_err, along_ok, err_same, ok_same, parse_leads}
+use Rattle.buffa_bytes.proofs.SequenceLemmas.{along_err, along_ok, err_same, has_byte, ok_same, parse_leads}
 use Rattle.buffa_bytes.proofs.StepLemmas.{agree_ok}
 use Rattle.buffa_bytes.proofs.WireLemmas.{checked_same}
 use Rattle.buffa_bytes.specs.Content.{Content, HasContent, content_at}
@@ -20,10 +20,10 @@ use Rattle.buffa_bytes.specs.Varint.{IsVarint}
 use Rattle.buffa_bytes.specs.declared.error.DecodeError.{DecodeError}
 use Rattle.buffa_bytes.specs.declared.wire_type.WireType.{WireType}
 use Rattle.buffa_bytes.specs.declared.wire_type.WireType.TheVariants.{EndGroup, LengthDelimited, StartGroup}
-use Rattle.buffa_wire.specs.BudgetLeft.{BudgetLeft, nothing, plus, units}
+use Rattle.buffa_wire.specs.BudgetLeft.{BudgetLeft, need_by, nothing, plus, units}
 use Rattle.buffa_wire.specs.ByField.{value_of}
 use Rattle.buffa_wire.specs.Encoding.{encodings}
-use Rattle.buffa_wire.specs.Message.{merged_in}
+use Rattle.buffa_wire.specs.Message.{cost_of_payload, merged_in}
 use Rattle.buffa_map.proofs.EntryLemmas.{entry_complete, entry_sound, value_complete}
 use Rattle.buffa_map.specs.Codec.{Reading, value_at}
 use Rattle.buffa_map.specs.Entry.{IsEntry, entry_of}
@@ -199,6 +199,21 @@ module _ {V : Type 0} (codec : Reading V) (d : ℕ) where
         let one : element_at codec d vs (p ++ b) ≡ Ok (vs ++ x.0 ∷ [], b) = rw reads refl in
         rw (apart, whole_is t (p ++ b) h, whole_is s b k) (ap value_of (elements_next codec d vs (vs ++ x.0 ∷ []) (p ++ b) b some one))
 
+    pub broken_is_not_packed : (t b : List ℕ) (e : DecodeError) → b ≢ [] → value_at codec d codec.blank b ≡ Err e → IsVarint t (length b) → elements_taken codec d vs n LengthDelimited (t ++ b) ≡ None
+    unfolding elements_taken elements_in
+    broken_is_not_packed t b e some bad h =
+        let one : element_at codec d vs b ≡ Err e = rw bad refl in
+        rw (apart, whole_is t b h) (ap value_of (along_err (element_at codec d) (element_falls codec d) vs b e (has_byte b some) one))
+
+  -- an element is refused for its payload
+  pub element_fault : (vs : List V) (bs : List ℕ) (e : DecodeError) → element_at codec d vs bs ≡ Err e → value_at codec d codec.blank bs ≡ Err e
+  element_fault vs bs e h = at (value_at codec d codec.blank bs) refl h
+    where
+      at : (r : Result ((V × Bool) × List ℕ) DecodeError) → value_at codec d codec.blank bs ≡ r →
+          (r >>= (λ y. let z : List V × List ℕ = (vs ++ y.0.0 ∷ [], y.1) in Ok z)) ≡ Err e → value_at codec d codec.blank bs ≡ Err e
+      at (Ok y) is h = cc
+      at (Err f) is h = is ∙ ap (λ z. Err z) (err_same h)
+
 -- ---- entries of maps
 module _ {K V X : Type 0} (key : Reading K) (val : Reading V) (does : X → List ℕ → MapEntry K V → X) (d n : ℕ) (v : X) where
   -- so many bytes are an entry, which does what it does
@@ -249,11 +264,43 @@ pub elements_cost : (each : ℕ) (cost : ℕ → List ℕ → BudgetLeft) (d n :
 unfolding messages_cost
 elements_cost each cost d n t b more h = rw (is_there cost d n t b more h) refl
 
+-- it costs nothing where no level is left, where no length and so many bytes are there, and of another wire type; an element costs its units
+-- beside that
+module _ (cost : ℕ → List ℕ → BudgetLeft) (n : ℕ) where
+  pub no_level_cost : (bs : List ℕ) → message_cost cost 0 n LengthDelimited bs ≡ nothing
+  unfolding message_cost
+  no_level_cost bs = at (delimited_at bs)
+    where
+      at : (r : Result (List ℕ × List ℕ) DecodeError) → cost_of_payload cost 0 r ≡ nothing
+      at (Ok p) = refl
+      at (Err e) = refl
+
+  pub no_bytes_cost : (d : ℕ) (bs : List ℕ) (e : DecodeError) → delimited_at bs ≡ Err e → message_cost cost d n LengthDelimited bs ≡ nothing
+  unfolding message_cost
+  no_bytes_cost d bs e h = ap (cost_of_payload cost d) h
+
+  pub wire_cost : (d : ℕ) (w : WireType) (bs : List ℕ) → w ≢ LengthDelimited → message_cost cost d n w bs ≡ nothing
+  unfolding message_cost
+  wire_cost d w bs other = rw (same_false LengthDelimited w other) refl
+
+  module _ (each d : ℕ) where
+    pub units_beside : (bs : List ℕ) → messages_cost each cost d n LengthDelimited bs ≡ plus (units each) (message_cost cost d n LengthDelimited bs)
+    unfolding message_cost messages_cost
+    units_beside bs = refl
+
+    pub list_wire_cost : (w : WireType) (bs : List ℕ) → w ≢ LengthDelimited → messages_cost each cost d n w bs ≡ nothing
+    unfolding messages_cost
+    list_wire_cost w bs other = rw (same_false LengthDelimited w other) refl
+
 -- so does an entry what its bytes cost; fields of other wire types cost nothing
 module _ (costs : ℕ → List ℕ → BudgetLeft) (d n : ℕ) where
   pub entry_costs : (t e more : List ℕ) → IsVarint t (length e) → entry_cost costs d n LengthDelimited ((t ++ e) ++ more) ≡ costs d e
   unfolding entry_cost
   entry_costs t e more h = rw (is_there costs d n t e more h) refl
+
+  pub no_entry_costs : (bs : List ℕ) (f : DecodeError) → delimited_at bs ≡ Err f → entry_cost costs d n LengthDelimited bs ≡ nothing
+  unfolding entry_cost
+  no_entry_costs bs f h = ap (λ r. need_by r (λ e. costs d e.0)) h
 
   pub others_are_free : (w : WireType) (bs : List ℕ) → w ≢ LengthDelimited → entry_cost costs d n w bs ≡ nothing
   unfolding entry_cost

@@ -2,6 +2,7 @@
 use Rattle.std.proofs.Common.{arith, ◌≡◌, ◌≢◌, ℕ, ℤ, suc, ◌-◌, List, [], ◌++◌, Option, Some, None, Ok, Err, refl, ap, ◌∙◌}
 use Rattle.std.specs.Option.{option_map}
 use Rattle.buffa_bytes.specs.Field.{IsTag, Payload, PayloadFault, SomeField, TagFault}
+use Rattle.buffa_bytes.specs.Front.{varint_at}
 use Rattle.buffa_bytes.specs.Join.{Join}
 use Rattle.buffa_bytes.specs.declared.error.DecodeError.{DecodeError}
 use Rattle.buffa_bytes.specs.declared.wire_type.WireType.{WireType}
@@ -13,6 +14,7 @@ use Rattle.buffa_wire.specs.Records.{Datum}
 use Rattle.buffa_wire.specs.Takes.{answer}
 use Rattle.buffa_wire.proofs.TakesLemmas.{framed_at}
 use Rattle.buffa_fields.specs.KeptLists.{kept_numbers_cost, kept_numbers_taken, numbers_cost, varints}
+use Rattle.buffa_fields.specs.KeptNumbers.{kept_number_cost}
 use Rattle.buffa_fields.specs.Lists.{elements_taken}
 use Rattle.buffa_fields.specs.facts.GroupFacts.{body_past, body_whole, turn}
 use Rattle.buffa_fields.specs.Groups.{group_body, group_cost}
@@ -69,3 +71,11 @@ module _ (e : Numbers) (d n : ℕ) (w : WireType) where
   refused_numbers p more v kept h none =
       ap (λ r. need_by r (λ z. numbers_cost e n z.0)) (framed_at (elements_taken varints) d [] n w p more h)
       ∙ ap (λ o. need_by (answer more o) (λ z. numbers_cost e n z.0)) (none_made _ (elements_taken varints d [] n w p) none)
+
+-- those of one that may be absent
+module _ (e : Numbers) (d n : ℕ) where
+  pub no_varint : (bs : List ℕ) (f : DecodeError) → varint_at bs ≡ Err f → kept_number_cost e d n Varint bs ≡ nothing
+  no_varint bs f h = rw h refl
+
+  pub no_wire : (w : WireType) (bs : List ℕ) → w ≢ Varint → kept_number_cost e d n w bs ≡ nothing
+  no_wire w bs other = rw (same_false Varint w other) refl

@@ -11,15 +11,18 @@ ghost use Rattle.buffa_fields.specs.KeptMaps.{IsUndeclaredAt};
 use crate::keeping::Keeping;
 use crate::map_member::MapOf;
 use crate::optional::Optional;
-use buffa_map::map_codec::{ClosedEnum, Int32};
+use buffa_map::map_codec::{ClosedEnum, Int32, MapValueDecode, Str};
 use buffa_wire::Enumeration;
 
-/// Under a map's number a length-delimited entry that isn't known, at whatever depth; under an enum's a varint whose number is
-/// undeclared.
+/// Under a map's number a length-delimited entry that isn't known, at whatever depth, whether its keys are numbers or strings; under
+/// an enum's a varint whose number is undeclared.
 pub fn these_may_stand<E: Enumeration>()
     ensures entry { (d : ℕ) (e : List ℕ) →
         IsUndeclaredAt int32_reading (closed_reading (numbers E.of_number E.blank_is)) d e →
         ⟦<MapOf<Int32, ClosedEnum<E>> as Keeping>⟧.aside.IsAside (bytes e) }
+    ensures named_entry { (d : ℕ) (e : List ℕ) →
+        IsUndeclaredAt ⟦<Str as MapValueDecode>⟧.reading (closed_reading (numbers E.of_number E.blank_is)) d e →
+        ⟦<MapOf<Str, ClosedEnum<E>> as Keeping>⟧.aside.IsAside (bytes e) }
     ensures number { (k : ℕ) → ⟦<Optional<ClosedEnum<E>> as Keeping>⟧.aside.IsAside (varint k)
         ↔ ((numbers E.of_number E.blank_is).declares (int32_of k) ≡ false) }
 {}

@@ -1,6 +1,9 @@
 //! What a block of members is: its members, one after the other, as a message has them that names each by `field`.
 
-ghost use Rattle.std.specs.Prelude.{◌≡◌, ◌↔◌, ℕ, List, Option, false, true};
+ghost use Rattle.std.specs.Prelude.{◌≡◌, ◌↔◌, ℕ, List, Option, Result, false, true};
+ghost use Rattle.buffa_bytes.specs.declared.error.DecodeError.{DecodeError};
+ghost use Rattle.buffa_wire.specs.BudgetLeft.{BudgetLeft};
+ghost use Rattle.buffa_wire.specs.Records.{Datum};
 ghost use Rattle.buffa_fields.specs.BlockPinned.{SaysTheSame, as_keeping};
 ghost use Rattle.buffa_fields.specs.Blocks.{aloof, block, block_of, both_blocks, one, one_case, one_kept};
 ghost use Rattle.buffa_fields.specs.BothParts.{inward};
@@ -38,7 +41,7 @@ pub fn blocks_are_their_members<
 {}
 
 /// Two blocks in one: a value is normal, and its levels are exact, where this is so of each of the two; and a field may ask for memory
-/// where the one may that has its number.
+/// where the one may that has its number. That one takes the field, and the other is as it was, whether it is refused or not.
 pub fn blocks_in_two_are_these<B: MemberBlock, C: MemberBlock>()
     ensures normal { (same : C.members.keeps ≡ B.members.keeps) (v : _) →
         (both_blocks B.members.block (as_keeping same C.members.block)).part.normal v
@@ -54,4 +57,14 @@ pub fn blocks_in_two_are_these<B: MemberBlock, C: MemberBlock>()
         B.members.block.part.mine n ≡ false →
         (both_blocks B.members.block (as_keeping same C.members.block)).part.asks s d n w bs
         ↔ C.members.block.part.asks s d n w bs }
+    ensures taken { (same : C.members.keeps ≡ B.members.keeps) (d : ℕ) (old new : _) (kept keeps : List (ℕ × Datum)) (n : ℕ)
+        (w : _) (bs rest : List ℕ) (before after : BudgetLeft) (r : Result (Unit {0}) DecodeError) →
+        B.members.block.part.mine n ≡ true →
+        (both_blocks B.members.block (as_keeping same C.members.block)).part.Took d old kept n w bs before r new keeps after rest
+        ↔ (B.members.block.part.Took d old.0 kept n w bs before r new.0 keeps after rest × (new.1 ≡ old.1)) }
+    ensures other_taken { (same : C.members.keeps ≡ B.members.keeps) (d : ℕ) (old new : _) (kept keeps : List (ℕ × Datum))
+        (n : ℕ) (w : _) (bs rest : List ℕ) (before after : BudgetLeft) (r : Result (Unit {0}) DecodeError) →
+        B.members.block.part.mine n ≡ false →
+        (both_blocks B.members.block (as_keeping same C.members.block)).part.Took d old kept n w bs before r new keeps after rest
+        ↔ ((new.0 ≡ old.0) × C.members.block.part.Took d old.1 kept n w bs before r new.1 keeps after rest) }
 {}

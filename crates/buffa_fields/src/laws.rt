@@ -2,17 +2,18 @@
 //!
 //! The words of `MapCodec`, `MessageSpec` and `Scalar` that these cite are pinned by the laws of the crates below.
 
-ghost use Rattle.std.specs.Prelude.{◌≡◌, ◌↔◌, ◌⊎◌, ◌+◌, ◌<◌, ◌==◌, ◌&&◌, ◌||◌, ℕ, ℤ, List, [], ◌∷◌, ◌++◌, None, Some, Err, map, max, not, ◌^◌, false, true, cond, length};
+ghost use Rattle.std.specs.Prelude.{◌≡◌, ◌↔◌, ◌⊎◌, ◌+◌, ◌<◌, ◌==◌, ◌&&◌, ◌||◌, ℕ, ℤ, List, [], ◌∷◌, ◌++◌, None, Some, Err, map, max, not, false, true, cond, length};
 ghost use Rattle.std.specs.List.{AllByRecursion, IsDistinct};
 ghost use Rattle.std.specs.BTreeMap.{insert_entry};
 ghost use Rattle.std.specs.Map.{keys_of};
 ghost use Rattle.std.specs.Option.{option_map};
-ghost use Rattle.buffa_bytes.specs.Values.{delimited_encoding, int32_of};
+ghost use Rattle.buffa_bytes.specs.Values.{int32_of};
 ghost use Rattle.buffa_bytes.specs.Varint.{IsVarint};
 ghost use Rattle.buffa_wire.specs.BudgetLeft.{unknown_fields};
 ghost use Rattle.buffa_wire.specs.Enums.{numbers};
 ghost use Rattle.buffa_map.specs.Entry.{IsEntry};
 ghost use Rattle.buffa_map.specs.Run.{undeclared_record};
+ghost use Rattle.buffa_map.specs.declared.map_entry.MapEntry.{MapEntry};
 ghost use Rattle.buffa_fields.specs.Aside.{AllAside, aside_levels, beside_take};
 ghost use Rattle.buffa_fields.specs.KeptLists.{RefusesKeptNumbers, declared_of, kept_numbers_cost, kept_numbers_taken, undeclared_of, varints};
 ghost use Rattle.buffa_fields.specs.KeptMaps.{IsAsideEntry, KeptPairTakesMemory, RefusesKeptPair, aside_entry_levels, kept_pair_cost, kept_pair_taken};
@@ -73,9 +74,9 @@ pub use crate::record_laws::{
     packed_elements_are_appended, packed_elements_are_read, values_are_read,
 };
 pub use crate::refusal_laws::{
-    lists_take_these_wire_types, refused_elements_are_not_put, refused_entries_are_not_put,
-    refused_groups_stand, refused_kept_entries_are_not_put, refused_messages_stand,
-    refused_numbers_are_not_put, refused_values_stay,
+    lists_take_these_wire_types, refused_boxes_stand, refused_elements_are_not_put,
+    refused_entries_are_not_put, refused_groups_stand, refused_kept_entries_are_not_put,
+    refused_messages_stand, refused_numbers_are_not_put, refused_values_stay,
 };
 use crate::repeated::Repeated;
 use crate::repeated_group::RepeatedGroup;
@@ -83,7 +84,7 @@ use crate::repeated_nested::RepeatedNested;
 pub use crate::word_laws::{
     fields_are_taken_by_these, fields_that_are_not_declared_are_taken_so, keeping_members_take_so,
     maps_and_messages_fit_so, members_put_aside_so, members_take_so, numbers_are_put_aside_so,
-    tests_are_these, what_is_required_is_there,
+    refused_merges_are_these, tests_are_these, what_is_required_is_there,
 };
 pub use crate::written_laws::{
     entries_cost_what_is_in_them, fields_cost_what_is_in_them, groups_are_written,
@@ -410,7 +411,8 @@ pub fn members_are_these<M: Fields, N: Member>()
         ↔ ((get b ≡ get a) × M.layout.SameBut a b) }
 {}
 
-/// A map whose undeclared entries are put aside: each whole, as a record of the field's number.
+/// A map whose undeclared entries are put aside: each whole, as a record of the field's number. A payload that is taken is a length
+/// and so many bytes, which are an entry.
 pub fn keeping_maps_are_these<KC: MapCodec, VC: MapCodec>()
 where
     KC::Value: MapKey + Hash,
@@ -418,10 +420,15 @@ where
         (KeptPairTakesMemory KC.reading VC.reading (KC.COST + VC.COST)) (kept_pair_cost KC.reading VC.reading (KC.COST + VC.COST))
         (RefusesKeptPair KC.reading VC.reading (KC.COST + VC.COST)) (IsAsideEntry KC.reading VC.reading)
         (aside_entry_levels KC.reading VC.reading) }
-    ensures entry { (d n : ℕ) (v : _) (kept : List (ℕ × Datum)) (e : List ℕ) (s : _) → length e < 2 ^ 64 →
+    ensures entry { (d n : ℕ) (v : _) (kept : List (ℕ × Datum)) (t e : List ℕ) (s : _) → IsVarint t (length e) →
         IsEntry KC.reading VC.reading d e s → ⟦<MapOf<KC, VC> as Keeping>⟧.aside.takes d (v, kept) n
-        WireType.LengthDelimited (delimited_encoding e)
+        WireType.LengthDelimited (t ++ e)
         ≡ Some (stepped (put KC.Value.same) v s, kept ++ undeclared_record n e s.known) }
+    ensures only { (d n : ℕ) (v u : _) (w : _) (p : List ℕ) →
+        ⟦<MapOf<KC, VC> as Keeping>⟧.aside.takes d v n w p ≡ Some u →
+        (w ≡ WireType.LengthDelimited) × (t : List ℕ) × (e : List ℕ)
+        × (s : MapEntry KC.Value.Meaning VC.Value.Meaning) × IsVarint t (length e) × (p ≡ t ++ e)
+        × IsEntry KC.reading VC.reading d e s }
     ensures costs { CostsEach ⟦<MapOf<KC, VC> as Member>⟧.shape ⟦<MapOf<KC, VC> as Keeping>⟧.aside }
 {}
 
@@ -433,10 +440,15 @@ where
         (KeptPairTakesMemory KC.reading VC.reading (KC.COST + VC.COST)) (kept_pair_cost KC.reading VC.reading (KC.COST + VC.COST))
         (RefusesKeptPair KC.reading VC.reading (KC.COST + VC.COST)) (IsAsideEntry KC.reading VC.reading)
         (aside_entry_levels KC.reading VC.reading) }
-    ensures entry { (d n : ℕ) (v : _) (kept : List (ℕ × Datum)) (e : List ℕ) (s : _) → length e < 2 ^ 64 →
+    ensures entry { (d n : ℕ) (v : _) (kept : List (ℕ × Datum)) (t e : List ℕ) (s : _) → IsVarint t (length e) →
         IsEntry KC.reading VC.reading d e s → ⟦<OrderedMapOf<KC, VC> as Keeping>⟧.aside.takes d (v, kept) n
-        WireType.LengthDelimited (delimited_encoding e)
+        WireType.LengthDelimited (t ++ e)
         ≡ Some (stepped (insert_entry KC.Value.order) v s, kept ++ undeclared_record n e s.known) }
+    ensures only { (d n : ℕ) (v u : _) (w : _) (p : List ℕ) →
+        ⟦<OrderedMapOf<KC, VC> as Keeping>⟧.aside.takes d v n w p ≡ Some u →
+        (w ≡ WireType.LengthDelimited) × (t : List ℕ) × (e : List ℕ)
+        × (s : MapEntry KC.Value.Meaning VC.Value.Meaning) × IsVarint t (length e) × (p ≡ t ++ e)
+        × IsEntry KC.reading VC.reading d e s }
     ensures costs { CostsEach ⟦<OrderedMapOf<KC, VC> as Member>⟧.shape ⟦<OrderedMapOf<KC, VC> as Keeping>⟧.aside }
 {}
 
@@ -456,7 +468,7 @@ pub fn keeping_optional_members_are_these<E: Enumeration>()
 {}
 
 /// A list of a closed enum: of a record's varints, packed or not, the declared numbers go behind the elements, and
-/// each other is put aside as it was read, in a record of its own.
+/// each other is put aside as it was read, in a record of its own. Where no varints are read, none is.
 pub fn keeping_lists_are_these<E: Enumeration>()
     ensures aside { PutsAside ⟦<Repeated<ClosedEnum<E>> as Keeping>⟧.aside
         (kept_numbers_taken (numbers E.of_number E.blank_is)) (λ _. ElementsTakeMemory varints)
@@ -469,6 +481,9 @@ pub fn keeping_lists_are_these<E: Enumeration>()
           v ++ declared_of (numbers E.of_number E.blank_is) ks,
           kept ++ undeclared_of (numbers E.of_number E.blank_is) n ks,
         ) }
+    ensures refused { (d n : ℕ) (v : List ℤ) (kept : List (ℕ × Datum)) (w : _) (p : List ℕ) →
+        elements_taken varints d [] n w p ≡ None →
+        ⟦<Repeated<ClosedEnum<E>> as Keeping>⟧.aside.takes d (v, kept) n w p ≡ None }
     ensures costs { CostsEach ⟦<Repeated<ClosedEnum<E>> as Member>⟧.shape ⟦<Repeated<ClosedEnum<E>> as Keeping>⟧.aside }
 {}
 
@@ -485,6 +500,9 @@ pub fn keeping_packed_lists_are_these<E: Enumeration>()
           v ++ declared_of (numbers E.of_number E.blank_is) ks,
           kept ++ undeclared_of (numbers E.of_number E.blank_is) n ks,
         ) }
+    ensures refused { (d n : ℕ) (v : List ℤ) (kept : List (ℕ × Datum)) (w : _) (p : List ℕ) →
+        elements_taken varints d [] n w p ≡ None →
+        ⟦<Packed<ClosedEnum<E>> as Keeping>⟧.aside.takes d (v, kept) n w p ≡ None }
     ensures costs { CostsEach ⟦<Packed<ClosedEnum<E>> as Member>⟧.shape ⟦<Packed<ClosedEnum<E>> as Keeping>⟧.aside }
 {}
 

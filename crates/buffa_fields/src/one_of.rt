@@ -45,7 +45,7 @@ pub trait OneOf: Drop {
     /// ```ignore
     /// 2 => {
     ///     let card = Optional::<Str>::read_value(alloc, tag, buf, ctx)?;
-    ///     *slot = Some(Method::Card(card));
+    ///     drop(slot.replace(Method::Card(card)));
     ///     Ok(())
     /// }
     /// ```

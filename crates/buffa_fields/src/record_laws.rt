@@ -13,6 +13,7 @@ ghost use Rattle.buffa_bytes.specs.Join.{Join};
 ghost use Rattle.buffa_bytes.specs.Varint.{IsVarint};
 ghost use Rattle.buffa_bytes.specs.declared.error.DecodeError.{DecodeError};
 ghost use Rattle.buffa_wire.specs.ByField.{value_of};
+ghost use Rattle.buffa_map.specs.Codec.{value_at};
 ghost use Rattle.buffa_map.specs.Entry.{IsEntry};
 ghost use Rattle.buffa_map.specs.Message.{message_reading};
 ghost use Rattle.buffa_map.specs.Pairs.{put};
@@ -87,7 +88,7 @@ pub fn packed_elements_are_appended<C: Packable>()
 {}
 
 /// A packed record is a length and so many bytes, which are the payloads of elements, one after the other: no bytes are no
-/// element, and the payload at the front is the next one.
+/// element, and the payload at the front is the next one; where that is refused, nothing is taken.
 pub fn packed_elements_are_read<C: Packable>()
     ensures none { (d n : ℕ) (vs : List C.Value.Meaning) (t : List ℕ) → IsVarint t 0 →
         ⟦<Repeated<C> as Member>⟧.shape.takes d vs n WireType.LengthDelimited t ≡ Some vs }
@@ -96,6 +97,9 @@ pub fn packed_elements_are_read<C: Packable>()
         IsVarint t (length (p ++ b)) → IsVarint s (length b) →
         ⟦<Repeated<C> as Member>⟧.shape.takes d vs n WireType.LengthDelimited (t ++ (p ++ b))
         ≡ ⟦<Repeated<C> as Member>⟧.shape.takes d (vs ++ x ∷ []) n WireType.LengthDelimited (s ++ b) }
+    ensures refused { (d n : ℕ) (vs : List C.Value.Meaning) (t b : List ℕ) (e : DecodeError) → b ≢ [] →
+        value_at C.reading d C.reading.blank b ≡ Err e → IsVarint t (length b) →
+        ⟦<Repeated<C> as Member>⟧.shape.takes d vs n WireType.LengthDelimited (t ++ b) ≡ None }
 {}
 
 /// A record of a message is merged into the message that stands, or into the default one where none does; in a list it makes an

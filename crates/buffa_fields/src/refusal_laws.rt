@@ -2,12 +2,13 @@
 //!
 //! The words of `MapCodec` and `MessageSpec` that these cite are pinned by the laws of the crates below.
 
-ghost use Rattle.std.specs.Prelude.{◌≡◌, ◌≢◌, ◌⊎◌, ◌↔◌, ◌<◌, ◌≤◌, ◌+◌, ℕ, List, [], ◌++◌, None, Some, Ok, Err, IsOk, false, length, suc, true};
+ghost use Rattle.std.specs.Prelude.{◌≡◌, ◌≢◌, ◌⊎◌, ◌↔◌, ◌<◌, ◌≤◌, ◌+◌, ℕ, List, [], ◌++◌, None, Option, Some, Ok, Err, IsOk, false, length, suc, true};
 ghost use Rattle.buffa_bytes.specs.Content.{content_at};
 ghost use Rattle.buffa_bytes.specs.Front.{check_wire, delimited_at, skip_at, tag_at, varint_at};
 ghost use Rattle.buffa_bytes.specs.declared.error.DecodeError.TheVariants.{InvalidEndGroup, OutOfMemory, RecursionLimitExceeded, UnknownFieldLimitExceeded};
 ghost use Rattle.buffa_bytes.specs.Values.{int32_of};
 ghost use Rattle.buffa_bytes.specs.Varint.{IsVarint};
+ghost use Rattle.buffa_wire.specs.BudgetLeft.{nothing};
 ghost use Rattle.buffa_wire.specs.Enums.{numbers};
 ghost use Rattle.buffa_wire.specs.Message.{BeginsField, MergeFault};
 ghost use Rattle.buffa_wire.specs.RecordReading.{RecordTakesMemory, field_at};
@@ -17,8 +18,8 @@ ghost use Rattle.buffa_map.specs.Entry.{EntryFault, IsEntry, entry_of, need_of, 
 ghost use Rattle.buffa_map.specs.declared.map_entry.MapEntry.{MapEntry};
 ghost use Rattle.buffa_fields.specs.KeptLists.{varints};
 ghost use Rattle.buffa_fields.specs.KeptMaps.{IsUndeclaredAt};
-ghost use Rattle.buffa_fields.specs.Lists.{element_at, elements_in};
-ghost use Rattle.buffa_fields.specs.Refusals.{RefusesElements};
+ghost use Rattle.buffa_fields.specs.Lists.{elements_in};
+ghost use Rattle.buffa_fields.specs.Refusals.{RefusesBoxed, RefusesElements};
 
 use crate::group::Group;
 use crate::keeping::Keeping;
@@ -72,7 +73,7 @@ pub fn refused_elements_are_not_put<C: ProtoType>()
         ((delimited_at bs ≡ Err e) × (v ≡ u))
         ⊎ ((b : List ℕ) × (after : List ℕ) × (delimited_at bs ≡ Ok (b, after))
         × (front : List ℕ) × (rest : List ℕ) × (b ≡ front ++ rest) × (elements_in C.reading d v front ≡ Ok u)
-        × (e ≢ OutOfMemory → element_at C.reading d u rest ≡ Err e)) }
+        × (e ≢ OutOfMemory → value_at C.reading d C.reading.blank rest ≡ Err e)) }
     ensures asks { (d n : ℕ) (w : _) (bs : List ℕ) → ⟦<Repeated<C> as Member>⟧.shape.asks d n w bs
         ↔ (((w ≡ C.reading.wire) × IsOk (content_at C.reading.wire bs))
         ⊎ ((w ≡ WireType.LengthDelimited) × (b : List ℕ) × (rest : List ℕ) × (delimited_at bs ≡ Ok (b, rest))
@@ -105,6 +106,12 @@ pub fn refused_messages_stand<N: Message>()
         ⊎ ((w ≡ WireType.LengthDelimited) × ((delimited_at bs ≡ Err e)
         ⊎ ((b : List ℕ) × (rest : List ℕ) × (delimited_at bs ≡ Ok (b, rest))
         × MergeFault (N.merged d v b) (N.cost d b) left e))) }
+    ensures first_fault { (d n : ℕ) (w : _) (bs : List ℕ) (left : _) (e : _) (u : _) →
+        ⟦<Nested<N> as Member>⟧.shape.refuses (suc d) None n w bs left e u → e ≢ OutOfMemory →
+        (check_wire n WireType.LengthDelimited w ≡ Err e)
+        ⊎ ((w ≡ WireType.LengthDelimited) × ((delimited_at bs ≡ Err e)
+        ⊎ ((b : List ℕ) × (rest : List ℕ) × (delimited_at bs ≡ Ok (b, rest))
+        × MergeFault (N.merged d N.blank_is b) (N.cost d b) left e))) }
     ensures element { (d : ℕ) (v : _) (n : ℕ) (w : _) (bs : List ℕ) (left : _) (e : _) (u : _) →
         ⟦<RepeatedNested<N> as Member>⟧.shape.refuses d v n w bs left e u ↔ (v ≡ u) }
     ensures asks { (d n : ℕ) (w : _) (bs : List ℕ) → ⟦<Nested<N> as Member>⟧.shape.asks d n w bs
@@ -114,6 +121,15 @@ pub fn refused_messages_stand<N: Message>()
         ↔ ((w ≡ WireType.LengthDelimited) × (0 < d) × IsOk (delimited_at bs)) }
 {}
 
+/// A message in a box is refused as any other. Where one stands, memory runs out only for the bytes of a message.
+pub fn refused_boxes_stand<N: Message>()
+    ensures { (d : ℕ) (v : Option N.Meaning) (n : ℕ) (w : _) (bs : List ℕ) (left : _) (e : _) (u : Option N.Meaning) →
+        RefusesBoxed N.blank_is N.merged N.cost d v n w bs left e u
+        ↔ (⟦<Nested<N> as Member>⟧.shape.refuses d v n w bs left e u × (e ≡ OutOfMemory → v ≢ None →
+        (w ≡ WireType.LengthDelimited) × (0 < d)
+        × (b : List ℕ) × (rest : List ℕ) × (delimited_at bs ≡ Ok (b, rest)) × (b ≢ []))) }
+{}
+
 /// The same of groups: one that stood is as it was where no field begins the bytes; and where one does, any error may be told.
 pub fn refused_groups_stand<N: Message>()
     ensures there { (d : ℕ) (v : _) (n : ℕ) (w : _) (bs : List ℕ) (left : _) (e : _) (u : _) →
@@ -121,6 +137,9 @@ pub fn refused_groups_stand<N: Message>()
     ensures stays { (d : ℕ) (v : _) (n : ℕ) (w : _) (bs : List ℕ) (left : _) (e : _) (u : _) →
         ⟦<Group<N> as Member>⟧.shape.refuses d v n w bs left e u →
         (w ≢ WireType.StartGroup → v ≡ u) × (d ≡ 0 → v ≡ u) × ((BeginsField bs → ⊥) → v ≡ u) }
+    ensures no_level { (v : _) (n : ℕ) (w : _) (bs : List ℕ) (left : _) (e : _) (u : _) →
+        ⟦<Group<N> as Member>⟧.shape.refuses 0 v n w bs left e u → e ≢ OutOfMemory →
+        (check_wire n WireType.StartGroup w ≡ Err e) ⊎ ((w ≡ WireType.StartGroup) × (e ≡ RecursionLimitExceeded)) }
     ensures fault { (d : ℕ) (v : _) (n : ℕ) (w : _) (bs : List ℕ) (left : _) (e : _) (u : _) →
         ⟦<Group<N> as Member>⟧.shape.refuses (suc d) v n w bs left e u → e ≢ OutOfMemory →
         (check_wire n WireType.StartGroup w ≡ Err e) ⊎ ((w ≡ WireType.StartGroup)
@@ -152,7 +171,8 @@ where
 
 /// A refused entry of a map that puts undeclared ones aside isn't put, and none is put aside. Unless memory ran out, the error is that
 /// of the wire type, or one of the entry's, which costs an unknown field more where it is undeclared. Memory is asked for where the
-/// bytes of an entry may be kept, where a field of it takes some, and where it is put or kept.
+/// bytes of an entry may be kept, where a field of it takes some, and where it is put or kept. A field costs nothing where no length
+/// and so many bytes are there, or the wire type is another one.
 pub fn refused_kept_entries_are_not_put<KC: MapCodec, VC: MapCodec>()
 where
     KC::Value: MapKey + Hash,
@@ -170,6 +190,10 @@ where
     ensures fault { (d n : ℕ) (t e more : List ℕ) (f : _) → IsVarint t (length e) → entry_of KC.reading VC.reading d e ≡ Err f →
         ⟦<MapOf<KC, VC> as Keeping>⟧.aside.need d n WireType.LengthDelimited ((t ++ e) ++ more)
         ≡ need_of KC.reading VC.reading d (KC.COST + VC.COST) e }
+    ensures no_bytes { (d n : ℕ) (bs : List ℕ) (f : _) → delimited_at bs ≡ Err f →
+        ⟦<MapOf<KC, VC> as Keeping>⟧.aside.need d n WireType.LengthDelimited bs ≡ nothing }
+    ensures wire { (d n : ℕ) (w : _) (bs : List ℕ) → w ≢ WireType.LengthDelimited →
+        ⟦<MapOf<KC, VC> as Keeping>⟧.aside.need d n w bs ≡ nothing }
     ensures undeclared { (d : ℕ) (e : List ℕ) → IsUndeclaredAt KC.reading VC.reading d e
         ↔ ((s : MapEntry KC.Value.Meaning VC.Value.Meaning) × IsEntry KC.reading VC.reading d e s × (s.known ≡ false)) }
     ensures aside { (x : Datum) → ⟦<MapOf<KC, VC> as Keeping>⟧.aside.IsAside x → (e : List ℕ) × (x ≡ bytes e)

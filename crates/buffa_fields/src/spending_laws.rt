@@ -3,12 +3,12 @@
 
 ghost use Rattle.std.specs.Prelude.{◌≡◌, ◌≢◌, ◌↔◌, ◌⊎◌, ◌+◌, ℕ, ℤ, suc, true, List, ◌++◌, None, Ok, Err};
 ghost use Rattle.buffa_bytes.specs.Field.{IsTag, Payload, PayloadFault, SomeField, TagFault};
-ghost use Rattle.buffa_bytes.specs.Front.{check_wire, delimited_at};
+ghost use Rattle.buffa_bytes.specs.Front.{check_wire, delimited_at, varint_at};
 ghost use Rattle.buffa_bytes.specs.Join.{Join};
 ghost use Rattle.buffa_bytes.specs.declared.error.DecodeError.{DecodeError};
 ghost use Rattle.buffa_bytes.specs.declared.error.DecodeError.TheVariants.{OutOfMemory};
 ghost use Rattle.buffa_bytes.specs.declared.wire_type.WireType.{WireType};
-ghost use Rattle.buffa_bytes.specs.declared.wire_type.WireType.TheVariants.{EndGroup, LengthDelimited, StartGroup};
+ghost use Rattle.buffa_bytes.specs.declared.wire_type.WireType.TheVariants.{EndGroup, LengthDelimited, StartGroup, Varint};
 ghost use Rattle.buffa_wire.specs.BudgetLeft.{BudgetLeft, nothing, plus, units};
 ghost use Rattle.buffa_wire.specs.Parse.{TakesField};
 ghost use Rattle.buffa_wire.specs.Records.{Datum};
@@ -22,6 +22,7 @@ use crate::group::Group;
 use crate::keeping::Keeping;
 use crate::map_nested::MapOfNested;
 use crate::member::Member;
+use crate::optional::Optional;
 use crate::ordered_key::OrderedKey;
 use crate::ordered_nested::OrderedMapOfNested;
 use crate::packed::Packed;
@@ -81,7 +82,8 @@ pub fn kept_fields_are_there_so()
 {}
 
 /// A malformed field of a list of a closed enum costs nothing, whatever undeclared numbers stand in it; so a refusal of it spends
-/// no unknown field, and is told as its fault.
+/// no unknown field, and is told as its fault. Nor does a field of one that may be absent, where no varint is there, or the wire
+/// type is another one.
 pub fn malformed_numbers_cost_nothing<E: Enumeration>()
     ensures no_payload { (d n : ℕ) (w : WireType) (bs : List ℕ) (f : DecodeError) → PayloadFault d n w bs f →
         (⟦<Repeated<ClosedEnum<E>> as Keeping>⟧.aside.need d n w bs ≡ nothing)
@@ -90,6 +92,10 @@ pub fn malformed_numbers_cost_nothing<E: Enumeration>()
         ⟦<Repeated<ClosedEnum<E>> as Keeping>⟧.aside.takes d (v, kept) n w p ≡ None →
         (⟦<Repeated<ClosedEnum<E>> as Keeping>⟧.aside.need d n w (p ++ more) ≡ nothing)
         × (⟦<Packed<ClosedEnum<E>> as Keeping>⟧.aside.need d n w (p ++ more) ≡ nothing) }
+    ensures no_varint { (d n : ℕ) (bs : List ℕ) (f : DecodeError) → varint_at bs ≡ Err f →
+        ⟦<Optional<ClosedEnum<E>> as Keeping>⟧.aside.need d n Varint bs ≡ nothing }
+    ensures wire { (d n : ℕ) (w : WireType) (bs : List ℕ) → w ≢ Varint →
+        ⟦<Optional<ClosedEnum<E>> as Keeping>⟧.aside.need d n w bs ≡ nothing }
 {}
 
 /// A list of a closed enum reads its varints as a list of `uint64` does, so that what the laws of packed elements say holds of them:

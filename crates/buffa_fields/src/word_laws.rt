@@ -1,7 +1,7 @@
 //! What the words mean that laws of members share with the calls: each law says some in words of std, or in words that the laws of the
 //! wire and of maps say, and is a function with nothing to do.
 
-ghost use Rattle.std.specs.Prelude.{◌≡◌, ◌≢◌, ◌↔◌, ◌==◌, ◌<◌, ℕ, Bool, List, [], ◌∷◌, ◌++◌, None, Option, Some, Ok, Err, Result, MatchResult, OnErr, cond, false, length, max, true};
+ghost use Rattle.std.specs.Prelude.{◌≡◌, ◌≢◌, ◌↔◌, ◌==◌, ◌<◌, ◌≤◌, ℕ, Bool, List, [], ◌∷◌, ◌++◌, None, Option, Some, Ok, Err, Result, MatchResult, OnErr, cond, false, length, max, true};
 ghost use Rattle.std.specs.List.{list_all};
 ghost use Rattle.std.specs.List.Sorted.{IsStrictlySortedBy};
 ghost use Rattle.std.specs.Map.{keys_of};
@@ -9,7 +9,7 @@ ghost use Rattle.std.specs.Option.{option_map};
 ghost use Rattle.std.specs.declared.cmp.Ordering.{Ordering};
 ghost use Rattle.buffa_bytes.specs.Content.Content.{number};
 ghost use Rattle.buffa_bytes.specs.Field.{Payload};
-ghost use Rattle.buffa_bytes.specs.Front.{skip_at, FullOnlyIf, Gives};
+ghost use Rattle.buffa_bytes.specs.Front.{skip_at, tag_at, FullOnlyIf, Gives};
 ghost use Rattle.buffa_bytes.specs.Left.{past_no_payload};
 ghost use Rattle.buffa_bytes.specs.Values.{int32_of};
 ghost use Rattle.buffa_bytes.specs.declared.error.DecodeError.{DecodeError};
@@ -21,7 +21,7 @@ ghost use Rattle.buffa_wire.specs.Enums.{numbers};
 ghost use Rattle.buffa_wire.specs.Parse.{Fits};
 ghost use Rattle.buffa_wire.specs.RecordReading.{field_at};
 ghost use Rattle.buffa_wire.specs.Records.{Datum, records_of, varint};
-ghost use Rattle.buffa_wire.specs.Takes.{IsTaken, Need, Taker};
+ghost use Rattle.buffa_wire.specs.Takes.{IsTaken, Need, Taker, merged_of};
 ghost use Rattle.buffa_map.specs.declared.map_entry.MapEntry.{MapEntry};
 ghost use Rattle.buffa_fields.specs.Aside.{AllAside, TookBeside, aside_levels};
 ghost use Rattle.buffa_fields.specs.Keep.{AllNumbers};
@@ -35,6 +35,7 @@ ghost use Rattle.buffa_fields.specs.OneOfPinned.{CaseOrOthers};
 ghost use Rattle.buffa_fields.specs.OrderedMaps.{KeysAscend};
 ghost use Rattle.buffa_fields.specs.Pinned.{AmongKept, CostsEach, GoesAside, KeepingOrOthers, LeavesAlone, MemberOrOthers, PassedOver, PutsAside, TakeAlike};
 ghost use Rattle.buffa_fields.specs.Refusals.{RefusesUnder};
+ghost use Rattle.buffa_fields.specs.Stands.{IsMemberRefused, MergingTakesMemory};
 ghost use Rattle.buffa_fields.specs.Values.{IfThere};
 
 use crate::fields::Fields;
@@ -219,4 +220,19 @@ pub fn what_is_required_is_there<K: Hash + Eq + Ord, M: Required>()
     ensures map { (m : _) → ⟦<Map<K, M> as Required>⟧.initialized m ≡ list_all (λ p. M.initialized p.1) m.entries }
     ensures ordered_map { (m : _) → ⟦<BTreeMap<K, M> as Required>⟧.initialized m
         ≡ list_all (λ p. M.initialized p.1) m.entries }
+{}
+
+/// Merging the fields of a message takes memory where some at the front are merged, and the next one may ask for it. A refused
+/// field leaves a message whose other members are as they were, and whose member of the number refuses it so.
+pub fn refused_merges_are_these<M: Fields>()
+    ensures memory { (d : ℕ) (v : M.Meaning) (bs : List ℕ) (unknown : ℕ) →
+        MergingTakesMemory M.layout.takes M.layout.asks d v bs unknown
+        ↔ ((front : List ℕ) × (rest : List ℕ) × (bs ≡ front ++ rest)
+        × (mid : M.Meaning) × (merged_of M.layout.takes d v front ≡ Some mid) × (left : ℕ) × (left ≤ unknown)
+        × (n : ℕ) × (w : WireType) × (more : List ℕ) × (tag_at rest ≡ Ok (n, w, more)) × M.layout.asks left d n w more) }
+    ensures refused { (d : ℕ) (old : M.Meaning) (n : ℕ) (w : WireType) (bs : List ℕ) (before : BudgetLeft) (e : DecodeError)
+        (new : M.Meaning) → IsMemberRefused M.layout d old n w bs before e new
+        ↔ (M.layout.Apart n old new × ((a : M) × (b : M) × (after : BudgetLeft) × (rest : List ℕ)
+        × (M.layout.meaning a ≡ old) × (M.layout.meaning b ≡ new)
+        × M.layout.Taken d a n w bs before (Err e) b after rest)) }
 {}

@@ -3,11 +3,11 @@
 //!
 //! The words of `MapCodec` and `MessageSpec` that these cite are pinned by the laws of the crates below.
 
-ghost use Rattle.std.specs.Prelude.{◌≡◌, ◌≢◌, ◌↔◌, ◌+◌, ◌<◌, ◌^◌, ℕ, List, [], ◌∷◌, ◌++◌, None, Some, false, length, map, max, min, ◌-◌, suc, true};
+ghost use Rattle.std.specs.Prelude.{◌≡◌, ◌≢◌, ◌↔◌, ◌+◌, ◌<◌, ◌^◌, ℕ, List, [], ◌∷◌, ◌++◌, None, Some, Err, false, length, map, max, min, ◌-◌, suc, true};
 ghost use Rattle.std.specs.List.{concat};
 ghost use Rattle.buffa_bytes.specs.Front.{delimited_at};
 ghost use Rattle.buffa_bytes.specs.Varint.{IsVarint};
-ghost use Rattle.buffa_wire.specs.BudgetLeft.{need_by, nothing};
+ghost use Rattle.buffa_wire.specs.BudgetLeft.{need_by, nothing, plus, units};
 ghost use Rattle.buffa_wire.specs.Parse.{Fits};
 ghost use Rattle.buffa_wire.specs.Records.{bytes, group, records_of};
 ghost use Rattle.buffa_map.specs.Encoding.{entry_encoding};
@@ -153,8 +153,9 @@ where
         × (⟦<OrderedMapOfNested<KC, N> as Member>⟧.shape.need ≡ ⟦<MapOfNested<KC, N> as Member>⟧.shape.need) }
 {}
 
-/// Fields of values and of lists of values cost nothing. A field of a message costs what its bytes cost one level down, and in
-/// a list the units of its type too.
+/// Fields of values and of lists of values cost nothing. A field of a message costs what its bytes cost one level down, and nothing
+/// where no level is left, or no length and so many bytes are there. In a list each costs the units of its type too. One of
+/// another wire type costs nothing.
 pub fn fields_cost_what_is_in_them<C: ProtoType, N: Message>()
     ensures values { (d n : ℕ) (w : _) (bs : List ℕ) → ((⟦<Plain<C> as Member>⟧.shape.need d n w bs).memory ≡ 0)
         × ((⟦<Plain<C> as Member>⟧.shape.need d n w bs).unknown ≡ 0)
@@ -167,5 +168,14 @@ pub fn fields_cost_what_is_in_them<C: ProtoType, N: Message>()
         ≡ N.COST + (N.cost d b).memory)
         × ((⟦<RepeatedNested<N> as Member>⟧.shape.need (suc d) n WireType.LengthDelimited ((t ++ b) ++ more)).unknown
         ≡ (N.cost d b).unknown) }
+    ensures too_deep { (n : ℕ) (bs : List ℕ) →
+        ⟦<Nested<N> as Member>⟧.shape.need 0 n WireType.LengthDelimited bs ≡ nothing }
+    ensures no_bytes { (d n : ℕ) (bs : List ℕ) (e : _) → delimited_at bs ≡ Err e →
+        ⟦<Nested<N> as Member>⟧.shape.need d n WireType.LengthDelimited bs ≡ nothing }
+    ensures each { (d n : ℕ) (bs : List ℕ) → ⟦<RepeatedNested<N> as Member>⟧.shape.need d n WireType.LengthDelimited bs
+        ≡ plus (units N.COST) (⟦<Nested<N> as Member>⟧.shape.need d n WireType.LengthDelimited bs) }
+    ensures wire { (d n : ℕ) (w : _) (bs : List ℕ) → w ≢ WireType.LengthDelimited →
+        (⟦<Nested<N> as Member>⟧.shape.need d n w bs ≡ nothing)
+        × (⟦<RepeatedNested<N> as Member>⟧.shape.need d n w bs ≡ nothing) }
     ensures numbers { (k : ℕ) → (is_number k ≡ true) ↔ ((0 < k) × (k < 2 ^ 29)) }
 {}

@@ -2,15 +2,13 @@
 use Rattle.std.proofs.Common.{arith, ◌≡◌, ◌≢◌, ◌⊎◌, inl, inr, ℕ, ◌+◌, ◌<◌, ◌≤◌, Bool, true, false, not, List, [], ◌∷◌, ◌++◌, length, map, None, Result, Ok, Err, refl, sym, ap, subst, ◌∙◌, append_assoc, append-nil, cond, if◌then◌else◌}
 use Rattle.std.proofs.lemmas.Bool.{ne_eqb}
 use Rattle.std.specs.Cmp.{IsEquivalence}
-use Rattle.std.specs.Prelude.{IsOk}
 use Rattle.std.specs.List.{filter}
 use Rattle.std.specs.Map.{lookup_entry}
-use Rattle.buffa_bytes.proofs.DelimitedLemmas.{delimited_sound}
-use Rattle.buffa_bytes.proofs.FieldLemmas.{same_refl, tag_complete, tag_falls, same_false}
+use Rattle.buffa_bytes.proofs.DelimitedLemmas.{delimited_sound, delimited_taken}
+use Rattle.buffa_bytes.proofs.FieldLemmas.{same_refl, tag_complete, tag_falls, tag_read, same_false}
 use Rattle.buffa_bytes.proofs.ContentLemmas.{content_complete}
 use Rattle.buffa_bytes.proofs.FullLemmas.{delimited_full}
 use Rattle.buffa_bytes.proofs.LeftLemmas.{no_delimited_cut, no_number}
-use Rattle.buffa_bytes.proofs.LeftLemmas as at_left
 use Rattle.buffa_bytes.proofs.SequenceLemmas.{has_byte, not_nil, ok_same}
 use Rattle.buffa_bytes.proofs.StepLemmas.{agree_err, agree_ok}
 use Rattle.buffa_bytes.proofs.TailLemmas.{tail_dropped}
@@ -39,7 +37,7 @@ use Rattle.buffa_map.proofs.MergeLemmas.{bad_parts, is_dropped, is_kept, is_put,
 use Rattle.buffa_map.proofs.NeedLemmas.{field_broken, inner_is, need_end, need_step, need_stop, no_length}
 use Rattle.buffa_map.proofs.RunLemmas.{SamePairs-step, extra_kept, none_kept, record_found}
 use Rattle.buffa_map.proofs.StepLemmas.{none_reached, stop_entry, stop_mismatch, stop_other, stop_tag}
-use Rattle.buffa_map.proofs.TailLemmas.{tail_behind}
+use Rattle.buffa_map.proofs.TailLemmas.{not_delimited, tail_behind}
 
 module _ {K V : Type 0} (key : Reading K) (val : Reading V) (d : ℕ) where
   -- ---- a field behind an entry
@@ -226,31 +224,22 @@ module _ {K V : Type 0} (r : Rules K V) where
       (e : List ℕ) × (rest : List ℕ) × (s : MapEntry K V) × (delimited_at bs ≡ Ok (e, rest)) × IsEntry r.key r.val r.depth e s × (s.known ≡ true)
   put_only left bs key val drops (e, rest, is, inl (keeps, may, some)) = let no : false ≡ true = sym drops ∙ keeps in cc
   put_only left bs key val drops (e, rest, is, inr (room, inl field)) = no_field_takes field.1 key val field.3
-  put_only left bs key val drops (e, rest, is, inr (room, inr (s, h, inl known))) = (e, rest, s, is, h, known)
+  put_only left bs key val drops (e, rest, is, inr (room, inr (s, h, inl known))) = (e, rest, s, delimited_taken bs e rest is, h, known)
   put_only left bs key val drops (e, rest, is, inr (room, inr (s, h, inr (keeps, more)))) = let no : false ≡ true = sym drops ∙ keeps in cc
 
   -- a field takes memory behind fields that are an entry
   field_takes : (e : List ℕ) → EntryFieldsTakeMemory r.key r.val r.depth e → FieldTakesMemory r e
-  field_takes e (s, more, (ps, cut, each), inl (p, tag, takes)) = (join ps, more, s, p, cut, (ps, sym (append-nil (join ps)), each), inl (tag, takes))
-  field_takes e (s, more, (ps, cut, each), inr (p, tag, takes)) = (join ps, more, s, p, cut, (ps, sym (append-nil (join ps)), each), inr (tag, takes))
+  field_takes e (s, more, (ps, cut, each), inl (p, tag, takes)) = (join ps, more, s, p, cut, (ps, sym (append-nil (join ps)), each), inl (tag_read more p 1 r.key.wire tag, takes))
+  field_takes e (s, more, (ps, cut, each), inr (p, tag, takes)) = (join ps, more, s, p, cut, (ps, sym (append-nil (join ps)), each), inr (tag_read more p 2 r.val.wire tag, takes))
 
   entry_takes : (left : BudgetLeft) (bs : List ℕ) → EntryTakesMemory r left bs → (e : List ℕ) × (rest : List ℕ) × (delimited_at bs ≡ Ok (e, rest))
       × (((r.keeps_undeclared ≡ true) × (r.val.undeclared ≡ true) × (e ≢ []))
       ⊎ ((r.cost ≤ left.memory) × (FieldTakesMemory r e
       ⊎ ((s : MapEntry K V) × IsEntry r.key r.val r.depth e s × ((s.known ≡ true)
       ⊎ ((r.keeps_undeclared ≡ true) × ((need_of r.key r.val r.depth r.cost e).unknown < left.unknown)))))))
-  entry_takes left bs (e, rest, is, inl copied) = (e, rest, is, inl copied)
-  entry_takes left bs (e, rest, is, inr (room, inl field)) = (e, rest, is, inr (room, inl (field_takes e field)))
-  entry_takes left bs (e, rest, is, inr (room, inr whole)) = (e, rest, is, inr (room, inr whole))
-
-  -- at most one unknown field is spent as an entry is kept
-  at_most_one : (b : Bool) → (if b then 1 else 0) ≤ 1
-  at_most_one true = omega arith
-  at_most_one false = omega arith
-
-  not_there : {X : Type 0} (x : Result X DecodeError) (g : DecodeError) → x ≡ Err g → IsOk x → ⊥
-  not_there (Ok y) g h ok = cc
-  not_there (Err e) g h ok = cc
+  entry_takes left bs (e, rest, is, inl copied) = (e, rest, delimited_taken bs e rest is, inl copied)
+  entry_takes left bs (e, rest, is, inr (room, inl field)) = (e, rest, delimited_taken bs e rest is, inr (room, inl (field_takes e field)))
+  entry_takes left bs (e, rest, is, inr (room, inr whole)) = (e, rest, delimited_taken bs e rest is, inr (room, inr whole))
 
   inner : (bs e rest : List ℕ) → delimited_at bs ≡ Ok (e, rest) → inner_need r.key r.val r.depth bs ≡ need_at r.key r.val r.depth (blanks r.key r.val r.depth) e
   inner bs e rest is = inner_is r.key r.val r.depth bs e rest is
@@ -262,15 +251,17 @@ module _ {K V : Type 0} (r : Rules K V) where
     charged = λ old new bs e rest tail f h ne is room. let t = agree_ok (delimited_at bs) (e, rest) (delimited_sound bs) is in h.spent.charged ne e rest (t.0, t.1, t.2) room;
     unread = λ old new bs e rest tail f h ne is. let t = agree_ok (delimited_at bs) (e, rest) (delimited_sound bs) is in h.unread.past ne e rest (t.0, t.1, t.2);
     most = λ old new bs tail f h. elim h.spent.units [ inl same ↦ (omega (arith, same), h.spent.most) | inr paid ↦ (omega (arith, paid.0), h.spent.most) ];
-    memory = λ old new bs tail h. let k = h.memory refl in (k.0, k.1, k.2);
+    memory = λ old new bs tail h. let k = h.memory refl in (k.0, k.1, delimited_taken bs k.0 k.1 k.2);
     put = λ old new bs tail h key val drops. put_only old.left bs key val drops (h.memory refl);
     units = λ old new bs e rest tail f h is.
         let same = ap (λ z. z.memory) (inner bs e rest is) in
         elim h.spent.units [ inl stays ↦ omega (arith, stays) | inr paid ↦ omega (arith, same, paid.1) ];
     fields = λ old new bs e rest tail f h is.
         let same = ap (λ z. z.unknown) (inner bs e rest is) in
-        (omega (arith, same, at_most_one r.keeps_undeclared, h.spent.least), λ ne. omega (arith, same, h.spent.no_unknown ne));
-    unspent = λ old new bs tail f g h is. (h.spent.unspent (not_there (delimited_at bs) g is), h.unread.nothing_there g is);
+        (omega (arith, same, h.spent.least), λ ne. omega (arith, same, h.spent.no_unknown ne));
+    unspent = λ old new bs tail f g h is. (h.spent.unspent (not_delimited bs g is), h.unread.nothing_there (not_delimited bs g is));
+    end = λ old new bs tail f h. h.unread.tail;
+    all_units = λ old new bs tail f h. elim h.spent.units [ inl same ↦ inl same | inr paid ↦ inr paid.0 ];
     behind = λ old new bs e rest tail f h is. let t = agree_ok (delimited_at bs) (e, rest) (delimited_sound bs) is in h.unread.within e rest (t.0, t.1, t.2);
     taken = λ old new bs tail h. entry_takes old.left bs (h.memory refl);
   }

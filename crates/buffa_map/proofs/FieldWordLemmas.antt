@@ -1,5 +1,5 @@
 -- Encodings of map fields, and rewrites, in the words of bytes.
-use Rattle.std.proofs.Common.{arith, ◌≡◌, inl, inr, ℕ, ◌+◌, ◌*◌, ◌^◌, ◌<◌, ◌≤◌, ◌-◌, List, [], ◌∷◌, ◌++◌, length, take, refl, sym, ap, subst, ◌∙◌, append_assoc, length-append, map}
+use Rattle.std.proofs.Common.{arith, ◌≡◌, ◌⊎◌, inl, inr, ℕ, ◌+◌, ◌*◌, ◌^◌, ◌<◌, ◌≤◌, ◌-◌, List, [], ◌∷◌, ◌++◌, length, take, refl, sym, ap, subst, ◌∙◌, append_assoc, length-append, map}
 use Rattle.std.specs.Prelude.{min}
 use Rattle.std.specs.List.{AllByRecursion, flat_map}
 use Rattle.std.proofs.Math.Seq.{take-append_seam}
@@ -14,7 +14,7 @@ use Rattle.buffa_wire.specs.Encoding.{records_encoding}
 use Rattle.buffa_wire.specs.Records.{bytes}
 use Rattle.buffa_map.specs.Codec.{Writing}
 use Rattle.buffa_map.specs.Encoding.{AllHold, HasEncoding, RefusesField, entry_encoding, field_encoding, record_encoding}
-use Rattle.buffa_map.specs.FieldWords.{EnumsAreNumbers, FieldsAreRecords, IsPartOf, MessageFieldsAreRecords, RewritesAreFields, pair_bytes, record_bytes}
+use Rattle.buffa_map.specs.FieldWords.{EndsInRecord, EnumsAreNumbers, FieldsAreRecords, IsPartOf, MessageFieldsAreRecords, RewritesAreFields, pair_bytes, record_bytes}
 use Rattle.buffa_map.specs.Merge.{Rules}
 use Rattle.buffa_map.specs.MessageField.{IsSmallField, field_slots}
 use Rattle.buffa_map.specs.Rewrite.{RefusesRewrite}
@@ -63,7 +63,21 @@ module _ {K V : Type 0} (key : Writing K) (val : Writing V) where
   field_of_both n [] b = refl
   field_of_both n (p ∷ a) b = ap (λ z. record_encoding key val n p ++ z) (field_of_both n a b) ∙ sym (append_assoc (record_encoding key val n p) (field_encoding key val n a) (field_encoding key val n b))
 
-  -- a beginning of a record behind whole ones is a beginning of the field
+  -- a beginning of a record stands behind whole ones
+  ends_in : (n : ℕ) (old new : List ℕ) (l : List (K × V)) → RefusesField key val n old new l OutOfMemory → EndsInRecord key val n old new l
+  ends_in n old new l (a, p, b, is, has, fits, (front, rest, split, new_is, some)) = (
+    a,
+    p,
+    b,
+    front,
+    is,
+    has,
+    subst (λ z. length z < 2 ^ 64) (same_pair p) fits,
+    new_is ∙ append_assoc old (field_encoding key val n a) front,
+    (rest, sym (same_record n p) ∙ split, some),
+  )
+
+  -- which is a beginning of the field
   part_of : (n : ℕ) (old new : List ℕ) (l : List (K × V)) → RefusesField key val n old new l OutOfMemory → (front : List ℕ) × (new ≡ old ++ front) × IsPartOf front (field_encoding key val n l)
   part_of n old new l (a, p, b, is, has, fits, (front, rest, split, new_is, some)) =
       let begun = field_encoding key val n a in
@@ -86,7 +100,7 @@ module _ {K V : Type 0} (key : Writing K) (val : Writing V) where
     holds = λ l. (held_by P Q l, holds_of P Q l);
     written = λ n old new l h. h;
     too_long = λ n old new l h. (h.0, h.1, h.2, h.3, h.4, subst (λ z. 2 ^ 64 ≤ length z) (same_pair h.1) h.5, h.6);
-    no_room = part_of;
+    no_room = ends_in;
     no_group = λ n old new l e h. h;
     room = λ before after encoding. ((λ h. h), (λ h. h));
     full = λ before after encoding h. h refl;
@@ -107,14 +121,10 @@ module _ {K V : Type 0} (key : Writing K) (val : Writing V) where
 
     -- what was written of a rewrite where memory ran out
     part_written : (n : ℕ) (es : List (EntryRecord K V)) (old new : List ℕ) (l : List (K × V)) → RefusesRewrite key val n (undeclared_records n es) old new l OutOfMemory →
-        (front : List ℕ) × (new ≡ old ++ front) × IsPartOf front (field_encoding key val n l ++ flat_map (record_bytes n) (undeclared es))
-    part_written n es old new l (inl h) =
-        let kept = flat_map (record_bytes n) (undeclared es) in
-        let part = part_of n old new l h in
-        (part.0, part.1, (part.2.0 ++ kept, ap (λ z. z ++ kept) part.2.1 ∙ append_assoc part.0 part.2.0 kept, omega (arith, part.2.2, length-append part.2.0 kept)))
+        EndsInRecord key val n old new l ⊎ (HasEncoding key val l × (front : List ℕ) × (new ≡ old ++ (field_encoding key val n l ++ front)) × IsPartOf front (flat_map (record_bytes n) (undeclared es)))
+    part_written n es old new l (inl h) = inl (ends_in n old new l h)
     part_written n es old new l (inr (has, (front, rest, split, is, some))) =
-        let field = field_encoding key val n l in
-        (field ++ front, is ∙ append_assoc old field front, (rest, ap (λ z. field ++ z) (sym (same_kept n (undeclared es)) ∙ split) ∙ sym (append_assoc field front rest), some))
+        inr (has, front, is ∙ append_assoc old (field_encoding key val n l) front, (rest, sym (same_kept n (undeclared es)) ∙ split, some))
 
     pub rewrites_are_fields : RewritesAreFields key val r KeyFits ValFits Walks
     rewrites_are_fields = record {
@@ -128,11 +138,22 @@ module _ {K V : Type 0} (key : Writing K) (val : Writing V) where
       ordered = λ left over bs rest old written new before after h keeps.
           (h.read.entries, h.read.run, h.encoding ∙ ap (λ z. old ++ z) (h.ordered keeps ∙ ap (λ z. field_encoding key val r.number (fold_entries r.same [] h.read.entries) ++ z) (same_kept r.number (undeclared h.read.entries))));
       no_room = λ left over bs rest old written new before h.
-          let part = part_written r.number h.read.entries old written h.walk h.encoding in
-          (h.read.entries, h.walk, part.0, h.read.run, h.once, part.1, part.2, subst (λ z. before < length (field_encoding key val r.number h.walk ++ z)) (same_kept r.number (undeclared h.read.entries)) (h.room refl));
+          (h.read.entries, h.walk, h.read.run, h.once, h.walked, h.walks, subst (λ z. before < length (field_encoding key val r.number h.walk ++ z)) (same_kept r.number (undeclared h.read.entries)) (h.room refl), part_written r.number h.read.entries old written h.walk h.encoding);
       too_long = λ left over bs rest old written new before h.
-          let part = h.encoding in
-          (h.read.entries, part.0, part.1, part.2, h.read.run, subst (λ z. ListsOnce r.same (fold_entries r.same [] h.read.entries) z) part.3 h.once, subst (λ z. 2 ^ 64 ≤ length z) (same_pair part.1) part.5, part.6);
+          let part = h.encoding in (
+            h.read.entries,
+            part.0,
+            part.1,
+            part.2,
+            h.read.run,
+            subst (λ z. ListsOnce r.same (fold_entries r.same [] h.read.entries) z) part.3 h.once,
+            λ keeps. sym part.3 ∙ h.walked keeps,
+            subst Walks part.3 h.walks,
+            part.4,
+            subst (λ z. 2 ^ 64 ≤ length z) (same_pair part.1) part.5,
+            part.6,
+          );
+      no_group = λ left over bs rest old written new before e h. h.encoding;
     }
 
 -- ---- fields of messages
@@ -156,7 +177,7 @@ module _ {K M : Type 0} (key : Writing K) (encoding slots : M → List ℕ) wher
   message_fields_are_records = record {
     these = same_slots;
     small = λ l. (small_of l, of_small l);
-    sized = λ t n l old new h. (ap (λ z. z.slots) h.2, ap (λ z. z.next) h.2, h.1);
+    sized = λ t n l old new h. (ap (λ z. z.slots) h.2, ap (λ z. z.next) h.2, h.1, h.0);
     not_sized = λ t l old new e h. (h.0, first_of old.slots new.slots h.1.0 (ap (λ z. z.slots) h.1.1), ap (λ z. z.next) h.1.1);
     written = λ n l old new before after h. (
       ap (λ z. z.slots) h.2.0,

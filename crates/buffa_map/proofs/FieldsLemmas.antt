@@ -1,7 +1,6 @@
 -- A field of an entry that was merged, or refused, at each place where reading it ends; and the fields of an entry.
 use Rattle.std.proofs.Common.{arith, ◌≡◌, ◌≢◌, ◌+◌, ◌*◌, ◌<◌, ◌≤◌, inl, inr, ℕ, Bool, false, List, [], ◌∷◌, ◌++◌, Ok, Err, drop, get_or, length, ap, refl, subst, sym, ◌∙◌}
 use Rattle.std.proofs.lemmas.List.{nil_from_length, take-append-drop}
-use Rattle.buffa_bytes.proofs.SequenceLemmas.{not_nil}
 use Rattle.buffa_bytes.proofs.FieldLemmas.{tag_at_as, tag_read, wire_small}
 use Rattle.buffa_bytes.specs.Left.{IsChunkOf}
 use Rattle.buffa_bytes.specs.Varint.{IsVarint}
@@ -14,6 +13,7 @@ use Rattle.buffa_wire.specs.BudgetLeft.{BudgetLeft, Pays, PaysAtMost, nothing}
 use Rattle.buffa_bytes.specs.Front.{check_wire, skip_at, tag_at, wire_number}
 use Rattle.buffa_bytes.proofs.WireLemmas.{checked_same, other_not_full}
 use Rattle.buffa_bytes.specs.Scan.{ParsesTo}
+use Rattle.buffa_map.proofs.TailLemmas.{tag_there}
 use Rattle.buffa_map.specs.Codec.{Reading, RefusesValue, Spends, ReadingTakesMemory, is_known, value_at, value_need}
 use Rattle.buffa_map.specs.Entry.{EntryFieldFault, IsEntryField, blanks, need_at, EntryFieldTakesMemory, MergesEntryField, MergesFields, RefusesEntryField, RefusesFields}
 use Rattle.buffa_map.specs.declared.codec.MapValueDecodeStatus.{MapValueDecodeStatus}
@@ -66,7 +66,7 @@ module _ {K V : Type 0} (key : Reading K) (val : Reading V) (d : ℕ) (s : MapEn
           let paid : PaysAtMost left (value_need key d rest) over = spent_in {T = T} key.nested (Err f) left (value_need key d rest) over (λ plain. value_free key d s.key rest (free plain)) spent in
           record {
             fault = λ ne. key_refused key val d s bs rest n w left f tag one same (refused_in key d s.key key.nested rest left f (fault ne));
-            full = λ out. inl (rest, tag_at_as bs rest n 1 w key.wire tag one same, full out);
+            full = λ out. inl (rest, tag_there bs rest 1 key.wire (tag_at_as bs rest n 1 w key.wire tag one same), full out);
             pays = subst (λ z. PaysAtMost left z over) (sym (need-key key val d bs rest n w tag one same)) paid;
           }
 
@@ -89,7 +89,7 @@ module _ {K V : Type 0} (key : Reading K) (val : Reading V) (d : ℕ) (s : MapEn
             let paid : PaysAtMost left (value_need val d rest) over = spent_in {T = T} val.nested (Err f) left (value_need val d rest) over (λ plain. value_free val d s.value rest (free plain)) spent in
             record {
               fault = λ ne. value_refused key val d s bs rest n w left f tag not_one two same (refused_in val d s.value val.nested rest left f (fault ne));
-              full = λ out. inr (rest, tag_at_as bs rest n 2 w val.wire tag two same, full out);
+              full = λ out. inr (rest, tag_there bs rest 2 val.wire (tag_at_as bs rest n 2 w val.wire tag two same), full out);
               pays = subst (λ z. PaysAtMost left z over) (sym (need-value key val d bs rest n w tag not_one two same)) paid;
             }
 

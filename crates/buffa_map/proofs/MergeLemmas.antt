@@ -4,7 +4,6 @@ use Rattle.std.proofs.Common.{arith, ◌≡◌, ◌≢◌, ◌+◌, ◌<◌, ◌
 use Rattle.buffa_bytes.specs.declared.error.DecodeError.{DecodeError}
 use Rattle.buffa_bytes.specs.declared.error.DecodeError.TheVariants.{ElementMemoryLimitExceeded, OutOfMemory, UnexpectedEof, UnknownFieldLimitExceeded}
 use Rattle.buffa_bytes.specs.Left.{past_no_delimited, IsTailOf}
-use Rattle.buffa_bytes.proofs.SequenceLemmas.{ok_no_err}
 use Rattle.buffa_wire.specs.BudgetLeft.{BudgetLeft, Lacks, need_by}
 use Rattle.buffa_bytes.specs.Front.{delimited_at, taken, varint_at}
 use Rattle.buffa_bytes.proofs.DelimitedLemmas.{taken_sound}
@@ -16,7 +15,7 @@ use Rattle.buffa_map.specs.Parts.{ReadsParts, RefusesCut, RefusesParts}
 use Rattle.buffa_map.specs.Pairs.{InOrder, SamePairs, put}
 use Rattle.buffa_map.specs.declared.map_entry.MapEntry.{MapEntry}
 use Rattle.buffa_bytes.proofs.LeftLemmas.{past_cut}
-use Rattle.buffa_map.proofs.TailLemmas.{cut_front, cut_short, delimited_tail, one_rest}
+use Rattle.buffa_map.proofs.TailLemmas.{cut_front, cut_short, delimited_tail, delimited_there, none_delimited, one_rest}
 use Rattle.buffa_bytes.proofs.TailLemmas.{tail_whole}
 use Rattle.buffa_bytes.specs.Field.{TakesDelimited}
 use Rattle.buffa_map.proofs.RunLemmas.{none_kept}
@@ -35,7 +34,7 @@ module _ {K V : Type 0} (r : Rules K V) (pairs : List (K × V)) (records : List 
     records = refl;
     unread = record {
       within = near;
-      nothing_there = short;
+      nothing_there = λ none. let no = none_delimited bs none in short no.0 no.1;
       tail = tail;
       past = λ ne e rest t. no_length r.key r.val r.depth bs f (h ne) e rest t;
     };
@@ -52,7 +51,7 @@ module _ {K V : Type 0} (r : Rules K V) (pairs : List (K × V)) (records : List 
   -- the bytes of an entry are copied, of which there are some
   copy_takes : (n : ℕ) (mid : List ℕ) (x : Result (List ℕ × List ℕ) DecodeError) → taken n mid ≡ x → (r.keeps_undeclared ≡ true) × (r.val.undeclared ≡ true) → delimited_at bs ≡ taken n mid → IsOk x → (n ≡ 0 → ⊥) → EntryTakesMemory r left bs
   copy_takes n mid (Ok p) is keeps same ok some =
-      (p.0, p.1, same ∙ is, inl (keeps.0, keeps.1, λ none. some (sym (agree_ok (taken n mid) p (taken_sound n mid) is).0 ∙ ap length none)))
+      (p.0, p.1, delimited_there bs p.0 p.1 (same ∙ is), inl (keeps.0, keeps.1, λ none. some (sym (agree_ok (taken n mid) p (taken_sound n mid) is).0 ∙ ap length none)))
   copy_takes n mid (Err x) is keeps same ok some = cc
 
   pub no_copy : (n : ℕ) (mid unread : List ℕ) (f : DecodeError) → (r.keeps_undeclared ≡ true) × (r.val.undeclared ≡ true) → delimited_at bs ≡ taken n mid → IsTailOf unread bs → (f ≢ OutOfMemory → taken n mid ≡ Err f) → (f ≡ OutOfMemory → IsOk (taken n mid)) → (n ≡ 0 → false ≡ true) →
@@ -65,9 +64,12 @@ module _ {K V : Type 0} (r : Rules K V) (pairs : List (K × V)) (records : List 
     inner : inner_need r.key r.val r.depth bs ≡ fields_need e
     inner = ap (λ z. need_by z (λ x. fields_need x.0)) is
 
+    there : TakesDelimited bs e rest
+    there = delimited_there bs e rest is
+
     parts_memory : (r.cost ≤ left.memory) × (EntryFieldsTakeMemory r.key r.val r.depth e ⊎ ((s : MapEntry K V) × IsEntry r.key r.val r.depth e s × (s.known ≡ true))) → EntryTakesMemory r left bs
-    parts_memory (room, inl field) = (e, rest, is, inr (room, inl field))
-    parts_memory (room, inr (s, h, known)) = (e, rest, is, inr (room, inr (s, h, inl known)))
+    parts_memory (room, inl field) = (e, rest, there, inr (room, inl field))
+    parts_memory (room, inr (s, h, known)) = (e, rest, there, inr (room, inr (s, h, inl known)))
 
     parts_fault : (f : DecodeError) → ((left.memory < r.cost) × (f ≡ ElementMemoryLimitExceeded)) ⊎ ((r.cost ≤ left.memory) × (Lacks left (need_of r.key r.val r.depth r.cost e) ⊎ FaultOf r.key r.val r.depth e f)) →
         EntryFault r.key r.val r.depth r.cost (unknown_cost r) left bs f
@@ -92,12 +94,12 @@ module _ {K V : Type 0} (r : Rules K V) (pairs : List (K × V)) (records : List 
             tail = delimited_tail bs e rest is;
             past = λ ne x after t. one_rest bs e rest x after is t;
             within = λ x after t. subst (λ z. IsTailOf z rest) (one_rest bs e rest x after is t) (tail_whole rest);
-            nothing_there = λ x no. absurd (ok_no_err (sym is ∙ no));
+            nothing_there = λ none. absurd (none e rest there);
           };
           spent = record {
             units = parts_units over.memory h.units;
             charged = λ ne e rest t room. h.charged room;
-            unspent = λ no. absurd (no (rw is refl));
+            unspent = λ none. absurd (none e rest there);
             most = h.most;
             least = omega (arith, h.least, taken);
             no_unknown = λ ne. omega (arith, h.least, taken);
@@ -149,19 +151,19 @@ module _ {K V : Type 0} (r : Rules K V) (pairs : List (K × V)) (records : List 
           let taken = ap (λ (z : BudgetLeft). z.unknown) inner in
           record {
             fault = λ ne. entry_without r.key r.val r.depth r.cost (unknown_cost r) left bs e rest s f is (omega (arith, h.pays)) h.entry known (rw (which ne).0 (omega (arith, (which ne).1, h.pays))) (which ne).2;
-            memory = λ out. (e, rest, is, inr (omega (arith, h.pays), inr (s, h.entry, inr ((keeps out).0, omega (arith, (keeps out).1, h.pays)))));
+            memory = λ out. (e, rest, there, inr (omega (arith, h.pays), inr (s, h.entry, inr ((keeps out).0, omega (arith, (keeps out).1, h.pays)))));
             pairs = refl;
             records = same;
             unread = record {
               tail = delimited_tail bs e rest is;
               past = λ ne x after t. one_rest bs e rest x after is t;
               within = λ x after t. subst (λ z. IsTailOf z rest) (one_rest bs e rest x after is t) (tail_whole rest);
-              nothing_there = λ x no. absurd (ok_no_err (sym is ∙ no));
+              nothing_there = λ none. absurd (none e rest there);
             };
             spent = record {
               units = inr (omega (arith, h.pays, unit), omega (arith, h.pays, unit, units));
               charged = λ ne e rest t room. omega (arith, h.pays, unit);
-              unspent = λ no. absurd (no (rw is refl));
+              unspent = λ none. absurd (none e rest there);
               most = omega (arith, h.pays, most);
               least = omega (arith, h.pays, least, taken);
               no_unknown = λ ne. omega (arith, h.pays, (which ne).3, taken);

@@ -26,7 +26,7 @@ use Rattle.buffa_map.proofs.NeedLemmas.{need_free}
 use Rattle.buffa_bytes.proofs.ResultLemmas.{not_ok}
 use Rattle.buffa_map.proofs.RunLemmas.{InFault, in_faulty, run_complete, run_faulty, said_complete, said_faulty, extra_kept}
 use Rattle.buffa_map.proofs.StopLemmas.{HasWholeRecord, LeavesRecord, SpendsOnRecord, broken, leaves, pairs_stand, record_need, records_stand, run_fault, spends}
-use Rattle.buffa_map.proofs.TailLemmas.{no_tag, one_number, one_wire, one_after}
+use Rattle.buffa_map.proofs.TailLemmas.{no_tag, not_delimited, one_number, one_wire, one_after}
 
 err_one : {A : Type 0} {x y : DecodeError} {r : Result A DecodeError} → r ≡ Err x → r ≡ Err y → x ≡ y
 err_one h k = cc
@@ -158,7 +158,7 @@ module _ {K V : Type 0} (r : Rules K V)
         let taken = ap (λ (z : BudgetLeft). z.unknown) none in
         same_left a.left b.left (omega (arith, h.spent.most, k.spent.most, h.spent.no_unknown ne, k.spent.no_unknown nf, taken))
         (one_memory old.left.memory r.cost (inner_need r.key r.val r.depth bs).memory a.left.memory b.left.memory unit h.spent.units k.spent.units (h.spent.charged ne p.0 p.1 t) (k.spent.charged nf p.0 p.1 t))
-    refused_left (Err z) is = h.spent.unspent (not_ok (delimited_at bs) z is) ∙ sym (k.spent.unspent (not_ok (delimited_at bs) z is))
+    refused_left (Err z) is = h.spent.unspent (not_delimited bs z is) ∙ sym (k.spent.unspent (not_delimited bs z is))
 
     refused_one : (f ≡ g) × SameState r a b
     refused_one =
@@ -175,7 +175,7 @@ module _ {K V : Type 0} (r : Rules K V)
   one_rest : (old : State K V) (bs : List ℕ) (a b : State K V) (x y : List ℕ) (f g : DecodeError) → RefusesEntry r old bs a x f → RefusesEntry r old bs b y g → f ≢ OutOfMemory → g ≢ OutOfMemory →
       (z : Result (List ℕ × List ℕ) DecodeError) → delimited_at bs ≡ z → x ≡ y
   one_rest old bs a b x y f g h k ne nf (Ok p) is = let t = agree_ok (delimited_at bs) p (delimited_sound bs) is in h.unread.past ne p.0 p.1 t ∙ sym (k.unread.past nf p.0 p.1 t)
-  one_rest old bs a b x y f g h k ne nf (Err z) is = h.unread.nothing_there z is ∙ sym (k.unread.nothing_there z is)
+  one_rest old bs a b x y f g h k ne nf (Err z) is = h.unread.nothing_there (not_delimited bs z is) ∙ sym (k.unread.nothing_there (not_delimited bs z is))
 
   pub entry_is_pinned : EntryIsPinned r
   entry_is_pinned = record {

@@ -3,7 +3,7 @@ use Rattle.std.proofs.Common.{arith, ◌≡◌, ◌≢◌, ◌⊎◌, inl, inr, 
 use Rattle.std.specs.Prelude.{IsOk, cond, if◌then◌else◌, length}
 use Rattle.buffa_bytes.specs.Content.{Content}
 use Rattle.buffa_bytes.specs.Content.Content.{bytes}
-use Rattle.buffa_bytes.specs.Front.{delimited_at, tag_at, ◌>>=◌, wire_number}
+use Rattle.buffa_bytes.specs.Front.{delimited_at, ◌>>=◌, wire_number}
 use Rattle.buffa_bytes.specs.Field.{LengthFault, PayloadFault, TagFault, TakesTag}
 use Rattle.buffa_bytes.specs.Scan.{join}
 use Rattle.buffa_bytes.specs.Values.{tag_encoding}
@@ -75,7 +75,7 @@ module _ {K V : Type 0} (key : Reading K) (val : Reading V) (d : ℕ) where
   -- where a field takes memory
   pub memory_told : (e : List ℕ) → EntryFieldsTakeMemory key val d e →
       (front : List ℕ) × (more : List ℕ) × (s : MapEntry K V) × (e ≡ front ++ more) × IsEntry key val d front s
-      × (((p : List ℕ) × (tag_at more ≡ Ok (1, key.wire, p)) × ReadingTakesMemory key d p) ⊎ ((p : List ℕ) × (tag_at more ≡ Ok (2, val.wire, p)) × ReadingTakesMemory val d p))
+      × (((p : List ℕ) × TakesTag more 1 key.wire p × ReadingTakesMemory key d p) ⊎ ((p : List ℕ) × TakesTag more 2 val.wire p × ReadingTakesMemory val d p))
   memory_told e (s, more, (ps, cut, each), h) = (join ps, more, s, cut, (ps, sym (append-nil (join ps)), each), h)
 
 -- ---- where messages take memory

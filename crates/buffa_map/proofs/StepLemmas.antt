@@ -2,7 +2,8 @@
 use Rattle.std.proofs.Common.{arith, ◌≡◌, ◌≢◌, ◌<◌, ◌++◌, inl, inr, ℕ, List, [], ◌∷◌, Ok, Err, ap, append-nil, append_assoc, length, refl, subst, sym, ◌∙◌}
 use Rattle.std.specs.Cmp.{IsEquivalence}
 use Rattle.std.proofs.lemmas.List.{nil_from_length}
-use Rattle.buffa_bytes.proofs.FieldLemmas.{tag_at_as, tag_falls}
+use Rattle.buffa_bytes.proofs.FieldLemmas.{tag_at_as, tag_falls, tag_sound}
+use Rattle.buffa_bytes.proofs.StepLemmas.{agree_err}
 use Rattle.buffa_bytes.specs.declared.error.DecodeError.{DecodeError}
 use Rattle.buffa_bytes.specs.declared.error.DecodeError.TheVariants.{UnexpectedField}
 use Rattle.buffa_bytes.specs.declared.wire_type.WireType.{WireType}
@@ -13,6 +14,7 @@ use Rattle.buffa_bytes.specs.Front.{check_wire, tag_at}
 use Rattle.buffa_map.specs.Merge.{MergesEntry, ReadsRun, RefusesEntry, RefusesRun, RefusesTag, Rules, State, unknown_cost}
 use Rattle.buffa_map.specs.Run.{EntryRecord}
 use Rattle.buffa_bytes.proofs.WireLemmas.{checked_same, checked_other}
+use Rattle.buffa_map.proofs.TailLemmas.{tag_there}
 use Rattle.buffa_map.proofs.RunLemmas.{fold_entries-more, fold_entries-order, Paid-more, Run-last, kept-more, none_kept, entry_falls, record_found}
 
 module _ {K V : Type 0} (r : Rules K V) (old : State K V) (bs : List ℕ) where
@@ -40,22 +42,22 @@ module _ {K V : Type 0} (r : Rules K V) (old : State K V) (bs : List ℕ) where
     stop_here unread f more why = record { front = h.front; rest = rest; split = h.split; some = not_nil rest more; now = now; read = h.read; refused = inl (why, refl) }
 
     pub stop_tag : (unread : List ℕ) (f : DecodeError) → unread ≡ past_no_tag rest → 0 < length rest → tag_at rest ≡ Err f → RefusesRun r old bs now unread f
-    stop_tag unread f left more is = stop_here unread f more (inl (is, left))
+    stop_tag unread f left more is = stop_here unread f more (inl (agree_err (tag_at rest) f (tag_sound rest) is, left))
 
     module _ (mid : List ℕ) (g : ℕ) (w : WireType) (more : 0 < length rest) (tag : tag_at rest ≡ Ok (g, w, mid)) where
       pub stop_other : g ≢ r.number → RefusesRun r old bs now mid (UnexpectedField g)
-      stop_other other = stop_here mid (UnexpectedField g) more (inr (g, w, tag, inl (other, refl)))
+      stop_other other = stop_here mid (UnexpectedField g) more (inr (g, w, tag_there rest mid g w tag, inl (other, refl)))
 
       pub stop_mismatch : (f : DecodeError) → g ≡ r.number → check_wire g LengthDelimited w ≡ Err f → RefusesRun r old bs now mid f
       stop_mismatch f same is =
           let why = checked_other r.number LengthDelimited w f (subst (λ z. check_wire z LengthDelimited w ≡ Err f) same is) in
-          stop_here mid f more (inr (g, w, tag, inr (same, why.0, why.1)))
+          stop_here mid f more (inr (g, w, tag_there rest mid g w tag, inr (same, why.0, why.1)))
 
       module _ (same : g ≡ r.number) (wire : check_wire g LengthDelimited w ≡ Ok tt) where
         pub stop_entry : (new : State K V) (unread : List ℕ) (f : DecodeError) → RefusesEntry r now mid new unread f → RefusesRun r old bs new unread f
         stop_entry new unread f k =
             let found = tag_at_as rest mid g r.number w LengthDelimited tag same (checked_same g LengthDelimited w wire) in
-            record { front = h.front; rest = rest; split = h.split; some = not_nil rest more; now = now; read = h.read; refused = inr (mid, found, k) }
+            record { front = h.front; rest = rest; split = h.split; some = not_nil rest more; now = now; read = h.read; refused = inr (mid, tag_there rest mid r.number LengthDelimited found, k) }
 
         pub one_more : IsEquivalence r.same → (new : State K V) (after : List ℕ) → MergesEntry r now mid new after → Reached new after
         one_more laws new after k =

@@ -1,12 +1,12 @@
 -- What is known of a refused run, of its parts: why the record at which it stopped isn't one, and what is unread and spent then.
 use Rattle.std.proofs.Common.{arith, ◌≡◌, ◌≢◌, ◌+◌, ◌≤◌, ◌⊎◌, inl, inr, ℕ, List, Ok, Err, ap, refl, subst, sym, ◌∙◌}
 use Rattle.std.specs.Prelude.{IsOk}
-use Rattle.buffa_bytes.proofs.FieldLemmas.{tag_sound}
+use Rattle.buffa_bytes.proofs.DelimitedLemmas.{delimited_taken}
+use Rattle.buffa_bytes.proofs.FieldLemmas.{tag_faulty, tag_read}
 use Rattle.buffa_bytes.proofs.SequenceLemmas.{ok_no_err}
-use Rattle.buffa_bytes.proofs.StepLemmas.{agree_err}
 use Rattle.buffa_bytes.proofs.TailLemmas.{tail_more}
 use Rattle.buffa_bytes.proofs.WireLemmas.{check_differs, check_same}
-use Rattle.buffa_bytes.specs.Field.{TakesDelimited}
+use Rattle.buffa_bytes.specs.Field.{TakesDelimited, TakesTag}
 use Rattle.buffa_bytes.specs.Front.{check_wire, delimited_at, tag_at}
 use Rattle.buffa_bytes.specs.Left.{past_no_delimited, past_no_tag, IsTailOf}
 use Rattle.buffa_bytes.specs.declared.error.DecodeError.{DecodeError}
@@ -19,7 +19,7 @@ use Rattle.buffa_map.specs.Entry.{inner_need}
 use Rattle.buffa_map.specs.Merge.{RefusesEntry, RefusesRun, RefusesTag, Rules, State, unknown_cost}
 use Rattle.buffa_map.specs.Run.{RecordFault, RunFault}
 use Rattle.buffa_map.proofs.RunLemmas.{record_entry, record_mismatch, record_other, record_tag}
-use Rattle.buffa_map.proofs.TailLemmas.{no_tag, one_after, one_number, one_wire, past_tag_tail, tag_tail}
+use Rattle.buffa_map.proofs.TailLemmas.{no_tag, not_delimited, one_after, one_number, one_wire, past_tag_tail, tag_tail, tail_behind}
 
 -- a tag of this number, a length and so many bytes begin the bytes
 abbrev pub HasWholeRecord : ℕ → List ℕ → Type 0
@@ -49,22 +49,24 @@ pub record SpendsOnRecord {K V : Type 0} (r : Rules K V) (left : BudgetLeft) (by
 
 -- a tag that was refused is none of the field's
 not_of_field : (n : ℕ) (rest tail : List ℕ) (f : DecodeError) → RefusesTag n rest tail f → (mid : List ℕ) → tag_at rest ≡ Ok (n, LengthDelimited, mid) → ⊥
-not_of_field n rest tail f (inl (is, left)) mid k = no_tag rest f is n LengthDelimited mid k
-not_of_field n rest tail f (inr (g, w, tag, inl (other, which))) mid k = other (one_number rest tail mid g n w LengthDelimited tag k)
-not_of_field n rest tail f (inr (g, w, tag, inr (same, differs, which))) mid k = differs (one_wire rest tail mid g n w LengthDelimited tag k)
+not_of_field n rest tail f (inl (bad, left)) mid k = no_tag rest f (tag_faulty rest f bad) n LengthDelimited mid k
+not_of_field n rest tail f (inr (g, w, tag, inl (other, which))) mid k = other (one_number rest tail mid g n w LengthDelimited (tag_read rest tail g w tag) k)
+not_of_field n rest tail f (inr (g, w, tag, inr (same, differs, which))) mid k = differs (one_wire rest tail mid g n w LengthDelimited (tag_read rest tail g w tag) k)
 
 tag_leaves : (n : ℕ) (rest tail : List ℕ) (f : DecodeError) → RefusesTag n rest tail f → LeavesRecord n rest f tail
-tag_leaves n rest tail f (inl (is, left)) = record {
-  tail = subst (λ z. IsTailOf z rest) (sym left) (past_tag_tail rest f (agree_err (tag_at rest) f (tag_sound rest) is));
-  past_no_tag = λ x no. left;
-  past_tag = λ g w mid k other. absurd (no_tag rest f is g w mid k);
-  past = λ ne mid e after k t. absurd (no_tag rest f is n LengthDelimited mid k);
-  nothing_there = λ mid x k no. absurd (no_tag rest f is n LengthDelimited mid k);
-}
+tag_leaves n rest tail f (inl (bad, left)) =
+    let is = tag_faulty rest f bad in
+    record {
+      tail = subst (λ z. IsTailOf z rest) (sym left) (past_tag_tail rest f bad);
+      past_no_tag = λ x no. left;
+      past_tag = λ g w mid k other. absurd (no_tag rest f is g w mid k);
+      past = λ ne mid e after k t. absurd (no_tag rest f is n LengthDelimited mid k);
+      nothing_there = λ mid x k no. absurd (no_tag rest f is n LengthDelimited mid k);
+    }
 tag_leaves n rest tail f (inr (g, w, tag, why)) = record {
-  tail = tag_tail rest tail g w tag;
-  past_no_tag = λ x no. absurd (ok_no_err (sym tag ∙ no));
-  past_tag = λ h v m k other. one_after rest tail m g h w v tag k;
+  tail = tail_behind tag.0 tail rest tag.2;
+  past_no_tag = λ x no. absurd (ok_no_err (sym (tag_read rest tail g w tag) ∙ no));
+  past_tag = λ h v m k other. one_after rest tail m g h w v (tag_read rest tail g w tag) k;
   past = λ ne mid e after k t. absurd (not_of_field n rest tail f (inr (g, w, tag, why)) mid k);
   nothing_there = λ mid x k no. absurd (not_of_field n rest tail f (inr (g, w, tag, why)) mid k);
 }
@@ -74,29 +76,30 @@ module _ {K V : Type 0} (r : Rules K V) (now new : State K V) (rest tail : List 
   abbrev IsRefused : Type 0
   IsRefused =
       (RefusesTag r.number rest tail f × (new ≡ now))
-      ⊎ ((mid : List ℕ) × (tag_at rest ≡ Ok (r.number, LengthDelimited, mid)) × RefusesEntry r now mid new tail f)
+      ⊎ ((mid : List ℕ) × TakesTag rest r.number LengthDelimited mid × RefusesEntry r now mid new tail f)
 
   broken_by : IsRefused → f ≢ OutOfMemory → RecordFault r.key r.val r.depth r.number r.cost (unknown_cost r) now.left rest f
-  broken_by (inl (inl (is, left), same)) ne = record_tag r.key r.val r.depth r.number r.cost (unknown_cost r) now.left rest f is
+  broken_by (inl (inl (bad, left), same)) ne = record_tag r.key r.val r.depth r.number r.cost (unknown_cost r) now.left rest f (tag_faulty rest f bad)
   broken_by (inl (inr (g, w, tag, inl (other, which)), same)) ne =
       subst (λ z. RecordFault r.key r.val r.depth r.number r.cost (unknown_cost r) now.left rest z) (sym which)
-      (record_other r.key r.val r.depth r.number r.cost (unknown_cost r) now.left rest tail g w tag other)
+      (record_other r.key r.val r.depth r.number r.cost (unknown_cost r) now.left rest tail g w (tag_read rest tail g w tag) other)
   broken_by (inl (inr (g, w, tag, inr (is, differs, which)), same)) ne =
       let checked : check_wire r.number LengthDelimited w ≡ Err f = check_differs r.number LengthDelimited w differs ∙ ap (λ z. Err z) (sym which) in
-      record_mismatch r.key r.val r.depth r.number r.cost (unknown_cost r) now.left rest tail g w f tag is (subst (λ z. check_wire z LengthDelimited w ≡ Err f) (sym is) checked)
+      record_mismatch r.key r.val r.depth r.number r.cost (unknown_cost r) now.left rest tail g w f (tag_read rest tail g w tag) is (subst (λ z. check_wire z LengthDelimited w ≡ Err f) (sym is) checked)
   broken_by (inr (mid, tag, k)) ne =
-      record_entry r.key r.val r.depth r.number r.cost (unknown_cost r) now.left rest mid r.number LengthDelimited f tag refl (check_same r.number LengthDelimited LengthDelimited refl) (k.fault ne)
+      record_entry r.key r.val r.depth r.number r.cost (unknown_cost r) now.left rest mid r.number LengthDelimited f (tag_read rest mid r.number LengthDelimited tag) refl (check_same r.number LengthDelimited LengthDelimited refl) (k.fault ne)
 
   leaves_by : IsRefused → LeavesRecord r.number rest f tail
   leaves_by (inl (t, same)) = tag_leaves r.number rest tail f t
-  leaves_by (inr (mid, found, k)) =
+  leaves_by (inr (mid, takes, k)) =
+      let found = tag_read rest mid r.number LengthDelimited takes in
       let one : (m : List ℕ) → tag_at rest ≡ Ok (r.number, LengthDelimited, m) → m ≡ mid = λ m is. one_after rest m mid r.number r.number LengthDelimited LengthDelimited is found in
       record {
         tail = tail_more rest mid tail k.unread.tail (tag_tail rest mid r.number LengthDelimited found);
         past_no_tag = λ x no. absurd (ok_no_err (sym found ∙ no));
         past_tag = λ h v m is other. absurd (elim other [ inl n ↦ n (one_number rest m mid h r.number v LengthDelimited is found) | inr n ↦ n (one_wire rest m mid h r.number v LengthDelimited is found) ]);
         past = λ ne m e after is t. k.unread.past ne e after (subst (λ z. TakesDelimited z e after) (one m is) t);
-        nothing_there = λ m x is no. k.unread.nothing_there x (ap delimited_at (sym (one m is)) ∙ no) ∙ ap past_no_delimited (sym (one m is));
+        nothing_there = λ m x is no. k.unread.nothing_there (not_delimited mid x (ap delimited_at (sym (one m is)) ∙ no)) ∙ ap past_no_delimited (sym (one m is));
       }
 
   spends_by : IsRefused → SpendsOnRecord r now.left rest f new.left
@@ -109,14 +112,15 @@ module _ {K V : Type 0} (r : Rules K V) (now new : State K V) (rest tail : List 
         most = omega arith;
         no_unknown = λ ne. omega arith;
       })
-  spends_by (inr (mid, found, k)) =
+  spends_by (inr (mid, takes, k)) =
+      let found = tag_read rest mid r.number LengthDelimited takes in
       let need : record_need r.key r.val r.depth rest ≡ inner_need r.key r.val r.depth mid = rw found refl in
       let units = ap (λ (z : BudgetLeft). z.memory) need in
       let taken = ap (λ (z : BudgetLeft). z.unknown) need in
       record {
         units = elim k.spent.units [ inl e ↦ inl e | inr e ↦ inr (e.0, omega (arith, e.1, units)) ];
         charged = λ ne m e after is t room. k.spent.charged ne e after (subst (λ z. TakesDelimited z e after) (one_after rest m mid r.number r.number LengthDelimited LengthDelimited is found) t) room;
-        unspent = λ no. k.spent.unspent (λ is. no (mid, found, is));
+        unspent = λ no. k.spent.unspent (λ e after t. no (mid, found, rw (delimited_taken mid e after t) cc));
         most = k.spent.most;
         no_unknown = λ ne. omega (arith, k.spent.no_unknown ne, taken);
       }

@@ -1,5 +1,5 @@
 -- Where readers leave what is unread.
-use Rattle.std.proofs.Common.{◌≡◌, inl, inr, ℕ, List, ◌++◌, Ok, Err, length, take, drop, ap, append_assoc, refl, subst, sym, ◌∙◌, ◌<◌, ◌≤◌}
+use Rattle.std.proofs.Common.{◌≡◌, inl, inr, ℕ, List, ◌++◌, Result, Ok, Err, length, take, drop, ap, append_assoc, refl, subst, sym, ◌∙◌, ◌<◌, ◌≤◌}
 use Rattle.std.proofs.lemmas.Bool.{lt-ltb}
 use Rattle.std.proofs.Math.Seq.{drop-append_seam}
 use Rattle.buffa_bytes.proofs.DelimitedLemmas.{delimited_sound, delimited_taken, taken_sound}
@@ -13,7 +13,7 @@ use Rattle.buffa_bytes.specs.declared.error.DecodeError.{DecodeError}
 use Rattle.buffa_bytes.specs.declared.error.DecodeError.TheVariants.{UnexpectedEof}
 use Rattle.buffa_bytes.proofs.LendLemmas.{delimited_front}
 use Rattle.buffa_bytes.specs.declared.wire_type.WireType.{WireType}
-use Rattle.buffa_bytes.specs.Field.{TagFault, TakesDelimited}
+use Rattle.buffa_bytes.specs.Field.{TagFault, TakesDelimited, TakesTag}
 use Rattle.buffa_bytes.specs.Front.{taken, varint_at, delimited_at, tag_at}
 
 pub tail_behind : (front rest all : List ℕ) → all ≡ front ++ rest → IsTailOf rest all
@@ -54,6 +54,25 @@ pub delimited_tail : (bs e rest : List ℕ) → delimited_at bs ≡ Ok (e, rest)
 delimited_tail bs e rest h =
     let t = agree_ok (delimited_at bs) (e, rest) (delimited_sound bs) h in
     tail_behind (t.0 ++ e) rest bs (t.2 ∙ sym (append_assoc t.0 e rest))
+
+-- a tag, or a length and so many bytes, begins bytes where it is read there
+pub tag_there : (bs rest : List ℕ) (n : ℕ) (w : WireType) → tag_at bs ≡ Ok (n, w, rest) → TakesTag bs n w rest
+tag_there bs rest n w h = let t = agree_ok (tag_at bs) (n, w, rest) (tag_sound bs) h in (t.0, t.1, t.2)
+
+pub delimited_there : (bs e rest : List ℕ) → delimited_at bs ≡ Ok (e, rest) → TakesDelimited bs e rest
+delimited_there bs e rest h = let t = agree_ok (delimited_at bs) (e, rest) (delimited_sound bs) h in (t.0, t.1, t.2)
+
+-- none does where they are refused
+pub not_delimited : (bs : List ℕ) (x : DecodeError) → delimited_at bs ≡ Err x → (e rest : List ℕ) → TakesDelimited bs e rest → ⊥
+not_delimited bs x h e rest t = let k = sym h ∙ delimited_taken bs e rest t in cc
+
+-- and they are refused where none does
+pub none_delimited : (bs : List ℕ) → ((e rest : List ℕ) → TakesDelimited bs e rest → ⊥) → (x : DecodeError) × (delimited_at bs ≡ Err x)
+none_delimited bs none = at (delimited_at bs) refl
+  where
+    at : (r : Result (List ℕ × List ℕ) DecodeError) → delimited_at bs ≡ r → (x : DecodeError) × (delimited_at bs ≡ Err x)
+    at (Ok p) is = absurd (none p.0 p.1 (delimited_there bs p.0 p.1 is))
+    at (Err x) is = (x, is)
 
 -- one rest follows a length and so many bytes
 pub one_rest : (bs e rest x after : List ℕ) → delimited_at bs ≡ Ok (e, rest) → TakesDelimited bs x after → rest ≡ after

@@ -73,7 +73,8 @@ abbrev pub ValueFault : {V : Type 0} → Reading V → ℕ → V → List ℕ �
 ValueFault codec d old bs e =
     (level codec.nested d ≡ Err e)
     ⊎ (((level codec.nested d ≡ Ok tt) × ContentFault codec.wire bs e)
-    ⊎ ((level codec.nested d ≡ Ok tt) × (c : Content) × (rest : List ℕ) × (x : DecodeError) × TakesContent codec.wire bs c rest × (codec.reads d old c ≡ Err x) × Tells codec.nested x e))
+    ⊎ ((level codec.nested d ≡ Ok tt) × (c : Content) × (rest : List ℕ) × (x : DecodeError)
+    × TakesContent codec.wire bs c rest × (codec.reads d old c ≡ Err x) × Tells codec.nested x e))
 
 -- ---- what merging a payload promises, where payloads are nested or not
 

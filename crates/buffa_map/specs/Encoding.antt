@@ -42,7 +42,7 @@ abbrev pub UsesRoomOf : {T : Type 0} → Result T EncodeError → ℕ → List �
 UsesRoomOf r room encoding left = MatchResult r (λ _. room ≤ left + length encoding) (λ e. e ≡ OutOfMemory → room < length encoding)
 
 module _ {K W : Type 0} (key : Writing K) (val : Writing W) (n : ℕ) (old new : List ℕ) where
-  -- the record of p was written; or memory ran out after a beginning of it; or its entry is too long, and nothing was written
+  -- why the record of p wasn't written: memory ran out after a beginning of it; or its entry is too long, and nothing was written
   abbrev pub RefusesRecord : K × W → EncodeError → Type 0
   RefusesRecord p OutOfMemory = (length (entry_encoding key val p) < 2 ^ 64) × WritesFront old (record_encoding key val n p) new
   RefusesRecord p MessageTooLarge = (2 ^ 64 ≤ length (entry_encoding key val p)) × (new ≡ old)
@@ -51,8 +51,8 @@ module _ {K W : Type 0} (key : Writing K) (val : Writing W) (n : ℕ) (old new :
   abbrev pub WritesRecord : {T : Type 0} → Result T EncodeError → K × W → Type 0
   WritesRecord r p = MatchResult r (λ _. (length (entry_encoding key val p) < 2 ^ 64) × (new ≡ old ++ record_encoding key val n p)) (RefusesRecord p)
 
-  -- the records of l were written; or memory ran out after those of the pairs of done and a beginning of the next, whose
-  -- entry isn't too long; or that is the first entry that is too long, and the records of done were written
+  -- why the records of l weren't: memory ran out after those of the pairs of done and a beginning of the next, whose entry isn't
+  -- too long; or that is the first entry that is too long, and the records of done were written
   abbrev pub RefusesField : List (K × W) → EncodeError → Type 0
   RefusesField l OutOfMemory =
       (done : List (K × W)) × (p : K × W) × (rest : List (K × W)) × (l ≡ done ++ p ∷ rest) × HasEncoding key val done

@@ -17,7 +17,7 @@ abbrev pub meant_entry : {K V A B : Type 0} → (K → A) → (V → B) → MapE
 meant_entry f g s = record { key = f s.key; value = g s.value; known = s.known }
 
 module _ {V : Type 0} (codec : Reading V) (d n : ℕ) (old : V) where
-  -- f is a field of number n and the codec's wire type, which makes new of old
+  -- f is a field of number n and the codec's wire type, for which a level is left, and which makes new of old
   abbrev pub IsCodecField : List ℕ → V → Bool → Type 0
   IsCodecField f new known =
       (t : List ℕ) × (p : List ℕ) × (c : Content) × IsTag t n codec.wire × (level codec.nested d ≡ Ok tt) × HasContent codec.wire p c
@@ -92,7 +92,7 @@ module _ {K V : Type 0} (key : Reading K) (val : Reading V) (d : ℕ) where
   unfoldable pub need_at : MapEntry K V → List ℕ → BudgetLeft
   need_at s bs = scan (λ t rest. costs (field_need rest) (entry_field_at t rest)) nothing s bs
 
-  -- What an entry needs, a malformed one too: so many units, and what the messages cost that are merged in it.
+  -- What an entry needs, a malformed one too: so many units, and what the messages cost that are merged in it, or refused.
   abbrev pub need_of : ℕ → List ℕ → BudgetLeft
   need_of cost e = plus (units cost) (need_at blanks e)
 
@@ -106,7 +106,8 @@ module _ {K V : Type 0} (key : Reading K) (val : Reading V) (d : ℕ) where
       ⊎ ((e : List ℕ) × (rest : List ℕ) × TakesDelimited bs e rest
       × (((left.memory < cost) × (f ≡ ElementMemoryLimitExceeded))
       ⊎ ((cost ≤ left.memory) × (Lacks left (need_of cost e) ⊎ (FaultOf e f
-      ⊎ ((s : MapEntry K V) × IsEntry e s × (s.known ≡ false) × (left.unknown < (need_of cost e).unknown + unknown_cost) × (f ≡ UnknownFieldLimitExceeded)))))))
+      ⊎ ((s : MapEntry K V) × IsEntry e s × (s.known ≡ false) × (left.unknown < (need_of cost e).unknown + unknown_cost)
+      × (f ≡ UnknownFieldLimitExceeded)))))))
 
   -- what the length and the entry at the front need beyond the units, if they are there
   abbrev pub inner_need : List ℕ → BudgetLeft
@@ -118,10 +119,10 @@ module _ {K V : Type 0} (key : Reading K) (val : Reading V) (d : ℕ) where
   -- where merging the field at the front takes memory: it is the key's or the value's, and its codec takes it
   abbrev pub EntryFieldTakesMemory : List ℕ → Type 0
   EntryFieldTakesMemory bytes =
-      ((rest : List ℕ) × (tag_at bytes ≡ Ok (1, key.wire, rest)) × ReadingTakesMemory key d rest)
-      ⊎ ((rest : List ℕ) × (tag_at bytes ≡ Ok (2, val.wire, rest)) × ReadingTakesMemory val d rest)
+      ((rest : List ℕ) × TakesTag bytes 1 key.wire rest × ReadingTakesMemory key d rest)
+      ⊎ ((rest : List ℕ) × TakesTag bytes 2 val.wire rest × ReadingTakesMemory val d rest)
 
-  -- the fields that begin the bytes are followed by one that takes memory
+  -- some fields that begin the bytes are followed by one that takes memory
   abbrev pub EntryFieldsTakeMemory : List ℕ → Type 0
   EntryFieldsTakeMemory bytes =
       (s : MapEntry K V) × (rest : List ℕ) × ParsesTo (IsEntryField key val d) (blanks key val d) bytes s rest × EntryFieldTakesMemory rest

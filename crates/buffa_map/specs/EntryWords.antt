@@ -1,6 +1,6 @@
 -- What the laws say of entries, runs and maps in the words of bytes and lists: tags, lengths and payloads, as the layer
 -- below reads them, and lists of pairs.
-use Rattle.std.specs.Prelude.{◌≡◌, ◌≢◌, ◌↔◌, ◌⊎◌, ℕ, ◌+◌, ◌<◌, ◌≤◌, Bool, true, false, not, List, [], ◌∷◌, ◌++◌, map, None, Ok, Err}
+use Rattle.std.specs.Prelude.{◌≡◌, ◌≢◌, ◌↔◌, ◌⊎◌, ℕ, ◌+◌, ◌<◌, ◌≤◌, Bool, true, false, not, List, [], ◌∷◌, ◌++◌, map, None, Ok, Err, if◌then◌else◌}
 use Rattle.std.specs.Cmp.{IsEquivalence}
 use Rattle.std.specs.List.{IsDistinct, filter}
 use Rattle.std.specs.Map.{keys_of, lookup_entry}
@@ -95,11 +95,11 @@ module _ {K V : Type 0} (r : Rules K V) where
         IsEntry r.key r.val r.depth e s → s.known ≡ false → r.keeps_undeclared ≡ true → Pays old.left (need_of r.key r.val r.depth r.cost e) left →
         left.unknown ≡ 0 → RefusesEntry r old bs (state old.pairs old.records left) rest UnknownFieldLimitExceeded
 
-  -- What a refused entry leaves: the pairs and the records. A fault of one that is there spends its units, also where its
-  -- value is a message, and leaves what follows it unread. Memory runs out only where a length and so many bytes are there,
-  -- and where no codec takes memory only where the pair is put, or the entry kept. No more is spent than the entry needs, and an
-  -- unknown field where memory runs out as it is kept; and nothing where no length and so many bytes are there. Where memory runs
-  -- out, at least what follows the entry is unread.
+  -- What a refused entry leaves: the pairs and the records, and an end of the bytes unread. A fault of one that is there spends its
+  -- units, also where its value is a message, and leaves what follows it unread. Memory runs out only where a length and so many
+  -- bytes are there, and where no codec takes memory only where the pair is put, or the entry kept. Its units are spent, or no unit
+  -- is. No more is spent than the entry needs, and, where undeclared entries are kept and memory runs out, an unknown field; and
+  -- nothing where no length and so many bytes are there. Where memory runs out, at least what follows the entry is unread.
   pub record RefusedEntriesStay : Type 0 where
     pub pairs : (old new : State K V) (bs tail : List ℕ) (f : DecodeError) → RefusesEntry r old bs new tail f → new.pairs ≡ old.pairs
     pub records : (old new : State K V) (bs tail : List ℕ) (f : DecodeError) → RefusesEntry r old bs new tail f → new.records ≡ old.records
@@ -116,10 +116,13 @@ module _ {K V : Type 0} (r : Rules K V) where
     pub units : (old new : State K V) (bs e rest tail : List ℕ) (f : DecodeError) → RefusesEntry r old bs new tail f → delimited_at bs ≡ Ok (e, rest) →
         old.left.memory ≤ new.left.memory + (need_of r.key r.val r.depth r.cost e).memory
     pub fields : (old new : State K V) (bs e rest tail : List ℕ) (f : DecodeError) → RefusesEntry r old bs new tail f → delimited_at bs ≡ Ok (e, rest) →
-        (old.left.unknown ≤ new.left.unknown + ((need_of r.key r.val r.depth r.cost e).unknown + 1))
+        (old.left.unknown ≤ new.left.unknown + ((need_of r.key r.val r.depth r.cost e).unknown + (if r.keeps_undeclared then 1 else 0)))
         × (f ≢ OutOfMemory → old.left.unknown ≤ new.left.unknown + (need_of r.key r.val r.depth r.cost e).unknown)
     pub unspent : (old new : State K V) (bs tail : List ℕ) (f g : DecodeError) → RefusesEntry r old bs new tail f → delimited_at bs ≡ Err g →
         (new.left ≡ old.left) × (tail ≡ past_no_delimited bs)
+    pub end : (old new : State K V) (bs tail : List ℕ) (f : DecodeError) → RefusesEntry r old bs new tail f → IsTailOf tail bs
+    pub all_units : (old new : State K V) (bs tail : List ℕ) (f : DecodeError) → RefusesEntry r old bs new tail f →
+        (new.left.memory ≡ old.left.memory) ⊎ (new.left.memory + r.cost ≤ old.left.memory)
     pub behind : (old new : State K V) (bs e rest tail : List ℕ) (f : DecodeError) → RefusesEntry r old bs new tail f → delimited_at bs ≡ Ok (e, rest) → IsTailOf rest tail
     pub taken : (old new : State K V) (bs tail : List ℕ) → RefusesEntry r old bs new tail OutOfMemory → (e : List ℕ) × (rest : List ℕ) × (delimited_at bs ≡ Ok (e, rest))
         × (((r.keeps_undeclared ≡ true) × (r.val.undeclared ≡ true) × (e ≢ []))

@@ -1,6 +1,6 @@
 -- What the laws say of the encodings of map fields, and of rewrites, in the words of bytes and lists.
 -- Source: the protobuf encoding guide, "Maps".
-use Rattle.std.specs.Prelude.{◌≡◌, ◌↔◌, ℕ, ℤ, ◌+◌, ◌-◌, ◌*◌, ◌^◌, ◌<◌, ◌≤◌, true, List, [], ◌∷◌, ◌++◌, length, min, take, Ok, Err}
+use Rattle.std.specs.Prelude.{◌≡◌, ◌↔◌, ◌⊎◌, ℕ, ℤ, ◌+◌, ◌-◌, ◌*◌, ◌^◌, ◌<◌, ◌≤◌, true, List, [], ◌∷◌, ◌++◌, length, min, take, Ok, Err}
 use Rattle.std.specs.List.{AllByRecursion, flat_map}
 use Rattle.buffa_bytes.specs.Varint.{varint_encoding}
 use Rattle.buffa_bytes.specs.Front.{wire_number}
@@ -33,6 +33,12 @@ module _ {K V : Type 0} (key : Writing K) (val : Writing V) where
   abbrev pub pair_bytes : K × V → List ℕ
   pair_bytes p = ((8 + wire_number key.wire) ∷ key.encoding p.0) ++ ((16 + wire_number val.wire) ∷ val.encoding p.1)
 
+  -- behind the old bytes are the records of the pairs in front of one, and a beginning of its own; none of these is too long
+  abbrev pub EndsInRecord : ℕ → List ℕ → List ℕ → List (K × V) → Type 0
+  EndsInRecord n old new l =
+      (done : List (K × V)) × (p : K × V) × (rest : List (K × V)) × (front : List ℕ) × (l ≡ done ++ p ∷ rest) × HasEncoding key val done
+      × (length (pair_bytes p) < 2 ^ 64) × (new ≡ old ++ (field_encoding key val n done ++ front)) × IsPartOf front (record_bytes n (pair_bytes p))
+
   -- A field is a record for each pair, in order; its size is the sum of their lengths. It is written whole; or up to a pair
   -- whose entry is too long for its length to be a varint; or a beginning of it, where memory runs out.
   pub record FieldsAreRecords (P : K → Type 0) (Q : V → Type 0) : Type 0 where
@@ -45,15 +51,15 @@ module _ {K V : Type 0} (key : Writing K) (val : Writing V) where
     pub written : (n : ℕ) (old new : List ℕ) (l : List (K × V)) → WritesField key val n old new done l → HasEncoding key val l × (new ≡ old ++ field_encoding key val n l)
     pub too_long : (n : ℕ) (old new : List ℕ) (l : List (K × V)) → WritesField key val n old new (refusal MessageTooLarge) l →
         (front : List (K × V)) × (p : K × V) × (rest : List (K × V)) × (l ≡ front ++ p ∷ rest) × HasEncoding key val front × (2 ^ 64 ≤ length (pair_bytes p)) × (new ≡ old ++ field_encoding key val n front)
-    pub no_room : (n : ℕ) (old new : List ℕ) (l : List (K × V)) → WritesField key val n old new (refusal OutOfMemory) l →
-        (front : List ℕ) × (new ≡ old ++ front) × IsPartOf front (field_encoding key val n l)
+    pub no_room : (n : ℕ) (old new : List ℕ) (l : List (K × V)) → WritesField key val n old new (refusal OutOfMemory) l → EndsInRecord n old new l
     pub no_group : (n : ℕ) (old new : List ℕ) (l : List (K × V)) (e : DecodeError) → WritesField key val n old new (refusal (GroupRefused e)) l → ⊥
     pub room : (before after : ℕ) (encoding : List ℕ) → UsesRoomOf done before encoding after ↔ (before ≤ after + length encoding)
     pub full : (before after : ℕ) (encoding : List ℕ) → UsesRoomOf (refusal OutOfMemory) before encoding after → before < length encoding
 
   -- A rewrite is the field of the map that the entries make of the empty one, its pairs in any order, and behind it a record
-  -- for each undeclared entry, in order. It is written behind what the sink has, or a beginning of it is: as much as there is room
-  -- for, or up to a pair whose entry is too long. A map that keeps the order of the keys is written in it.
+  -- for each undeclared entry, in order. It is written behind what the sink has, or a beginning of it is: up to a record for which
+  -- there is no room, or to a pair whose entry is too long. The pairs are in an order that a walk of the map has, and a map that keeps
+  -- the order of the keys is written in it, also where it is refused.
   module _ (r : Rules K V) (KeyFits : K → Type 0) (ValFits : V → Type 0) (Walks : List (K × V) → Type 0) where
     pub record RewritesAreFields : Type 0 where
       pub rewrite : (n : ℕ) (es : List (EntryRecord K V)) (out : List ℕ) → IsRewrite r.same key val KeyFits ValFits n es out ↔
@@ -75,13 +81,19 @@ module _ {K V : Type 0} (key : Writing K) (val : Writing V) where
           × (written ≡ old ++ (field_encoding key val r.number (fold_entries r.same [] es) ++ flat_map (record_bytes r.number) (undeclared es)))
       pub no_room : (left over : BudgetLeft) (bs rest old written : List ℕ) (new : List (K × V)) (before : ℕ) →
           RefusesEncoding r key val Walks left bs new over rest old written before OutOfMemory →
-          (es : List (EntryRecord K V)) × (l : List (K × V)) × (front : List ℕ) × Run r.key r.val r.depth r.number bs es × ListsOnce r.same (fold_entries r.same [] es) l
-          × (written ≡ old ++ front) × IsPartOf front (field_encoding key val r.number l ++ flat_map (record_bytes r.number) (undeclared es))
+          (es : List (EntryRecord K V)) × (l : List (K × V)) × Run r.key r.val r.depth r.number bs es × ListsOnce r.same (fold_entries r.same [] es) l
+          × (r.keeps_order ≡ true → l ≡ fold_entries r.same [] es) × Walks l
           × (before < length (field_encoding key val r.number l ++ flat_map (record_bytes r.number) (undeclared es)))
+          × (EndsInRecord r.number old written l
+          ⊎ (HasEncoding key val l × (front : List ℕ) × (written ≡ old ++ (field_encoding key val r.number l ++ front))
+          × IsPartOf front (flat_map (record_bytes r.number) (undeclared es))))
       pub too_long : (left over : BudgetLeft) (bs rest old written : List ℕ) (new : List (K × V)) (before : ℕ) →
           RefusesEncoding r key val Walks left bs new over rest old written before MessageTooLarge →
           (es : List (EntryRecord K V)) × (front : List (K × V)) × (p : K × V) × (behind : List (K × V)) × Run r.key r.val r.depth r.number bs es
-          × ListsOnce r.same (fold_entries r.same [] es) (front ++ p ∷ behind) × (2 ^ 64 ≤ length (pair_bytes p)) × (written ≡ old ++ field_encoding key val r.number front)
+          × ListsOnce r.same (fold_entries r.same [] es) (front ++ p ∷ behind) × (r.keeps_order ≡ true → front ++ p ∷ behind ≡ fold_entries r.same [] es) × Walks (front ++ p ∷ behind)
+          × HasEncoding key val front × (2 ^ 64 ≤ length (pair_bytes p)) × (written ≡ old ++ field_encoding key val r.number front)
+      pub no_group : (left over : BudgetLeft) (bs rest old written : List ℕ) (new : List (K × V)) (before : ℕ) (e : DecodeError) →
+          RefusesEncoding r key val Walks left bs new over rest old written before (GroupRefused e) → ⊥
 
 -- A field of messages has a slot for the length of each message, and then the message's own. The size pass appends them, and
 -- leaves the old slots first; the write pass consumes them, and leaves the sink's old bytes first.
@@ -93,6 +105,7 @@ module _ {K M : Type 0} (key : Writing K) (encoding slots : M → List ℕ) wher
     pub sized : (t n : ℕ) (l : List (K × M)) (old new : Cache) → IsFieldSized key encoding slots t l old (Ok n) new →
         (new.slots ≡ old.slots ++ field_slots encoding slots l) × (new.next ≡ old.next)
         × (IsSmallField key encoding l → n ≡ min (field_size key (delimited_writing encoding) t l) (2 ^ 64 - 1))
+        × (min n (2 ^ 32 - 1) ≡ min (field_size key (delimited_writing encoding) t l) (2 ^ 32 - 1))
     pub not_sized : (t : ℕ) (l : List (K × M)) (old new : Cache) (e : EncodeError) → IsFieldSized key encoding slots t l old (Err e) new →
         (e ≡ OutOfMemory) × (take (length old.slots) new.slots ≡ old.slots) × (new.next ≡ old.next)
     pub written : (n : ℕ) (l : List (K × M)) (old new : Cache) (before after : List ℕ) → IsFieldWritten key encoding slots n l old before done new after →

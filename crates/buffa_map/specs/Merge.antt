@@ -1,6 +1,6 @@
 -- What reading entries does to a map, to the records that are kept beside it, and to a budget: first a run of them, then the
 -- entry that is refused, and at the end the list that may be passed, and one entry alone.
-use Rattle.std.specs.Prelude.{ℕ, ◌+◌, length, List, [], Option, None, Some, ◌≡◌, ◌≢◌, ◌<◌, ◌≤◌, Bool, ◌++◌, ◌⊎◌, cond, if◌then◌else◌, true, Ok, Err, IsOk}
+use Rattle.std.specs.Prelude.{ℕ, ◌+◌, length, List, [], Option, None, Some, ◌≡◌, ◌≢◌, ◌<◌, ◌≤◌, Bool, ◌++◌, ◌⊎◌, cond, if◌then◌else◌, true}
 use Rattle.std.proofs.Common.{inl, inr}
 use Rattle.buffa_wire.specs.Records.{Datum, Held}
 use denote.Ref.{MutBor}
@@ -8,9 +8,8 @@ use Rattle.buffa_bytes.specs.declared.error.DecodeError.{DecodeError}
 use Rattle.buffa_bytes.specs.declared.error.DecodeError.TheVariants.{OutOfMemory, UnexpectedField, WireTypeMismatch}
 use Rattle.buffa_bytes.specs.Left.{past_no_tag, past_no_delimited, IsTailOf}
 use Rattle.buffa_bytes.specs.declared.wire_type.WireType.{WireType}
-use Rattle.buffa_bytes.specs.Field.{TakesDelimited}
+use Rattle.buffa_bytes.specs.Field.{TagFault, TakesDelimited, TakesTag}
 use Rattle.buffa_wire.specs.BudgetLeft.{BudgetLeft, Pays, plus, unknown_fields}
-use Rattle.buffa_bytes.specs.Front.{delimited_at, tag_at}
 use Rattle.buffa_bytes.specs.declared.wire_type.WireType.TheVariants.{LengthDelimited}
 use Rattle.buffa_map.specs.Codec.{Reading}
 use Rattle.buffa_map.specs.Entry.{EntryFault, EntryOf, IsEntry, inner_need, need_of, EntryFieldsTakeMemory}
@@ -67,9 +66,9 @@ pub record ReadsRun {K V : Type 0} (r : Rules K V) (old : State K V) (bytes : Li
   pub entries : List (EntryRecord K V)
   -- the bytes are a run of these entries
   pub run : Run r.key r.val r.depth r.number bytes entries
-  -- the new pairs are the old ones, and each declared entry put into them
+  -- each key finds in the new pairs what it finds in the old ones with each declared entry put into them
   pub folded : SamePairs r.same (fold_entries r.same old.pairs entries) new.pairs
-  -- they are in the order in which keys came, where that is kept
+  -- and they are these, in the order in which keys came, where that is kept
   pub order : InOrder r.keeps_order (fold_entries r.same old.pairs entries) new.pairs
   -- the undeclared entries follow the old records, where they are kept
   pub keeps : new.records ≡ old.records ++ kept_of_run r entries
@@ -79,26 +78,27 @@ pub record ReadsRun {K V : Type 0} (r : Rules K V) (old : State K V) (bytes : Li
   pub whole : rest ≡ []
 
 -- Memory may run out while an entry is merged only where a length and so many bytes, the entry, are there, and then at one of
--- these: the entry is copied before it is read, which it is if it has bytes, undeclared entries are kept, and the value's codec
--- may give an undeclared value; or its units are left, and a field of it takes memory, or it is whole, and is put into the map,
--- or kept, for which an unknown field is left.
+-- these: the entry may be copied before it is read, where it has bytes, undeclared entries are kept, and the value's codec may
+-- give an undeclared value; or its units are left, and a field of it takes memory, or it is whole, and is put into the map, or
+-- kept, for which an unknown field is left beyond what its messages need.
 abbrev pub EntryTakesMemory : {K V : Type 0} → Rules K V → BudgetLeft → List ℕ → Type 0
 EntryTakesMemory {K} {V} r left bs =
-    (e : List ℕ) × (rest : List ℕ) × (delimited_at bs ≡ Ok (e, rest))
+    (e : List ℕ) × (rest : List ℕ) × TakesDelimited bs e rest
     × (((r.keeps_undeclared ≡ true) × (r.val.undeclared ≡ true) × (e ≢ []))
     ⊎ ((r.cost ≤ left.memory) × (EntryFieldsTakeMemory r.key r.val r.depth e
-    ⊎ ((s : MapEntry K V) × IsEntry r.key r.val r.depth e s × ((s.known ≡ true) ⊎ ((r.keeps_undeclared ≡ true) × ((need_of r.key r.val r.depth r.cost e).unknown < left.unknown)))))))
+    ⊎ ((s : MapEntry K V) × IsEntry r.key r.val r.depth e s
+    × ((s.known ≡ true) ⊎ ((r.keeps_undeclared ≡ true) × ((need_of r.key r.val r.depth r.cost e).unknown < left.unknown)))))))
 
 -- what a refused entry leaves unread
 pub record LeavesEntry (bytes : List ℕ) (f : DecodeError) (unread : List ℕ) : Type 0 where
   -- always an end of the bytes
   pub tail : IsTailOf unread bytes
-  -- what follows the entry, where it was there and had a fault
+  -- what follows the entry, where it was there and memory didn't run out
   pub past : f ≢ OutOfMemory → (e rest : List ℕ) → TakesDelimited bytes e rest → unread ≡ rest
   -- where the entry was there, no less than what follows it
   pub within : (e rest : List ℕ) → TakesDelimited bytes e rest → IsTailOf rest unread
   -- what follows the length, or what is none, where no length and so many bytes were there
-  pub nothing_there : (x : DecodeError) → delimited_at bytes ≡ Err x → unread ≡ past_no_delimited bytes
+  pub nothing_there : ((e rest : List ℕ) → TakesDelimited bytes e rest → ⊥) → unread ≡ past_no_delimited bytes
 
 -- what a refused entry spends of a budget
 pub record SpendsOnEntry {K V : Type 0} (r : Rules K V) (left : BudgetLeft) (bytes : List ℕ) (f : DecodeError) (left_after : BudgetLeft) : Type 0 where
@@ -106,24 +106,28 @@ pub record SpendsOnEntry {K V : Type 0} (r : Rules K V) (left : BudgetLeft) (byt
   pub units : (left_after.memory ≡ left.memory)
       ⊎ ((left_after.memory + r.cost ≤ left.memory)
       × (left.memory ≤ left_after.memory + (r.cost + (inner_need r.key r.val r.depth bytes).memory)))
-  -- the units, where the entry was there, they were left, and it had a fault
+  -- the units at least, where the entry was there, they were left, and memory didn't run out
   pub charged : f ≢ OutOfMemory → (e rest : List ℕ) → TakesDelimited bytes e rest → r.cost ≤ left.memory → left_after.memory + r.cost ≤ left.memory
   -- nothing, where no length and so many bytes were there
-  pub unspent : (IsOk (delimited_at bytes) → ⊥) → left_after ≡ left
-  -- of the unknown fields left at most the one that keeps the entry, and what the messages in it cost
+  pub unspent : ((e rest : List ℕ) → TakesDelimited bytes e rest → ⊥) → left_after ≡ left
+  -- of the unknown fields no more are left than before
   pub most : left_after.unknown ≤ left.unknown
+  -- and at most the one that keeps the entry is spent, and what the messages in it cost
   pub least : left.unknown ≤ left_after.unknown + (unknown_cost r + (inner_need r.key r.val r.depth bytes).unknown)
-  -- and not the one that keeps it, where it had a fault
+  -- but not the one that keeps it, unless memory ran out
   pub no_unknown : f ≢ OutOfMemory → left.unknown ≤ left_after.unknown + (inner_need r.key r.val r.depth bytes).unknown
 
--- The entry at the front was refused, and f is why: its first fault, or memory ran out, which it does only where merging the
--- entry takes memory. Map and records stand. Of a fault inside a message any error may be told that is no limit's; and where
--- the budget lacks what the messages in the entry need, any error.
+-- The entry at the front was refused, and f is why. Of a fault inside a message any error may be told that is no limit's. Where
+-- its units are left, and not what the messages in it need besides, any error may be.
 pub record RefusesEntry {K V : Type 0} (r : Rules K V) (old : State K V) (bytes : List ℕ) (new : State K V) (tail : List ℕ) (f : DecodeError) : Type 0 where
+  -- it is the entry's first fault
   pub fault : f ≢ OutOfMemory → EntryFault r.key r.val r.depth r.cost (unknown_cost r) old.left bytes f
+  -- or memory ran out, where merging the entry takes memory
   pub memory : f ≡ OutOfMemory → EntryTakesMemory r old.left bytes
+  -- nothing is put, and nothing kept
   pub pairs : new.pairs ≡ old.pairs
   pub records : new.records ≡ old.records
+  -- how far the bytes were read, and what was spent
   pub unread : LeavesEntry bytes f tail
   pub spent : SpendsOnEntry r old.left bytes f new.left
 
@@ -131,8 +135,8 @@ pub record RefusesEntry {K V : Type 0} (r : Rules K V) (old : State K V) (bytes 
 -- there, or what is none
 abbrev pub RefusesTag : ℕ → List ℕ → List ℕ → DecodeError → Type 0
 RefusesTag n bytes tail f =
-    ((tag_at bytes ≡ Err f) × (tail ≡ past_no_tag bytes))
-    ⊎ ((g : ℕ) × (w : WireType) × (tag_at bytes ≡ Ok (g, w, tail))
+    (TagFault bytes f × (tail ≡ past_no_tag bytes))
+    ⊎ ((g : ℕ) × (w : WireType) × TakesTag bytes g w tail
     × (((g ≢ n) × (f ≡ UnexpectedField g)) ⊎ ((g ≡ n) × (w ≢ LengthDelimited) × (f ≡ WireTypeMismatch n LengthDelimited w))))
 
 -- The records in front were read, as a run of their own; what follows them was refused, and f is why.
@@ -145,9 +149,9 @@ pub record RefusesRun {K V : Type 0} (r : Rules K V) (old : State K V) (bytes : 
   -- the first was read, and this was the state then
   pub now : State K V
   pub read : ReadsRun r old front now []
-  -- no tag of the field begins the second; or one does, and the entry behind it was refused
+  -- no tag of the field begins the second, and the state stands; or one does, and the entry behind it was refused
   pub refused : (RefusesTag r.number rest tail f × (new ≡ now))
-      ⊎ ((mid : List ℕ) × (tag_at rest ≡ Ok (r.number, LengthDelimited, mid)) × RefusesEntry r now mid new tail f)
+      ⊎ ((mid : List ℕ) × TakesTag rest r.number LengthDelimited mid × RefusesEntry r now mid new tail f)
 
 -- ---- a list that may be passed, before a call and after it
 
@@ -195,7 +199,7 @@ pub record MergesEntry {K V : Type 0} (r : Rules K V) (old : State K V) (bytes :
 
 -- the entry e was merged, or refused, wherever a length and e begin the bytes
 abbrev pub MergesWhole : {K V : Type 0} → Rules K V → State K V → List ℕ → State K V → Type 0
-MergesWhole r old e new = (bytes rest : List ℕ) → delimited_at bytes ≡ Ok (e, rest) → MergesEntry r old bytes new rest
+MergesWhole r old e new = (bytes rest : List ℕ) → TakesDelimited bytes e rest → MergesEntry r old bytes new rest
 
 abbrev pub RefusesWhole : {K V : Type 0} → Rules K V → State K V → List ℕ → State K V → DecodeError → Type 0
-RefusesWhole r old e new f = (bytes rest : List ℕ) → delimited_at bytes ≡ Ok (e, rest) → RefusesEntry r old bytes new rest f
+RefusesWhole r old e new f = (bytes rest : List ℕ) → TakesDelimited bytes e rest → RefusesEntry r old bytes new rest f

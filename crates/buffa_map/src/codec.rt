@@ -82,9 +82,9 @@ pub trait MapValueDecode: sealed::Sealed {
     ///
     /// # Errors
     /// The first fault of the payload; or out of memory, where the codec takes memory and the payload is whole and not
-    /// empty. The value is as it was then, and nothing is spent. Unread is what follows the tenth byte of a varint, or
-    /// all where four or eight bytes were asked for; of a length and bytes what follows the bytes, or the length where
-    /// it passes the end.
+    /// empty. The value is as it was then, and nothing is spent. Of a fault unread is what follows the tenth byte of a
+    /// varint, or all where four or eight bytes were asked for; of a length and bytes what follows the bytes, or the
+    /// length where it passes the end. Where memory runs out it is that or more.
     ///
     /// Inside a message any error may be returned, but a limit's only where the message's cost isn't left; at most
     /// that cost is spent then, and the value is some value of its type.

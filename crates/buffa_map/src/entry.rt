@@ -209,7 +209,8 @@ pub fn merge_entry<
         (rules (KC.reading, KC.COST) (VC.reading, VC.COST) (C.equal, C.keeps_order) ctx.entry.depth 0 false)
         (state (C.pairs map.old) [] ctx.entry.budget.now) (B.unread buf.old)
         (state (C.pairs map.new) [] (budget_left ctx.exit)) (B.unread buf.new)) }
-    // Refused: the entry's first fault is the error, and the map is as it was.
+    // Refused: the error is the entry's first fault, or memory ran out, and the map is as it was. Inside a message the error may
+    // be another, as `read_map_field` says.
     ensures err { IfErr result (RefusesEntry
         (rules (KC.reading, KC.COST) (VC.reading, VC.COST) (C.equal, C.keeps_order) ctx.entry.depth 0 false)
         (state (C.pairs map.old) [] ctx.entry.budget.now) (B.unread buf.old)
@@ -261,7 +262,7 @@ pub fn merge_entry_with_unknowns<
         (rules (KC.reading, KC.COST) (VC.reading, VC.COST) (C.equal, C.keeps_order) ctx.entry.depth number (is_some unknown.entry))
         (state (C.pairs map.old) (records_before unknown.entry) ctx.entry.budget.now) (B.unread buf.old)
         (state (C.pairs map.new) (records_after unknown.exit) (budget_left ctx.exit)) (B.unread buf.new)) }
-    // Refused: its first fault is the error, and map and list are as they were.
+    // Refused: the error is its first fault, or memory ran out, as `merge_entry` says, and map and list are as they were.
     ensures err { IfErr result (RefusesEntry
         (rules (KC.reading, KC.COST) (VC.reading, VC.COST) (C.equal, C.keeps_order) ctx.entry.depth number (is_some unknown.entry))
         (state (C.pairs map.old) (records_before unknown.entry) ctx.entry.budget.now) (B.unread buf.old)

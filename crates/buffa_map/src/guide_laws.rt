@@ -104,8 +104,9 @@ pub fn scalars_are_written_so()
     ensures double { WritesAs ⟦<Double as MapCodec>⟧.writing wire.Fixed64 fixed64_encoding }
 {}
 
-/// How strings, bytes and enums are written: a length and the bytes, or an int32. And which values their types hold: bytes
-/// that are UTF-8, or fewer than 2^64; a declared number; and for an open enum a number that is said to be declared where it is.
+/// How strings, bytes and enums are written: a length and the bytes, or an int32. And which values their types hold: fewer than
+/// 2^64 bytes, of a string UTF-8; a declared number; and for an open enum any, which is read back if it is said to be declared where
+/// it is.
 pub fn other_values_are_written_so<E: Enumeration, T: ProtoString, P: ProtoBytes>()
     ensures string { WritesAs ⟦<ProtoStringMap<T> as MapCodec>⟧.writing wire.LengthDelimited
         (λ v. varint_encoding (length (T.text v)) ++ T.text v) }

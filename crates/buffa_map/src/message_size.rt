@@ -78,8 +78,8 @@ where
 
 /// The length of a map field of messages, and the slots of its messages.
 ///
-/// `outer_tag_len` is the length of the field's tag, which each record has. The length is exact where no
-/// message is longer than 2^31 - 1 bytes.
+/// `outer_tag_len` is the length of the field's tag, which each record has. The length is exact, up to
+/// 2^64 - 1, where no message is longer than 2^31 - 1 bytes and each entry is shorter than 2^64.
 ///
 /// # Errors
 /// [`EncodeError::OutOfMemory`] alone, never for a map of no pairs; the cache's old slots come first then.

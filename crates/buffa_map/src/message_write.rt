@@ -128,7 +128,8 @@ where
 ///
 /// `number` is 1 to [`MAX_FIELD_NUMBER`](buffa_wire::MAX_FIELD_NUMBER). The next slots of the cache
 /// are those that [`message_field_len`](crate::message_size::message_field_len) put there, and they are
-/// consumed. What is written is the field's encoding where no message is longer than 2^31 - 1 bytes.
+/// consumed. What is written is the field's encoding where no message is longer than 2^31 - 1 bytes and each
+/// entry is shorter than 2^64.
 ///
 /// # Errors
 /// [`EncodeError::OutOfMemory`] alone; the sink's old bytes come first then.

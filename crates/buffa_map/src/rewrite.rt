@@ -123,7 +123,7 @@ pub fn rewrite_map_field<
         (rules (KC.reading, KC.COST) (VC.reading, VC.COST) (C.equal, C.keeps_order) ctx.entry.depth number true) KC.writing VC.writing KC.fits VC.fits (C.walks map.new) ctx.entry.budget.now
         (B.unread buf.old) (C.pairs map.new) (budget_left ctx.exit) (B.unread buf.new)
         (S.written sink.old) (S.written sink.new) (S.room sink.old) (S.room sink.new)) }
-    // Refused: reading failed, and nothing was written; or writing failed, which it does only for want of room.
+    // Refused: reading failed, and nothing was written; or writing failed, for want of room or at an entry that is too long.
     ensures refused { let by = rules (KC.reading, KC.COST) (VC.reading, VC.COST) (C.equal, C.keeps_order) ctx.entry.depth number true in
         IfErr result (λ e. MatchRefusal e
         (RefusesDecoding by ctx.entry.budget.now (B.unread buf.old) (C.pairs map.new) (budget_left ctx.exit)

@@ -94,7 +94,8 @@ pub fn read_map_field<
         (state (C.pairs map.old) (records_before unknown.entry) ctx.entry.budget.now) (B.unread buf.old)
         (state (C.pairs map.new) (records_after unknown.exit) (budget_left ctx.exit)) (B.unread buf.new)) }
     // Refused: the same of the records in front of the refused one. The error is that one's first fault, or memory ran out. Of
-    // a fault inside a message any error may be told that is no limit's, and any where the budget lacks what its messages need.
+    // a fault inside a message any error may be told that is no limit's, and any where its units are left, and not what its
+    // messages need besides.
     ensures err { IfErr result (RefusesRun
         (rules (KC.reading, KC.COST) (VC.reading, VC.COST) (C.equal, C.keeps_order) ctx.entry.depth number (is_some unknown.entry))
         (state (C.pairs map.old) (records_before unknown.entry) ctx.entry.budget.now) (B.unread buf.old)

@@ -5,7 +5,7 @@ ghost use Rattle.std.specs.Prelude.{◌≡◌, ◌≢◌, ◌↔◌, ◌⊎◌, 
 ghost use Rattle.std.specs.Prelude.{List, [], ◌∷◌, ◌++◌, length, map, Result, Ok, Err, IsOk};
 ghost use Rattle.buffa_bytes.specs.ErrorText.{decode_error_text, encode_error_text};
 ghost use Rattle.buffa_bytes.specs.Field.{IsTag, LengthFault, PayloadFault, TagFault, TakesTag};
-ghost use Rattle.buffa_bytes.specs.Front.{delimited_at, tag_at, wire_number};
+ghost use Rattle.buffa_bytes.specs.Front.{delimited_at, wire_number};
 ghost use Rattle.buffa_bytes.specs.Left.{past_no_tag};
 ghost use Rattle.buffa_bytes.specs.Varint.{IsVarint};
 ghost use Rattle.buffa_bytes.specs.declared.error.DecodeError.{DecodeError};
@@ -102,8 +102,8 @@ pub fn fields_of_entries_take_memory_so<KC: MapValueDecode, VC: MapValueDecode>(
     ensures { (d : ℕ) (e : List ℕ) → EntryFieldsTakeMemory KC.reading VC.reading d e →
         (front : List ℕ) × (more : List ℕ) × (s : MapEntry KC.Value.Meaning VC.Value.Meaning) × (e ≡ front ++ more)
         × IsEntry KC.reading VC.reading d front s
-        × (((p : List ℕ) × (tag_at more ≡ Ok (1, KC.reading.wire, p)) × ReadingTakesMemory KC.reading d p)
-        ⊎ ((p : List ℕ) × (tag_at more ≡ Ok (2, VC.reading.wire, p)) × ReadingTakesMemory VC.reading d p)) }
+        × (((p : List ℕ) × TakesTag more 1 KC.reading.wire p × ReadingTakesMemory KC.reading d p)
+        ⊎ ((p : List ℕ) × TakesTag more 2 VC.reading.wire p × ReadingTakesMemory VC.reading d p)) }
 {}
 
 /// A merged entry was there: a length and so many bytes, which are an entry. What it needs was left, and is spent, and an unknown
@@ -207,10 +207,10 @@ pub fn runs_are_read_so<KC: MapValueDecode, VC: MapValueDecode>()
         RefusesRun (rules (KC.reading, a) (VC.reading, b) (same, ordered) d n keeps) old bs new tail f →
         (front : List ℕ) × (more : List ℕ) × (now : State KC.Value.Meaning VC.Value.Meaning) × (bs ≡ front ++ more) × (more ≢ [])
         × ReadsRun (rules (KC.reading, a) (VC.reading, b) (same, ordered) d n keeps) old front now []
-        × (((((tag_at more ≡ Err f) × (tail ≡ past_no_tag more))
-        ⊎ ((g : ℕ) × (w : WireType) × (tag_at more ≡ Ok (g, w, tail)) × (((g ≢ n) × (f ≡ UnexpectedField g))
+        × ((((TagFault more f × (tail ≡ past_no_tag more))
+        ⊎ ((g : ℕ) × (w : WireType) × TakesTag more g w tail × (((g ≢ n) × (f ≡ UnexpectedField g))
         ⊎ ((g ≡ n) × (w ≢ LengthDelimited) × (f ≡ WireTypeMismatch n LengthDelimited w))))) × (new ≡ now))
-        ⊎ ((mid : List ℕ) × (tag_at more ≡ Ok (n, LengthDelimited, mid))
+        ⊎ ((mid : List ℕ) × TakesTag more n LengthDelimited mid
         × RefusesEntry (rules (KC.reading, a) (VC.reading, b) (same, ordered) d n keeps) now mid new tail f)) }
 {}
 

@@ -111,10 +111,36 @@ behind_other d n w f b e field two three one h = fault_behind d None [] f b e (i
 
 -- ---- where memory is asked for
 
+-- a field behind others
+one_more : (d : ℕ) (ps : List (List ℕ)) (s t u : Said) (f : List ℕ) → ParsesEach (IsItemField d) s ps t → IsItemField d t f u → ParsesEach (IsItemField d) s (ps ++ f ∷ []) u
+one_more d [] s t u f h k = (u, subst (λ z. IsItemField d z f u) (sym h) k, refl)
+one_more d (p ∷ ps) s t u f h k = (h.0, h.1, one_more d ps h.0 t u f h.2 k)
+
+joined_behind : (ps : List (List ℕ)) (f rest : List ℕ) → join ps ++ (f ++ rest) ≡ join (ps ++ f ∷ []) ++ rest
+joined_behind [] f rest = ap (λ z. z ++ rest) (sym (append-nil f))
+joined_behind (p ∷ ps) f rest = append_assoc p (join ps) (f ++ rest) ∙ ap (λ z. p ++ z) (joined_behind ps f rest) ∙ sym (append_assoc p (join (ps ++ f ∷ [])) rest)
+
+-- fields, a type id and an end tag are an Item
+begins_item : (d : ℕ) (ps : List (List ℕ)) (s : Said) → ParsesEach (IsItemField d) unsaid ps s → (n : ℕ) (id p end : List ℕ) → IsTag id 2 Varint → IsVarint p n → IsTypeId n → IsTag end 1 EndGroup →
+    (msg : List ℕ) × Item d (join ps ++ (id ++ (p ++ end))) n msg
+begins_item d ps s each n id p end is_id v range is_end = (
+  s.message,
+  (
+    end,
+    is_end,
+    (
+      ps ++ (id ++ p) ∷ [],
+      ap (λ z. join ps ++ z) (sym (append_assoc id p end)) ∙ joined_behind ps (id ++ p) end,
+      one_more d ps unsaid s (says n s.message) (id ++ p) each (inl (id, p, n, is_id, v, range, refl, refl)),
+    ),
+  ),
+)
+
 pub message_there : (d : ℕ) (bs : List ℕ) → HasMessage d bs → (front : List ℕ) × (tag : List ℕ) × (l : List ℕ) × (b : List ℕ) × (rest : List ℕ)
     × (bs ≡ front ++ (tag ++ (l ++ (b ++ rest)))) × Join (SomeField d) front × IsTag tag 3 LengthDelimited × IsVarint l (length b) × (b ≢ [])
+    × ((n : ℕ) (id p end : List ℕ) → IsTag id 2 Varint → IsVarint p n → IsTypeId n → IsTag end 1 EndGroup → (msg : List ℕ) × Item d (front ++ (id ++ (p ++ end))) n msg)
 message_there d bs (s, field, payload, b, rest, (ps, cut, each), (tag, is_tag, split), (l, v, is), some) =
-    (join ps, tag, l, b, rest, cut ∙ ap (λ x. join ps ++ x) (split ∙ ap (λ x. tag ++ x) is), item_fields d ps unsaid s each, is_tag, v, some)
+    (join ps, tag, l, b, rest, cut ∙ ap (λ x. join ps ++ x) (split ∙ ap (λ x. tag ++ x) is), item_fields d ps unsaid s each, is_tag, v, some, begins_item d ps s each)
 
 read_by : (d n : ℕ) (bs : List ℕ) (b : Bool) → (n == 0) ≡ b → 0 < n → (if b then Err UnknownFieldLimitExceeded else item_at d bs) ≡ item_at d bs
 read_by d n bs true e h = absurd (omega (arith, h, eqb-true n 0 e))

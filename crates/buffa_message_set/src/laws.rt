@@ -111,12 +111,15 @@ pub fn faults_of_items_are_these()
 {}
 
 /// An Item takes memory only where, behind some fields, a message's tag, its length and so many bytes are there, and one byte
-/// at least.
+/// at least. These fields may begin an Item: with a type id and an end tag behind them they are one, so no type id that is out of
+/// range is among them.
 #[tactic(auto, using(crate::proofs::FrontLemmas::message_there))]
 pub fn items_take_memory_so()
     ensures { (d : ℕ) (bs : List ℕ) → HasMessage d bs → (front : List ℕ) × (tag : List ℕ) × (l : List ℕ) × (b : List ℕ)
         × (rest : List ℕ) × (bs ≡ front ++ (tag ++ (l ++ (b ++ rest)))) × Join (SomeField d) front
-        × IsTag tag 3 LengthDelimited × IsVarint l (length b) × (b ≢ []) }
+        × IsTag tag 3 LengthDelimited × IsVarint l (length b) × (b ≢ [])
+        × ((n : ℕ) (id p end : List ℕ) → IsTag id 2 Varint → IsVarint p n → (0 < n) × (n < 2 ^ 31) → IsTag end 1 EndGroup →
+        (msg : List ℕ) × Item d (front ++ (id ++ (p ++ end))) n msg) }
 {}
 
 /// No Item is a proper beginning of another, and bytes are an Item in one way.

@@ -3,7 +3,7 @@
 use Rattle.std.specs.Prelude.{ℕ, List, Option, Some, None, Result, Ok, Err}
 use Rattle.buffa_bytes.specs.Front.{tag_at, skip_at, ◌>>=◌}
 use Rattle.buffa_bytes.specs.Scan.{Scanned, scan, parse_all}
-use Rattle.buffa_bytes.specs.Scan.Scanned.{ends, goes}
+use Rattle.buffa_bytes.specs.Scan.Scanned.{ends}
 use Rattle.buffa_bytes.specs.declared.wire_type.WireType.{WireType}
 use Rattle.buffa_bytes.specs.declared.error.DecodeError.{DecodeError}
 use Rattle.buffa_wire.specs.BudgetLeft.{BudgetLeft, costs, nothing}

@@ -22,11 +22,6 @@ pub fn pay_in_cash(payment: &mut Payment, cash: i32) {
 /// # Errors
 /// Where memory runs out.
 pub fn pay_by_card(alloc: Global, payment: &mut Payment, card: &str) -> Result<(), AllocError> {
-    put_card(&mut payment.method, String::from_str(alloc, card)?);
+    payment.method = Some(Method::Card(String::from_str(alloc, card)?));
     Ok(())
-}
-
-// Puts a card in the place of what stands.
-fn put_card(slot: &mut Option<Method>, card: String) {
-    *slot = Some(Method::Card(card));
 }

@@ -7,4 +7,4 @@ pub returns-clause-read : goal.returns-clause-read
 returns-clause-read c = λ t rs h. (ap (λ r. group (records_of (or_none r))) h, ap why_refused h)
 
 pub returns-clause-refused : goal.returns-clause-refused
-returns-clause-refused c = λ t e h. ap why_refused h
+returns-clause-refused c = λ t e h. (ap (λ r. group (records_of (or_none r))) h, ap why_refused h)

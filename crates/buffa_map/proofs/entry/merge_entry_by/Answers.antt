@@ -8,7 +8,7 @@ use Rattle.buffa_map.proofs.MergeLemmas.{bad_cut, is_dropped, is_put, no_copy, n
 use Rattle.buffa_map.proofs.PartsLemmas.{entry_declared}
 use Rattle.buffa_bytes.proofs.ResultLemmas.{IfErr-with, OnOk-both}
 use Rattle.buffa_map.proofs.NeedLemmas.{no_length}
-use Rattle.buffa_map.proofs.TailLemmas.{near_rest, cut_front, past_copy, past_short, delimited_short}
+use Rattle.buffa_map.proofs.TailLemmas.{delimited_there, near_rest, cut_front, past_copy, past_short, delimited_short}
 use Rattle.buffa_bytes.proofs.DelimitedLemmas.{after_length}
 use Rattle.buffa_map.proofs.entry.merge_entry_by.Goals.{else-KEEPS-via-then-KEEPS+else-MAY_RETURN_UNKNOWN, else-KEEPS-via-else-KEEPS}
 use Rattle.buffa_map.proofs.entry.merge_entry_by.Goals as goal
@@ -21,11 +21,11 @@ returns-in_err-len-clause-err g c =
 
 pub returns-in-Some-clause-ok : goal.returns-in-Some-clause-ok
 returns-in-Some-clause-ok g c =
-    on_ok_weaker c.merge_whole-merged.result (λ h. h _ _ (rw c.advance.ensures.rest (delimited_front _ _ _ _ c.in_ok-len.ensures.reads c.in-Some.ensures))) c.merge_whole-merged.ensures.ok
+    on_ok_weaker c.merge_whole-merged.result (λ h. h _ _ (rw c.advance.ensures.rest (delimited_there _ _ _ (delimited_front _ _ _ _ c.in_ok-len.ensures.reads c.in-Some.ensures)))) c.merge_whole-merged.ensures.ok
 
 pub returns-in-Some-clause-err : goal.returns-in-Some-clause-err
 returns-in-Some-clause-err g c =
-    IfErr-weaker c.merge_whole-merged.result _ _ (λ f h. h _ _ (rw c.advance.ensures.rest (delimited_front _ _ _ _ c.in_ok-len.ensures.reads c.in-Some.ensures))) c.merge_whole-merged.ensures.err
+    IfErr-weaker c.merge_whole-merged.result _ _ (λ f h. h _ _ (rw c.advance.ensures.rest (delimited_there _ _ _ (delimited_front _ _ _ _ c.in_ok-len.ensures.reads c.in-Some.ensures)))) c.merge_whole-merged.ensures.err
 
 pub returns-in_err-entry-clause-err : goal.returns-in_err-entry-clause-err
 returns-in_err-entry-clause-err g c =
@@ -66,4 +66,9 @@ returns-clause-err g c =
 pub returns-then-MAY_RETURN_UNKNOWN-clause-err : goal.returns-then-MAY_RETURN_UNKNOWN-clause-err
 returns-then-MAY_RETURN_UNKNOWN-clause-err g c =
     let same = after_length _ _ _ c.in_ok-len.ensures.reads in
-    IfErr-weaker c.merge_whole.result _ _ (λ f h. h _ _ (rw c.deref.ensures.value (same ∙ c.in_ok-entry.ensures.reads))) c.merge_whole.ensures.err
+    IfErr-weaker c.merge_whole.result _ _ (λ f h. h _ _ (rw c.deref.ensures.value (delimited_there _ _ _ (same ∙ c.in_ok-entry.ensures.reads)))) c.merge_whole.ensures.err
+
+pub returns-then-MAY_RETURN_UNKNOWN-clause-ok : goal.returns-then-MAY_RETURN_UNKNOWN-clause-ok
+returns-then-MAY_RETURN_UNKNOWN-clause-ok g c =
+    let same = after_length _ _ _ c.in_ok-len.ensures.reads in
+    on_ok_weaker c.merge_whole.result (λ h. h _ _ (rw c.deref.ensures.value (delimited_there _ _ _ (same ∙ c.in_ok-entry.ensures.reads)))) c.merge_whole.ensures.ok
