@@ -3,10 +3,10 @@ pub use Rattle.buffa_bytes.specs.Content.{HasContent, content_at}
 pub use Rattle.buffa_bytes.specs.Field.{SomeField}
 pub use Rattle.buffa_bytes.specs.Join.{Join}
 pub use Rattle.buffa_bytes.specs.Left.{LeavesUnlessFull, past_no_payload, past_no_tag, past_no_delimited, past_no_varint, IsFrontOf, IsTailOf, MayBeCut, bytes_read}
-pub use Rattle.buffa_bytes.specs.Number.{IsNumber}
+pub use Rattle.buffa_bytes.specs.Number.{IsNumber, wire_kind, wire_number}
 pub use Rattle.buffa_bytes.specs.Pieces.{joined}
 pub use Rattle.buffa_bytes.specs.Pinned.{IsCopied, SameIsOne}
-pub use Rattle.buffa_bytes.specs.Front.{check_wire, delimited_at, skip_at, tag_at, taken, varint_at, wire_kind, wire_number, FullOnlyIf, Gives, GivesUnlessFull}
+pub use Rattle.buffa_bytes.specs.Front.{check_wire, delimited_at, skip_at, tag_at, taken, varint_at, FullOnlyIf, Gives, GivesUnlessFull}
 pub use Rattle.buffa_bytes.specs.Scalars.{bool_at, bool_encoding, fixed32_at, fixed32_encoding, fixed64_at, fixed64_encoding, int32_at, int32_encoding, int64_at, int64_encoding, sfixed32_at, sfixed32_encoding, sfixed64_at, sfixed64_encoding, sint32_at, sint32_encoding, sint64_at, sint64_encoding, uint32_at, uint32_encoding, uint64_at, uint64_encoding, unzigzag, zigzag}
 pub use Rattle.buffa_bytes.specs.Delimited.{bytes_as, string_as, text_as}
 pub use Rattle.buffa_bytes.specs.Values.{delimited_encoding, string_at, tag_encoding}

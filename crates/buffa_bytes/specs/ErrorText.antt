@@ -1,7 +1,7 @@
 -- What is printed of an error: its name, and what it holds in decimal, wire types as their numbers.
 use Rattle.std.specs.Prelude.{ℕ, List, ◌++◌, codes}
 use Rattle.std.specs.Fmt.{decimal}
-use Rattle.buffa_bytes.specs.Front.{wire_number}
+use Rattle.buffa_bytes.specs.Number.{wire_number}
 use Rattle.buffa_bytes.specs.declared.error.MessageSetFault.{MessageSetFault}
 use Rattle.buffa_bytes.specs.declared.error.MessageSetFault.TheVariants.{MissingTypeId, TypeIdOutOfRange}
 use Rattle.buffa_bytes.specs.declared.error.DecodeError.{DecodeError}

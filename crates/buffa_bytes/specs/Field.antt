@@ -1,13 +1,12 @@
 -- Fields: a tag and a payload.
 use Rattle.std.specs.Prelude.{◌≡◌, ◌≢◌, ℕ, zero, suc, ◌+◌, ◌*◌, ◌%◌, ◌^◌, ◌<◌, ◌≤◌, ◌⊎◌, List, ◌++◌, length}
-use Rattle.buffa_bytes.specs.Front.{wire_number}
 use Rattle.buffa_bytes.specs.declared.wire_type.WireType.{WireType}
 use Rattle.buffa_bytes.specs.declared.wire_type.WireType.TheVariants.{Varint, Fixed64, LengthDelimited, StartGroup, EndGroup, Fixed32}
 use Rattle.buffa_bytes.specs.declared.error.DecodeError.{DecodeError}
 use Rattle.buffa_bytes.specs.declared.error.DecodeError.TheVariants.{UnexpectedEof, InvalidFieldNumber, InvalidWireType, RecursionLimitExceeded, InvalidEndGroup}
 use Rattle.buffa_bytes.specs.Varint.{IsVarint, TakesVarint, VarintFault}
 use Rattle.buffa_bytes.specs.Join.{Join}
-use Rattle.buffa_bytes.specs.Number.{IsNumber}
+use Rattle.buffa_bytes.specs.Number.{IsNumber, wire_number}
 
 -- a spelling of the tag of number f and wire type w
 abbrev pub IsTag : List ℕ → ℕ → WireType → Type 0

@@ -1,33 +1,13 @@
--- What is read at the front of bytes: what stands there and the bytes that follow, or the first fault. Before that come the
--- wire types, and how the answer of a call is said by a reading.
-use Rattle.std.specs.Prelude.{ℕ, nat_eq, Bool, true, false, Option, None, Some, if◌then◌else◌, ◌≡◌, ◌≢◌, Result, Ok, Err, IfErr, zero, suc, ◌+◌, ◌*◌, ◌/◌, ◌%◌, ◌^◌, ◌==◌, nat_lt, List, [], ◌∷◌, length, take, drop}
+-- What is read at the front of bytes: what stands there and the bytes that follow, or the first fault. Before that comes how the
+-- answer of a call is said by a reading.
+use Rattle.std.specs.Prelude.{ℕ, Bool, true, false, Option, None, Some, if◌then◌else◌, ◌≡◌, ◌≢◌, Result, Ok, Err, IfErr, zero, suc, ◌+◌, ◌*◌, ◌/◌, ◌%◌, ◌^◌, ◌==◌, nat_lt, List, [], ◌∷◌, length, take, drop}
 use Rattle.buffa_bytes.specs.declared.wire_type.WireType.{WireType}
 use Rattle.buffa_bytes.specs.declared.wire_type.WireType.TheVariants.{Varint, Fixed64, LengthDelimited, StartGroup, EndGroup, Fixed32}
 use Rattle.buffa_bytes.specs.declared.error.DecodeError.{DecodeError}
 use Rattle.buffa_bytes.specs.declared.error.DecodeError.TheVariants.{OutOfMemory, UnexpectedEof, VarintTooLong, InvalidFieldNumber, InvalidWireType, WireTypeMismatch, RecursionLimitExceeded, InvalidEndGroup}
+use Rattle.buffa_bytes.specs.Number.{wire_kind}
 use Rattle.buffa_bytes.specs.Scan.{Scanned, scan}
 use Rattle.buffa_bytes.specs.Scan.Scanned.{ends, goes}
-
--- ---- wire types and their numbers; source: the protobuf encoding guide, "Message Structure"
-
--- the number of a wire type in a tag
-abbrev pub wire_number : WireType → ℕ
-wire_number Varint = 0
-wire_number Fixed64 = 1
-wire_number LengthDelimited = 2
-wire_number StartGroup = 3
-wire_number EndGroup = 4
-wire_number Fixed32 = 5
-
--- the wire type of a number in a tag
-abbrev pub wire_kind : ℕ → Option WireType
-wire_kind n =
-    if nat_eq n 0 then Some Varint else
-    if nat_eq n 1 then Some Fixed64 else
-    if nat_eq n 2 then Some LengthDelimited else
-    if nat_eq n 3 then Some StartGroup else
-    if nat_eq n 4 then Some EndGroup else
-    if nat_eq n 5 then Some Fixed32 else None
 
 -- whether two wire types are one
 abbrev pub same_wire : WireType → WireType → Bool

@@ -46,8 +46,8 @@ past_no_varint bs = drop 10 bs
 unfoldable pub past_no_tag : List ℕ → List ℕ
 past_no_tag bs = elim (varint_at bs) [ Ok n ↦ n.1 | Err e ↦ past_no_varint bs ]
 
--- where no length and so many bytes begin them: what follows their length where that passes the end, else what follows so many
--- bytes
+-- where no length and so many bytes begin them: what follows the first ten where no length is there, what follows the length where
+-- that passes the end, else what follows so many bytes
 unfoldable pub past_no_delimited : List ℕ → List ℕ
 past_no_delimited bs = elim (varint_at bs) [ Ok n ↦ (if nat_lt (length n.1) n.0 then n.1 else drop n.0 n.1) | Err e ↦ past_no_varint bs ]
 

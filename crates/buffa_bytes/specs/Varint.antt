@@ -17,7 +17,7 @@ abbrev pub Continue : List ℕ → Type 0
 Continue [] = Unit {0}
 Continue (b ∷ bs) = (128 ≤ b) × Continue bs
 
--- bytes is a spelling of n: bytes that continue and a last one below 128, at most ten
+-- bytes is a spelling of n, which is below 2^64: bytes that continue and a last one below 128, at most ten
 pub record IsVarint (bytes : List ℕ) (n : ℕ) : Type 0 where
   pub front : List ℕ
   pub last : ℕ

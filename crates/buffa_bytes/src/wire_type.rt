@@ -1,7 +1,7 @@
 //! How the payload of a field is laid out.
 
 ghost use Rattle.std.specs.Prelude.{◌≡◌};
-ghost use Rattle.buffa_bytes.specs.Front.{wire_kind, wire_number};
+ghost use Rattle.buffa_bytes.specs.Number.{wire_kind, wire_number};
 
 /// How the payload of a field is laid out: the low three bits of its tag.
 ///

@@ -80,7 +80,7 @@ pub trait ExtensionCodec {
     /// Reads the records of the number.
     ///
     /// # Errors
-    /// Where memory runs out; never where the records are of no use to the codec.
+    /// Where memory runs out, and never with codecs of numbers. A message may take memory also for an encoding that it refuses.
     ///
     /// ```ignore
     /// let value = Int32::decode(alloc, 7, &fields)?;
@@ -202,7 +202,7 @@ pub trait SingularCodec {
     /// Reads a record under a default budget, 100 levels deep.
     ///
     /// # Errors
-    /// Where memory runs out; never at a record that is of no use to the codec.
+    /// Where memory runs out, and never with codecs of numbers. A message may take memory also for an encoding that it refuses.
     ///
     /// ```ignore
     /// let value = <Int32 as SingularCodec>::decode_one(alloc, &payload)?; // of UnknownFieldData::Varint(5): Some(5)
@@ -218,8 +218,8 @@ pub trait SingularCodec {
     /// Reads a record at the context's depth, of what its budget has left.
     ///
     /// # Errors
-    /// Where memory runs out; never at a record that is of no use to the codec. What was spent stays spent,
-    /// and is no more than the record may cost.
+    /// Where memory runs out, and never with codecs of numbers. A message may take memory also for an encoding that it refuses.
+    /// What was spent stays spent, and is no more than the record may cost.
     ///
     /// ```ignore
     /// let value = <Int32 as SingularCodec>::decode_one_ctx(alloc, &payload, ctx)?;

@@ -74,8 +74,8 @@ pub trait ExtensionSet {
     /// [`ExtensionSet::extendee_name`].
     ///
     /// # Errors
-    /// Where memory runs out; never with codecs of numbers, whose reading takes none, nor where the records
-    /// are of no use to the codec.
+    /// Where memory runs out, and never with codecs of numbers, whose reading takes none. A message may take memory also for an
+    /// encoding that it refuses.
     ///
     /// ```ignore
     /// let read = carrier.extension(alloc, &ext)?;

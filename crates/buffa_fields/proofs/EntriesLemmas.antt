@@ -15,7 +15,8 @@ use Rattle.buffa_wire.specs.Pinned.{done, refusal}
 use Rattle.buffa_map.proofs.EntryLemmas.{entry_complete, entry_faulty}
 use Rattle.buffa_map.proofs.TailLemmas.{not_delimited}
 use Rattle.buffa_map.specs.Codec.{Reading}
-use Rattle.buffa_map.specs.Entry.{EntryFault, FaultOf, IsEntry, inner_need, need_of}
+use Rattle.buffa_map.specs.Entry.{EntryFault, FaultOf, IsEntry}
+use Rattle.buffa_map.specs.EntryReading.{inner_need, need_of}
 use Rattle.buffa_map.specs.Laws.{LimitsAreTrue}
 use Rattle.buffa_map.specs.Merge.{MergesEntry, RefusesEntry, Rules, State, unknown_cost}
 use Rattle.buffa_map.specs.declared.map_entry.MapEntry.{MapEntry}

@@ -10,7 +10,7 @@ use Rattle.buffa_bytes.specs.declared.error.DecodeError.{DecodeError}
 use Rattle.buffa_bytes.specs.declared.wire_type.WireType.{WireType}
 use Rattle.buffa_bytes.specs.declared.wire_type.WireType.TheVariants.{LengthDelimited, Varint}
 use Rattle.buffa_map.specs.Codec.{Reading}
-use Rattle.buffa_map.specs.Entry.{entry_of, need_of}
+use Rattle.buffa_map.specs.EntryReading.{entry_of, need_of}
 use Rattle.buffa_map.specs.Run.{undeclared_record}
 use Rattle.buffa_map.specs.declared.map_entry.MapEntry.{MapEntry}
 use Rattle.buffa_wire.specs.BudgetLeft.{nothing, plus, unknown_fields}

@@ -12,7 +12,8 @@ use Rattle.buffa_wire.proofs.ByValueLemmas.{length_cut, write_cut}
 use Rattle.buffa_wire.proofs.CostLemmas.{plus_nothing}
 use Rattle.buffa_wire.specs.Encoding.{records_encoding}
 use Rattle.buffa_map.specs.Codec.{Reading, Writing}
-use Rattle.buffa_map.specs.Entry.{EntryFault, need_of}
+use Rattle.buffa_map.specs.Entry.{EntryFault}
+use Rattle.buffa_map.specs.EntryReading.{need_of}
 use Rattle.buffa_map.specs.Laws.{LimitsAreTrue, SizeIsLength}
 use Rattle.buffa_map.specs.Merge.{EntryTakesMemory, MergesEntry, RefusesEntry, State}
 use Rattle.buffa_map.proofs.ReaderRules.{dropping}

@@ -26,7 +26,8 @@ use Rattle.buffa_wire.specs.Encoding.{encodings}
 use Rattle.buffa_wire.specs.Message.{cost_of_payload, merged_in}
 use Rattle.buffa_map.proofs.EntryLemmas.{entry_complete, entry_sound, value_complete}
 use Rattle.buffa_map.specs.Codec.{Reading, value_at}
-use Rattle.buffa_map.specs.Entry.{IsEntry, entry_of}
+use Rattle.buffa_map.specs.Entry.{IsEntry}
+use Rattle.buffa_map.specs.EntryReading.{entry_of}
 use Rattle.buffa_map.specs.declared.map_entry.MapEntry.{MapEntry}
 use Rattle.buffa_fields.proofs.InsideLemmas.{wire_taken}
 use Rattle.buffa_fields.specs.Entries.{entry_cost, entry_taken, whole_entry_in}

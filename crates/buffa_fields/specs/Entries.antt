@@ -7,7 +7,7 @@ use Rattle.buffa_bytes.specs.declared.wire_type.WireType.TheVariants.{LengthDeli
 use Rattle.buffa_wire.specs.BudgetLeft.{BudgetLeft, need_by, nothing}
 use Rattle.buffa_bytes.specs.Front.{delimited_at, same_wire}
 use Rattle.buffa_map.specs.Codec.{Reading}
-use Rattle.buffa_map.specs.Entry.{entry_of}
+use Rattle.buffa_map.specs.EntryReading.{entry_of}
 use Rattle.buffa_map.specs.declared.map_entry.MapEntry.{MapEntry}
 use Rattle.buffa_wire.specs.ByField.{value_of}
 use Rattle.buffa_wire.specs.Takes.{Need, Taker}

@@ -17,7 +17,8 @@ use Rattle.buffa_wire.specs.ByField.{value_of}
 use Rattle.buffa_wire.specs.Records.{Datum, bytes}
 use Rattle.buffa_wire.specs.Takes.{Asks, IsTaken, Need, Taker}
 use Rattle.buffa_map.specs.Codec.{Reading}
-use Rattle.buffa_map.specs.Entry.{EntryFault, IsEntry, entry_of, need_of, EntryFieldsTakeMemory}
+use Rattle.buffa_map.specs.Entry.{EntryFault, IsEntry, EntryFieldsTakeMemory}
+use Rattle.buffa_map.specs.EntryReading.{entry_of, need_of}
 use Rattle.buffa_map.specs.Run.{undeclared_record}
 use Rattle.buffa_map.specs.declared.map_entry.MapEntry.{MapEntry}
 use Rattle.buffa_fields.specs.Aside.{Kept}

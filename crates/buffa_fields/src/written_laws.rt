@@ -11,7 +11,7 @@ ghost use Rattle.buffa_wire.specs.BudgetLeft.{need_by, nothing, plus, units};
 ghost use Rattle.buffa_wire.specs.Parse.{Fits};
 ghost use Rattle.buffa_wire.specs.Records.{bytes, group, records_of};
 ghost use Rattle.buffa_map.specs.Encoding.{entry_encoding};
-ghost use Rattle.buffa_map.specs.Entry.{need_of};
+ghost use Rattle.buffa_map.specs.EntryReading.{need_of};
 ghost use Rattle.buffa_map.specs.Message.{message_reading};
 ghost use Rattle.buffa_map.specs.Scalars.{delimited_writing};
 ghost use Rattle.buffa_fields.specs.Layout.{is_number};

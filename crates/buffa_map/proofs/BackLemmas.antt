@@ -20,7 +20,8 @@ use Rattle.buffa_wire.specs.Passes.{IsSmall}
 use Rattle.buffa_map.specs.Message.{meant, message_reading}
 use Rattle.buffa_map.specs.MessageField.{IsSmallField}
 use Rattle.buffa_map.specs.Scalars.{delimited_writing}
-use Rattle.buffa_map.specs.Entry.{IsCodecField, IsEntry, IsEntryField, blanks}
+use Rattle.buffa_map.specs.Entry.{IsCodecField, IsEntry, IsEntryField}
+use Rattle.buffa_map.specs.EntryReading.{blanks}
 use Rattle.buffa_map.specs.Pairs.{put}
 use Rattle.buffa_map.specs.Run.{fold_entries, IsRecord, undeclared, Run, EntryRecord, pair_entry}
 use Rattle.buffa_map.specs.Encoding.{AllHold, HasEncoding, entry_encoding, field_encoding, record_encoding}

@@ -15,7 +15,8 @@ use Rattle.buffa_wire.specs.BudgetLeft.{BudgetLeft, Lacks, need_by, nothing}
 use Rattle.buffa_wire.proofs.SpentLemmas.{PaysAtMost_nothing, Pays_nothing}
 use Rattle.buffa_bytes.specs.Scan.{ParsesTo}
 use Rattle.buffa_map.specs.Codec.{Reading, RefusesValue, Spends, Tells, ValueFault, level, value_at, value_need}
-use Rattle.buffa_map.specs.Entry.{CodecFault, IsCodecField, codec_at, blanks, IsEntryField, EntryFieldFault, IsEntry, FaultOf, entry_field_at, entry_of}
+use Rattle.buffa_map.specs.Entry.{CodecFault, IsCodecField, IsEntryField, EntryFieldFault, IsEntry, FaultOf}
+use Rattle.buffa_map.specs.EntryReading.{codec_at, blanks, entry_field_at, entry_of}
 use Rattle.buffa_map.specs.declared.map_entry.MapEntry.{MapEntry}
 use Rattle.buffa_bytes.proofs.SequenceLemmas.{Answers, answer, answers_as, along_sound, along_complete, along_faulty, ParsesTo-more}
 

@@ -24,7 +24,8 @@ use Rattle.buffa_bytes.specs.declared.error.DecodeError.TheVariants.{ElementMemo
 use Rattle.buffa_wire.specs.BudgetLeft.{BudgetLeft, Pays, nothing, plus, units, unknown_fields}
 use Rattle.buffa_wire.specs.Records.{Datum, bytes}
 use Rattle.buffa_map.specs.Codec.{Reading, value_at, value_need}
-use Rattle.buffa_map.specs.Entry.{FaultOf, IsEntry, IsEntryField, blanks, entry_field_at, field_need, inner_need, need_at, need_of, EntryFieldTakesMemory, EntryFieldsTakeMemory}
+use Rattle.buffa_map.specs.Entry.{FaultOf, IsEntry, IsEntryField, EntryFieldTakesMemory, EntryFieldsTakeMemory}
+use Rattle.buffa_map.specs.EntryReading.{blanks, entry_field_at, field_need, inner_need, need_at, need_of}
 use Rattle.buffa_map.specs.EntryWords.{EntriesAreFields, EntriesAreMerged, EntriesNeed, FieldTakesMemory, PairsAreLists, RefusedEntriesStay, RulesAreMet, RunsAreEntries}
 use Rattle.buffa_map.specs.Merge.{EntryTakesMemory, MergesEntry, ReadsRun, RefusesRun, Rules, State, kept_of_entry, kept_of_run, unknown_cost}
 use Rattle.buffa_map.specs.Pairs.{SamePairs, put}

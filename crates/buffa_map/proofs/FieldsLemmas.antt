@@ -10,12 +10,14 @@ use Rattle.buffa_bytes.specs.declared.error.DecodeError.TheVariants.{OutOfMemory
 use Rattle.buffa_bytes.specs.declared.wire_type.WireType.{WireType}
 use Rattle.buffa_bytes.specs.Content.{Content}
 use Rattle.buffa_wire.specs.BudgetLeft.{BudgetLeft, Pays, PaysAtMost, nothing}
-use Rattle.buffa_bytes.specs.Front.{check_wire, skip_at, tag_at, wire_number}
+use Rattle.buffa_bytes.specs.Front.{check_wire, skip_at, tag_at}
+use Rattle.buffa_bytes.specs.Number.{wire_number}
 use Rattle.buffa_bytes.proofs.WireLemmas.{checked_same, other_not_full}
 use Rattle.buffa_bytes.specs.Scan.{ParsesTo}
 use Rattle.buffa_map.proofs.TailLemmas.{tag_there}
 use Rattle.buffa_map.specs.Codec.{Reading, RefusesValue, Spends, ReadingTakesMemory, is_known, value_at, value_need}
-use Rattle.buffa_map.specs.Entry.{EntryFieldFault, IsEntryField, blanks, need_at, EntryFieldTakesMemory, MergesEntryField, MergesFields, RefusesEntryField, RefusesFields}
+use Rattle.buffa_map.specs.Entry.{EntryFieldFault, IsEntryField, EntryFieldTakesMemory, MergesEntryField, MergesFields, RefusesEntryField, RefusesFields}
+use Rattle.buffa_map.specs.EntryReading.{blanks, need_at}
 use Rattle.buffa_map.specs.declared.codec.MapValueDecodeStatus.{MapValueDecodeStatus}
 use Rattle.buffa_map.specs.declared.codec.MapValueDecodeStatus.TheVariants.{Known, Unknown}
 use Rattle.buffa_map.specs.declared.map_entry.MapEntry.{MapEntry}

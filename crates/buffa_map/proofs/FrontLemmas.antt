@@ -6,7 +6,8 @@ use Rattle.buffa_bytes.specs.declared.error.DecodeError.TheVariants.{ElementMemo
 use Rattle.buffa_bytes.specs.Field.{TakesDelimited}
 use Rattle.buffa_wire.specs.BudgetLeft.{Lacks, BudgetLeft}
 use Rattle.buffa_map.specs.Codec.{Reading}
-use Rattle.buffa_map.specs.Entry.{EntryFault, EntryOf, FaultOf, IsEntry, need_of}
+use Rattle.buffa_map.specs.Entry.{EntryFault, EntryOf, FaultOf, IsEntry}
+use Rattle.buffa_map.specs.EntryReading.{need_of}
 use Rattle.buffa_map.specs.declared.map_entry.MapEntry.{MapEntry}
 use Rattle.buffa_bytes.proofs.SequenceLemmas.{ok_no_err, ok_same}
 use Rattle.buffa_map.proofs.EntryLemmas.{entry_complete, entry_faulty}

@@ -9,7 +9,8 @@ use Rattle.buffa_bytes.specs.Front.{delimited_at, taken, varint_at}
 use Rattle.buffa_bytes.proofs.DelimitedLemmas.{taken_sound}
 use Rattle.buffa_bytes.proofs.StepLemmas.{agree_ok}
 use Rattle.buffa_wire.specs.Records.{Datum, bytes}
-use Rattle.buffa_map.specs.Entry.{EntryFault, FaultOf, IsEntry, blanks, inner_need, need_at, need_of, EntryFieldsTakeMemory}
+use Rattle.buffa_map.specs.Entry.{EntryFault, FaultOf, IsEntry, EntryFieldsTakeMemory}
+use Rattle.buffa_map.specs.EntryReading.{blanks, inner_need, need_at, need_of}
 use Rattle.buffa_map.specs.Merge.{EntryTakesMemory, MergesEntry, RefusesEntry, Rules, state, unknown_cost}
 use Rattle.buffa_map.specs.Parts.{ReadsParts, RefusesCut, RefusesParts}
 use Rattle.buffa_map.specs.Pairs.{InOrder, SamePairs, put}

@@ -16,7 +16,8 @@ use Rattle.buffa_bytes.proofs.ScanLemmas.{Leads, Shortens, scan_leads, scan_step
 use Rattle.buffa_bytes.specs.Content.{Content}
 use Rattle.buffa_bytes.proofs.WireLemmas.{check_same}
 use Rattle.buffa_map.specs.Codec.{Reading, Tells, ValueFault, level, value_at, value_need}
-use Rattle.buffa_map.specs.Entry.{CodecFault, EntryFault, EntryOf, FaultOf, EntryFieldFault, IsEntry, IsEntryField, blanks, codec_need, entry_field_at, field_need, inner_need, need_at, need_of}
+use Rattle.buffa_map.specs.Entry.{CodecFault, EntryFault, EntryOf, FaultOf, EntryFieldFault, IsEntry, IsEntryField}
+use Rattle.buffa_map.specs.EntryReading.{blanks, codec_need, entry_field_at, field_need, inner_need, need_at, need_of}
 use Rattle.buffa_map.specs.declared.map_entry.MapEntry.{MapEntry}
 use Rattle.buffa_map.proofs.EntryLemmas.{Plain, field_shorter, field_sound, need_by-nothing, value_free}
 use Rattle.buffa_wire.proofs.KeepLemmas.{content_no_limit}

@@ -5,7 +5,8 @@ use Rattle.buffa_bytes.specs.declared.error.DecodeError.TheVariants.{ElementMemo
 use Rattle.buffa_wire.specs.BudgetLeft.{BudgetLeft, Lacks}
 use Rattle.buffa_bytes.specs.Scan.{ParsesEach}
 use Rattle.buffa_map.specs.Codec.{AlwaysDeclared, Reading}
-use Rattle.buffa_map.specs.Entry.{FaultOf, IsEntryField, blanks, need_at, need_of, MergesFields, RefusesFields}
+use Rattle.buffa_map.specs.Entry.{FaultOf, IsEntryField, MergesFields, RefusesFields}
+use Rattle.buffa_map.specs.EntryReading.{blanks, need_at, need_of}
 use Rattle.buffa_map.specs.Parts.{ReadsParts, RefusesParts}
 use Rattle.buffa_map.specs.declared.map_entry.MapEntry.{MapEntry}
 use Rattle.buffa_map.proofs.NeedLemmas.{lacks_after}

@@ -2,7 +2,8 @@
 use Rattle.std.proofs.Common.{arith, ◌≡◌, ◌+◌, ◌≤◌, ◌⊎◌, inl, inr, ℕ, List, ap}
 use Rattle.buffa_bytes.specs.declared.error.DecodeError.{DecodeError}
 use Rattle.buffa_wire.specs.BudgetLeft.{BudgetLeft, nothing, units}
-use Rattle.buffa_map.specs.Entry.{EntryFault, inner_need, need_of}
+use Rattle.buffa_map.specs.Entry.{EntryFault}
+use Rattle.buffa_map.specs.EntryReading.{inner_need, need_of}
 use Rattle.buffa_map.specs.Merge.{RefusesEntry, Rules, State, unknown_cost}
 use Rattle.buffa_map.specs.Plain.{MergesExactly, PlainFault, SpendsExactly}
 

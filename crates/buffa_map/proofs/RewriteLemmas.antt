@@ -18,7 +18,8 @@ use Rattle.buffa_bytes.specs.declared.wire_type.WireType.TheVariants.{LengthDeli
 use Rattle.buffa_bytes.proofs.VarintLemmas.{IsVarint-varint_encoding}
 use Rattle.buffa_bytes.specs.Scan.{ParsesEach}
 use Rattle.buffa_map.specs.Codec.{Reading, Writing}
-use Rattle.buffa_map.specs.Entry.{IsEntry, IsEntryField, blanks}
+use Rattle.buffa_map.specs.Entry.{IsEntry, IsEntryField}
+use Rattle.buffa_map.specs.EntryReading.{blanks}
 use Rattle.buffa_map.specs.EnumFacts.{closed_reads_back}
 use Rattle.buffa_map.specs.Enums.{ClosedFits, closed_reading, closed_writing}
 use Rattle.buffa_map.specs.Pairs.{ListsOnce, SamePairs, put}

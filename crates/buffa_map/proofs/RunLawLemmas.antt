@@ -3,7 +3,8 @@ use Rattle.std.proofs.Common.{arith, ◌≡◌, ◌≢◌, ◌⊎◌, inl, inr, 
 use Rattle.std.specs.Prelude.{IsOk, cond, if◌then◌else◌, length}
 use Rattle.buffa_bytes.specs.Content.{Content}
 use Rattle.buffa_bytes.specs.Content.Content.{bytes}
-use Rattle.buffa_bytes.specs.Front.{delimited_at, ◌>>=◌, wire_number}
+use Rattle.buffa_bytes.specs.Front.{delimited_at, ◌>>=◌}
+use Rattle.buffa_bytes.specs.Number.{wire_number}
 use Rattle.buffa_bytes.specs.Field.{LengthFault, PayloadFault, TagFault, TakesTag}
 use Rattle.buffa_bytes.specs.Scan.{join}
 use Rattle.buffa_bytes.specs.Values.{tag_encoding}
@@ -18,7 +19,8 @@ use Rattle.buffa_wire.specs.Records.{Datum}
 use Rattle.buffa_map.specs.Pairs.{SamePairs, put}
 use Rattle.buffa_map.specs.Codec.{HoldsNothing, IsWhole, Reading, ReadingTakesMemory, RefusesValue, ValueFault, Writing}
 use Rattle.buffa_map.specs.Encoding.{entry_encoding}
-use Rattle.buffa_map.specs.Entry.{EntryFault, EntryFieldFault, FaultOf, IsEntry, need_of, EntryFieldsTakeMemory}
+use Rattle.buffa_map.specs.Entry.{EntryFault, EntryFieldFault, FaultOf, IsEntry, EntryFieldsTakeMemory}
+use Rattle.buffa_map.specs.EntryReading.{need_of}
 use Rattle.buffa_map.specs.Merge.{MergesEntry, ReadsRun, Rules, State, state}
 use Rattle.buffa_map.specs.Message.{message_reading}
 use Rattle.buffa_map.specs.Rewrite.{RefusesEncoding, RewritesRun}

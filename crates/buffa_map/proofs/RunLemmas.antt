@@ -18,9 +18,11 @@ use Rattle.buffa_bytes.proofs.WireLemmas.{check_sound, check_differs, checked_sa
 use Rattle.buffa_wire.specs.Records.{Datum, bytes}
 use Rattle.buffa_bytes.specs.Scan.{join, ParsesEach}
 use Rattle.buffa_map.specs.Codec.{Reading}
-use Rattle.buffa_map.specs.Entry.{IsEntry, FaultOf, EntryOf, EntryFault, blanks, need_at, need_of}
+use Rattle.buffa_map.specs.Entry.{IsEntry, FaultOf, EntryOf, EntryFault}
+use Rattle.buffa_map.specs.EntryReading.{blanks, need_at, need_of}
 use Rattle.buffa_map.specs.Pairs.{InOrder, put, SamePairs}
-use Rattle.buffa_map.specs.Run.{EntryRecord, IsRecord, Run, ArePaid, RecordFault, RunFault, entry_in, inner_needs, lacks, record_at, after_entry, next_record, run_of, step, fold_entries, undeclared, undeclared_record, undeclared_records}
+use Rattle.buffa_map.specs.Run.{EntryRecord, IsRecord, Run, ArePaid, RecordFault, RunFault, inner_needs, step, fold_entries, undeclared, undeclared_record, undeclared_records}
+use Rattle.buffa_map.specs.RunReading.{entry_in, lacks, record_at, after_entry, next_record, run_of}
 use Rattle.buffa_map.specs.Merge.{Rules, kept_of_entry, kept_of_run}
 use Rattle.buffa_map.specs.declared.map_entry.MapEntry.{MapEntry}
 use Rattle.buffa_bytes.proofs.SequenceLemmas.{Answers, answer, answers_as, along_sound, along_complete, along_faulty}

@@ -4,7 +4,7 @@ use Rattle.std.proofs.lemmas.Bool.{lt-ltb, le-ltb, ltb-true, cases_lt}
 use Rattle.std.specs.Option.{SomeIff, IfSome}
 use Rattle.buffa_bytes.specs.Varint.{varint_encoding}
 use Rattle.buffa_bytes.specs.Values.{delimited_encoding, tag_encoding}
-use Rattle.buffa_bytes.specs.Front.{wire_number}
+use Rattle.buffa_bytes.specs.Number.{wire_number}
 use Rattle.buffa_bytes.specs.declared.wire_type.WireType.{WireType}
 use Rattle.buffa_bytes.specs.declared.wire_type.WireType.TheVariants.{LengthDelimited}
 use Rattle.buffa_bytes.proofs.FieldLemmas.{wire_small}

@@ -15,7 +15,7 @@ use Rattle.buffa_bytes.specs.declared.wire_type.WireType.{WireType}
 use Rattle.buffa_bytes.specs.declared.wire_type.WireType.TheVariants.{LengthDelimited}
 use Rattle.buffa_wire.specs.BudgetLeft.{BudgetLeft, need_by}
 use Rattle.buffa_map.specs.Codec.{Reading}
-use Rattle.buffa_map.specs.Entry.{inner_need}
+use Rattle.buffa_map.specs.EntryReading.{inner_need}
 use Rattle.buffa_map.specs.Merge.{RefusesEntry, RefusesRun, RefusesTag, Rules, State, unknown_cost}
 use Rattle.buffa_map.specs.Run.{RecordFault, RunFault}
 use Rattle.buffa_map.proofs.RunLemmas.{record_entry, record_mismatch, record_other, record_tag}

@@ -1,15 +1,15 @@
 -- Map entries: a join of fields, of which those of number 1 are the key and those of number 2 the value.
 -- Source: the protobuf encoding guide, "Maps".
-use Rattle.std.specs.Prelude.{◌≡◌, ◌≢◌, ℕ, ◌+◌, ◌<◌, ◌≤◌, ◌==◌, Bool, false, true, List, [], ◌++◌, ◌⊎◌, if◌then◌else◌, Result, Ok}
+use Rattle.std.specs.Prelude.{◌≡◌, ◌≢◌, ℕ, ◌+◌, ◌<◌, ◌≤◌, Bool, false, List, [], ◌++◌, ◌⊎◌, Ok}
 use Rattle.buffa_bytes.specs.Field.{IsTag, Field, TakesDelimited, TakesTag, TagFault, LengthFault, PayloadFault}
 use Rattle.buffa_bytes.specs.Content.{Content, HasContent}
-use Rattle.buffa_bytes.specs.Front.{tag_at, check_wire, skip_at, delimited_at, ◌>>=◌, same_wire}
-use Rattle.buffa_bytes.specs.Scan.{scan, ParsesTo, ParseStops, parse_all}
+use Rattle.buffa_bytes.specs.Scan.{ParsesTo, ParseStops}
 use Rattle.buffa_bytes.specs.declared.wire_type.WireType.{WireType}
 use Rattle.buffa_bytes.specs.declared.error.DecodeError.{DecodeError}
 use Rattle.buffa_bytes.specs.declared.error.DecodeError.TheVariants.{ElementMemoryLimitExceeded, UnknownFieldLimitExceeded, WireTypeMismatch, OutOfMemory}
-use Rattle.buffa_wire.specs.BudgetLeft.{BudgetLeft, Lacks, need_by, nothing, plus, units, Pays, PaysAtMost, costs}
-use Rattle.buffa_map.specs.Codec.{Reading, ValueFault, level, value_at, value_need, ReadingTakesMemory}
+use Rattle.buffa_wire.specs.BudgetLeft.{BudgetLeft, Lacks, Pays, PaysAtMost}
+use Rattle.buffa_map.specs.Codec.{Reading, ValueFault, level, ReadingTakesMemory}
+use Rattle.buffa_map.specs.EntryReading.{blanks, entry_field_at, field_need, need_at, need_of}
 use Rattle.buffa_map.specs.declared.map_entry.MapEntry.{MapEntry}
 
 -- what the parts of an entry mean
@@ -29,19 +29,7 @@ module _ {V : Type 0} (codec : Reading V) (d n : ℕ) (old : V) where
       ((w ≢ codec.wire) × (e ≡ WireTypeMismatch n codec.wire w))
       ⊎ ((w ≡ codec.wire) × ValueFault codec d old bs e)
 
-  -- the reading: what the codec makes of the payload at the front, or its fault
-  abbrev pub codec_at : WireType → List ℕ → Result ((V × Bool) × List ℕ) DecodeError
-  codec_at w bs = check_wire n codec.wire w >>= (λ _. value_at codec d old bs)
-
--- what the payload at the front costs, in a field of wire type w
-abbrev pub codec_need : {V : Type 0} → Reading V → ℕ → WireType → List ℕ → BudgetLeft
-codec_need codec d w bs = if same_wire codec.wire w then value_need codec d bs else nothing
-
 module _ {K V : Type 0} (key : Reading K) (val : Reading V) (d : ℕ) where
-  -- what an entry with no field says: the blanks
-  abbrev pub blanks : MapEntry K V
-  blanks = record { key = key.blank; value = val.blank; known = true }
-
   -- f is one field of an entry, which takes what was said from s to t: a key field, a value field, or a
   -- field of another number, with groups nested at most d deep
   abbrev pub IsEntryField : MapEntry K V → List ℕ → MapEntry K V → Type 0
@@ -70,32 +58,6 @@ module _ {K V : Type 0} (key : Reading K) (val : Reading V) (d : ℕ) where
   abbrev pub EntryOf : List ℕ → List ℕ → MapEntry K V → List ℕ → Type 0
   EntryOf bs e s rest = TakesDelimited bs e rest × IsEntry e s
 
-  -- the readings: of the field at the front, and of a whole entry
-  abbrev pub entry_field_at : MapEntry K V → List ℕ → Result (MapEntry K V × List ℕ) DecodeError
-  entry_field_at s bs = do
-    t ← tag_at bs
-    if t.0 == 1 then (codec_at key d 1 s.key t.1 t.2 >>= (λ v. Ok (record s { key = v.0.0 }, v.1)))
-        else (if t.0 == 2 then (codec_at val d 2 s.value t.1 t.2 >>= (λ v. Ok (record s { value = v.0.0; known = v.0.1 }, v.1)))
-        else (skip_at d t.0 t.1 t.2 >>= (λ rest. Ok (s, rest))))
-
-  abbrev pub entry_of : List ℕ → Result (MapEntry K V) DecodeError
-  entry_of e = parse_all entry_field_at blanks e
-
-  -- ---- what an entry needs
-
-  -- what the field at the front costs, if it is one of the key's or the value's
-  abbrev pub field_need : List ℕ → BudgetLeft
-  field_need bs = need_by (tag_at bs) (λ t.
-      if t.0 == 1 then codec_need key d t.1 t.2 else (if t.0 == 2 then codec_need val d t.1 t.2 else nothing))
-
-  -- what fields cost, where s was said, up to the first that isn't merged, which counts too
-  unfoldable pub need_at : MapEntry K V → List ℕ → BudgetLeft
-  need_at s bs = scan (λ t rest. costs (field_need rest) (entry_field_at t rest)) nothing s bs
-
-  -- What an entry needs, a malformed one too: so many units, and what the messages cost that are merged in it, or refused.
-  abbrev pub need_of : ℕ → List ℕ → BudgetLeft
-  need_of cost e = plus (units cost) (need_at blanks e)
-
   -- f is the first fault, where an entry costs so many units of element memory and what the messages in it cost, and
   -- one that is undeclared so many of the unknown fields left (none where it is dropped): of the length; of the units;
   -- of the fields; of the unknown fields left. Where what the messages cost isn't left, a message may be refused with
@@ -108,10 +70,6 @@ module _ {K V : Type 0} (key : Reading K) (val : Reading V) (d : ℕ) where
       ⊎ ((cost ≤ left.memory) × (Lacks left (need_of cost e) ⊎ (FaultOf e f
       ⊎ ((s : MapEntry K V) × IsEntry e s × (s.known ≡ false) × (left.unknown < (need_of cost e).unknown + unknown_cost)
       × (f ≡ UnknownFieldLimitExceeded)))))))
-
-  -- what the length and the entry at the front need beyond the units, if they are there
-  abbrev pub inner_need : List ℕ → BudgetLeft
-  inner_need bs = need_by (delimited_at bs) (λ e. need_at blanks e.0)
 
 -- ---- what merging the fields of an entry does to what was said, and to a budget
 

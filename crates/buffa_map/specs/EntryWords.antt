@@ -13,7 +13,8 @@ use Rattle.buffa_bytes.specs.declared.error.DecodeError.TheVariants.{ElementMemo
 use Rattle.buffa_wire.specs.BudgetLeft.{BudgetLeft, Pays, plus, units, unknown_fields}
 use Rattle.buffa_wire.specs.Records.{bytes}
 use Rattle.buffa_map.specs.Codec.{Reading, ReadingTakesMemory, value_at, value_need}
-use Rattle.buffa_map.specs.Entry.{FaultOf, IsEntry, need_of}
+use Rattle.buffa_map.specs.Entry.{FaultOf, IsEntry}
+use Rattle.buffa_map.specs.EntryReading.{need_of}
 use Rattle.buffa_map.specs.Merge.{MergesEntry, ReadsRun, RefusesEntry, RefusesRun, Rules, State, state}
 use Rattle.buffa_map.specs.Pairs.{InOrder, ListsOnce, SamePairs, put}
 use Rattle.buffa_map.specs.Run.{EntryRecord, fold_entries, undeclared}

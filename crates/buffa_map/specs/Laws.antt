@@ -13,13 +13,15 @@ use Rattle.buffa_wire.specs.BudgetLeft.{Lacks, BudgetLeft, nothing, plus, unknow
 use Rattle.buffa_bytes.specs.Number.{IsNumber}
 use Rattle.buffa_bytes.specs.Values.{tag_encoding}
 use Rattle.buffa_map.specs.Codec.{Reading, ValueFault, Writing, level, value_at}
-use Rattle.buffa_map.specs.Entry.{EntryFault, EntryOf, FaultOf, IsEntry, entry_of, inner_need, need_of}
+use Rattle.buffa_map.specs.Entry.{EntryFault, EntryOf, FaultOf, IsEntry}
+use Rattle.buffa_map.specs.EntryReading.{entry_of, inner_need, need_of}
 use Rattle.buffa_map.specs.Enums.{ClosedFits, closed_reading, closed_writing}
 use Rattle.buffa_map.specs.MessageField.{IsSmallField}
 use Rattle.buffa_map.specs.Scalars.{delimited_writing}
 use Rattle.buffa_map.specs.Pairs.{ListsOnce}
 use Rattle.buffa_map.specs.Rewrite.{IsRewrite, KeepsMeaning}
-use Rattle.buffa_map.specs.Run.{fold_entries, undeclared, ArePaid, Run, RunFault, EntryRecord, inner_needs, run_of}
+use Rattle.buffa_map.specs.Run.{fold_entries, undeclared, ArePaid, Run, RunFault, EntryRecord, inner_needs}
+use Rattle.buffa_map.specs.RunReading.{run_of}
 use Rattle.buffa_map.specs.Encoding.{AllHold, HasEncoding, field_size, field_encoding}
 use Rattle.buffa_map.specs.declared.map_entry.MapEntry.{MapEntry}
 

@@ -12,7 +12,8 @@ use Rattle.buffa_bytes.specs.Field.{TagFault, TakesDelimited, TakesTag}
 use Rattle.buffa_wire.specs.BudgetLeft.{BudgetLeft, Pays, plus, unknown_fields}
 use Rattle.buffa_bytes.specs.declared.wire_type.WireType.TheVariants.{LengthDelimited}
 use Rattle.buffa_map.specs.Codec.{Reading}
-use Rattle.buffa_map.specs.Entry.{EntryFault, EntryOf, IsEntry, inner_need, need_of, EntryFieldsTakeMemory}
+use Rattle.buffa_map.specs.Entry.{EntryFault, EntryOf, IsEntry, EntryFieldsTakeMemory}
+use Rattle.buffa_map.specs.EntryReading.{inner_need, need_of}
 use Rattle.buffa_map.specs.Pairs.{InOrder, SamePairs}
 use Rattle.buffa_map.specs.Run.{fold_entries, ArePaid, Run, EntryRecord, step, undeclared_record, undeclared_records}
 use Rattle.buffa_map.specs.declared.map_entry.MapEntry.{MapEntry}

@@ -4,7 +4,8 @@ use Rattle.buffa_bytes.specs.declared.error.DecodeError.{DecodeError}
 use Rattle.buffa_bytes.specs.declared.error.DecodeError.TheVariants.{ElementMemoryLimitExceeded, OutOfMemory, UnexpectedEof}
 use Rattle.buffa_wire.specs.BudgetLeft.{BudgetLeft, Lacks, Pays}
 use Rattle.buffa_map.specs.Codec.{Reading}
-use Rattle.buffa_map.specs.Entry.{FaultOf, IsEntry, need_of, EntryFieldsTakeMemory}
+use Rattle.buffa_map.specs.Entry.{FaultOf, IsEntry, EntryFieldsTakeMemory}
+use Rattle.buffa_map.specs.EntryReading.{need_of}
 use Rattle.buffa_map.specs.declared.map_entry.MapEntry.{MapEntry}
 
 module _ {K V : Type 0} (key : Reading K) (val : Reading V) (d cost : ℕ) where

@@ -1,17 +1,16 @@
 -- Runs of map records, and what they mean. Source: the protobuf encoding guide, "Maps".
-use Rattle.std.specs.Prelude.{◌≡◌, ◌≢◌, ℕ, ◌+◌, ◌-◌, ◌*◌, nat_lt, ◌==◌, ◌&&◌, ◌||◌, not, Bool, true, List, [], ◌∷◌, ◌++◌, length, map, cond, ◌⊎◌, if◌then◌else◌, Result, Ok, Err}
+use Rattle.std.specs.Prelude.{◌≡◌, ◌≢◌, ℕ, ◌+◌, ◌*◌, Bool, true, List, [], ◌∷◌, ◌++◌, length, map, cond, ◌⊎◌}
 use Rattle.buffa_bytes.specs.Varint.{IsVarint}
 use Rattle.buffa_bytes.specs.Field.{IsTag, TakesTag, TagFault}
-use Rattle.buffa_bytes.specs.Front.{tag_at, check_wire, delimited_at, ◌>>=◌}
 use Rattle.buffa_bytes.specs.declared.wire_type.WireType.{WireType}
 use Rattle.buffa_bytes.specs.declared.wire_type.WireType.TheVariants.{LengthDelimited}
 use Rattle.buffa_bytes.specs.declared.error.DecodeError.{DecodeError}
-use Rattle.buffa_bytes.specs.declared.error.DecodeError.TheVariants.{ElementMemoryLimitExceeded, UnexpectedField, UnknownFieldLimitExceeded, WireTypeMismatch}
+use Rattle.buffa_bytes.specs.declared.error.DecodeError.TheVariants.{UnexpectedField, WireTypeMismatch}
 use Rattle.buffa_wire.specs.BudgetLeft.{BudgetLeft, nothing, plus}
 use Rattle.buffa_wire.specs.Records.{Datum, bytes}
-use Rattle.buffa_bytes.specs.Scan.{parse_all}
 use Rattle.buffa_map.specs.Codec.{Reading}
-use Rattle.buffa_map.specs.Entry.{IsEntry, EntryFault, blanks, entry_of, need_at, need_of}
+use Rattle.buffa_map.specs.Entry.{IsEntry, EntryFault}
+use Rattle.buffa_map.specs.EntryReading.{blanks, need_at}
 use Rattle.buffa_map.specs.Pairs.{put}
 use Rattle.buffa_map.specs.declared.map_entry.MapEntry.{MapEntry}
 
@@ -33,10 +32,6 @@ undeclared_record n e known = cond known [] ((n, bytes e) ∷ [])
 abbrev pub undeclared_records : {K V : Type 0} → ℕ → List (EntryRecord K V) → List (ℕ × Datum)
 undeclared_records n es = map (λ e. (n, bytes e)) (undeclared es)
 
--- whether need can't be spent of left
-abbrev pub lacks : BudgetLeft → BudgetLeft → Bool
-lacks left need = nat_lt left.unknown need.unknown || nat_lt left.memory need.memory
-
 -- what the entry of a pair says
 abbrev pub pair_entry : {K V : Type 0} → K × V → MapEntry K V
 pair_entry p = record { key = p.0; value = p.1; known = true }
@@ -53,21 +48,6 @@ module _ {K V : Type 0} (key : Reading K) (val : Reading V) (d : ℕ) where
   ArePaid cost unknown_cost left es left_after =
       (left_after.memory + (length es * cost + (inner_needs es).memory) ≡ left.memory)
       × (left_after.unknown + (length (undeclared es) * unknown_cost + (inner_needs es).unknown) ≡ left.unknown)
-
-  -- What the entry e says, if left pays for it. Where a fault inside a message isn't named, or what the messages cost
-  -- isn't left, the error stands for any that may be told.
-  abbrev pub entry_in : ℕ → ℕ → BudgetLeft → List ℕ → Result (MapEntry K V) DecodeError
-  entry_in cost unknown_cost left e =
-      let need : BudgetLeft = need_of key val d cost e in
-      if lacks left need then Err ElementMemoryLimitExceeded else (do
-        s ← entry_of key val d e
-        if not s.known && nat_lt left.unknown (need.unknown + unknown_cost) then Err UnknownFieldLimitExceeded else Ok s)
-
-  -- what is left of the budget after an entry
-  abbrev pub after_entry : ℕ → ℕ → BudgetLeft → EntryRecord K V → BudgetLeft
-  after_entry cost unknown_cost left x =
-      let need : BudgetLeft = need_of key val d cost x.bytes in
-      record { unknown = left.unknown - (need.unknown + cond x.parts.known 0 unknown_cost); memory = left.memory - need.memory }
 
 module _ {K V : Type 0} (key : Reading K) (val : Reading V) (d n : ℕ) where
   -- r is a tag of number n, a length, and the entry x of that length
@@ -96,22 +76,6 @@ module _ {K V : Type 0} (key : Reading K) (val : Reading V) (d n : ℕ) where
       (es : List (EntryRecord K V)) × (rest : List ℕ) × (left_after : BudgetLeft)
       × ((front : List ℕ) × (bs ≡ front ++ rest) × Run front es × ArePaid key val d cost unknown_cost left es left_after)
       × (rest ≢ []) × RecordFault cost unknown_cost left_after rest f
-
-  -- the readings: of the record at the front, and of a whole run, which answers the entries and what is left after them
-  abbrev pub record_at : ℕ → ℕ → BudgetLeft → List ℕ → Result (EntryRecord K V × List ℕ) DecodeError
-  record_at cost unknown_cost left bs = do
-    t ← tag_at bs
-    if t.0 == n then (do
-      _ ← check_wire n LengthDelimited t.1
-      e ← delimited_at t.2
-      s ← entry_in key val d cost unknown_cost left e.0
-      Ok (record { bytes = e.0; parts = s }, e.1)) else Err (UnexpectedField t.0)
-
-  abbrev pub next_record : ℕ → ℕ → List (EntryRecord K V) × BudgetLeft → List ℕ → Result ((List (EntryRecord K V) × BudgetLeft) × List ℕ) DecodeError
-  next_record cost unknown_cost s bs = record_at cost unknown_cost s.1 bs >>= (λ x. Ok ((s.0 ++ x.0 ∷ [], after_entry key val d cost unknown_cost s.1 x.0), x.1))
-
-  abbrev pub run_of : ℕ → ℕ → BudgetLeft → List ℕ → Result (List (EntryRecord K V) × BudgetLeft) DecodeError
-  run_of cost unknown_cost left bs = parse_all (next_record cost unknown_cost) ([], left) bs
 
 module _ {K V : Type 0} (eq : K → K → Bool) where
   -- the pairs after an entry that said s: a declared one is put

@@ -15,7 +15,7 @@ ghost use Rattle.buffa_bytes.specs.Scalars.{bool_at, fixed32_at, fixed64_at, int
 ghost use Rattle.buffa_bytes.specs.Scalars.{sint64_at, uint32_at, uint64_at};
 ghost use Rattle.buffa_bytes.specs.Values.{int32_at, int32_encoding, int32_of, string_at};
 ghost use Rattle.buffa_map.specs.CodecWords.{WritesAs, AtBytes, Never, NothingIsFree, IsReadAs, MessagesAreReadAs, always, any_number, declared_number};
-ghost use Rattle.buffa_map.specs.Entry.{blanks};
+ghost use Rattle.buffa_map.specs.EntryReading.{blanks};
 ghost use Rattle.buffa_map.specs.EntryWords.{EntriesAreFields, EntriesNeed, PairsAreLists, RulesAreTheGuides};
 ghost use Rattle.buffa_map.specs.Pairs.{means};
 ghost use Rattle.buffa_map.specs.FieldWords.{EnumsAreNumbers, FieldsAreRecords, MessageFieldsAreRecords, RewritesAreFields};

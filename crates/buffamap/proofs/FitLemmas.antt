@@ -7,7 +7,8 @@ use Rattle.buffa_bytes.specs.Content.{number_in}
 use Rattle.buffa_bytes.specs.Scan.{ParsesEach}
 use Rattle.buffa_bytes.proofs.ScalarLemmas.{int32_fits}
 use Rattle.buffa_bytes.specs.Values.{int32_of}
-use Rattle.buffa_map.specs.Entry.{IsEntryField, blanks}
+use Rattle.buffa_map.specs.Entry.{IsEntryField}
+use Rattle.buffa_map.specs.EntryReading.{blanks}
 use Rattle.buffa_map.specs.Enums.{ClosedFits}
 use Rattle.buffa_map.specs.Pairs.{put}
 use Rattle.buffa_map.specs.Run.{Run, fold_entries}

@@ -10,7 +10,8 @@ use Rattle.buffa_wire.specs.Records.{Datum}
 use Rattle.buffa_map.specs.Codec.{Reading}
 use Rattle.buffa_map.specs.Pairs.{SamePairs}
 use Rattle.buffa_map.specs.Merge.{ReadsRun, Rules, RefusesRun, kept_of_run, state, unknown_cost}
-use Rattle.buffa_map.specs.Run.{fold_entries, ArePaid, Run, EntryRecord, run_of}
+use Rattle.buffa_map.specs.Run.{fold_entries, ArePaid, Run, EntryRecord}
+use Rattle.buffa_map.specs.RunReading.{run_of}
 use Rattle.buffa_map.proofs.RunLemmas.{run_complete, run_faulty}
 use Rattle.buffa_map.proofs.StopLemmas.{run_fault}
 

@@ -4,7 +4,8 @@ use Rattle.buffa_bytes.specs.declared.error.DecodeError.{DecodeError}
 use Rattle.buffa_bytes.specs.ErrorText.{decode_error_text}
 use Rattle.buffa_wire.specs.BudgetLeft.{BudgetLeft, defaults}
 use Rattle.buffa_map.specs.Pairs.{SamePairs}
-use Rattle.buffa_map.specs.Run.{fold_entries, EntryRecord, run_of}
+use Rattle.buffa_map.specs.Run.{fold_entries, EntryRecord}
+use Rattle.buffa_map.specs.RunReading.{run_of}
 use Rattle.buffa_map.specs.Scalars.{int32_reading, text_reading}
 use Rattle.buffamap.specs.Forms.{hex_bytes, without_newline}
 use Rattle.buffamap.specs.Lines.{ListedInOrder, Pair, lines_of, same_key}

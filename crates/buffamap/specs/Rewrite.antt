@@ -15,7 +15,8 @@ use Rattle.buffa_map.specs.Codec.{Reading}
 use Rattle.buffa_map.specs.Enums.{ClosedFits, closed_reading, closed_writing}
 use Rattle.buffa_map.specs.Pairs.{ListsOnce, means}
 use Rattle.buffa_map.specs.Rewrite.{IsRewrite, KeepsMeaning}
-use Rattle.buffa_map.specs.Run.{EntryRecord, Run, fold_entries, run_of}
+use Rattle.buffa_map.specs.Run.{EntryRecord, Run, fold_entries}
+use Rattle.buffa_map.specs.RunReading.{run_of}
 use Rattle.buffa_map.specs.Encoding.{HasEncoding}
 use Rattle.buffa_map.specs.declared.rewrite.RewriteError.{RewriteError}
 use Rattle.buffa_map.specs.declared.rewrite.RewriteError.TheVariants.{Decode, Encode}

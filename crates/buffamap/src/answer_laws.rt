@@ -24,7 +24,8 @@ ghost use Rattle.buffa_map.specs.Encoding.{HasEncoding, entry_encoding, field_en
 ghost use Rattle.buffa_map.specs.Enums.{ClosedFits, closed_reading, closed_writing};
 ghost use Rattle.buffa_map.specs.Pairs.{ListsOnce};
 ghost use Rattle.buffa_map.specs.Rewrite.{IsRewrite};
-ghost use Rattle.buffa_map.specs.Run.{EntryRecord, fold_entries, run_of};
+ghost use Rattle.buffa_map.specs.Run.{EntryRecord, fold_entries};
+ghost use Rattle.buffa_map.specs.RunReading.{run_of};
 ghost use Rattle.buffa_map.specs.Scalars.{int32_reading, int32_writing, text_reading, text_writing};
 ghost use Rattle.buffa_message_set.specs.Item.{item_in};
 ghost use Rattle.buffa_wire.specs.BudgetLeft.{BudgetLeft, Lacks, defaults};

@@ -39,7 +39,8 @@ use Rattle.buffa_map.proofs.StayLemmas.{all_keep}
 use Rattle.buffa_map.proofs.SortedLemmas.{sorted_put}
 use Rattle.buffa_map.specs.Codec.{Reading}
 use Rattle.buffa_map.specs.Encoding.{AllHold}
-use Rattle.buffa_map.specs.Entry.{IsEntry, IsEntryField, blanks, entry_of}
+use Rattle.buffa_map.specs.Entry.{IsEntry, IsEntryField}
+use Rattle.buffa_map.specs.EntryReading.{blanks, entry_of}
 use Rattle.buffa_map.specs.Enums.{ClosedFits}
 use Rattle.buffa_map.specs.Message.{meant}
 use Rattle.buffa_map.specs.Run.{undeclared_record}

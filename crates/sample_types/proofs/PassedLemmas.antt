@@ -5,7 +5,8 @@ use Rattle.buffa_bytes.specs.declared.error.DecodeError.TheVariants.{ElementMemo
 use Rattle.buffa_wire.specs.BudgetLeft.{BudgetLeft, Lacks, plus, units, IsLimit}
 use Rattle.buffa_wire.specs.Records.{Datum}
 use Rattle.buffa_map.specs.Codec.{Reading, Writing}
-use Rattle.buffa_map.specs.Entry.{EntryFault, need_of}
+use Rattle.buffa_map.specs.Entry.{EntryFault}
+use Rattle.buffa_map.specs.EntryReading.{need_of}
 use Rattle.buffa_map.specs.Enums.{closed_writing}
 use Rattle.buffa_map.specs.Laws.{OneReading}
 use Rattle.buffa_map.specs.Merge.{ReadsRun, State, RefusesRun, state}

@@ -17,7 +17,7 @@ use Rattle.buffa_wire.specs.Passes.{cap}
 use Rattle.buffa_wire.specs.Records.{Datum, bytes}
 use Rattle.buffa_wire.specs.Takes.{cost_of, merged_of}
 use Rattle.buffa_map.specs.Codec.{Reading}
-use Rattle.buffa_map.specs.Entry.{entry_of, need_of}
+use Rattle.buffa_map.specs.EntryReading.{entry_of, need_of}
 use Rattle.buffa_map.specs.Message.{message_reading}
 use Rattle.buffa_map.specs.Pairs.{means}
 use Rattle.buffa_map.specs.Scalars.{int32_reading, int32_writing}

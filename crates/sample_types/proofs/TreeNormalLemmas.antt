@@ -31,7 +31,8 @@ use Rattle.buffa_wire.specs.Takes.{Taker, answer, framed, front_of, merged_of}
 use Rattle.buffa_map.proofs.EntryLemmas.{entry_sound}
 use Rattle.buffa_map.proofs.SortedLemmas.{sorted_put}
 use Rattle.buffa_map.specs.Encoding.{AllHold}
-use Rattle.buffa_map.specs.Entry.{IsEntryField, blanks, entry_of}
+use Rattle.buffa_map.specs.Entry.{IsEntryField}
+use Rattle.buffa_map.specs.EntryReading.{blanks, entry_of}
 use Rattle.buffa_map.specs.Message.{meant}
 use Rattle.buffa_map.specs.Scalars.{int32_reading}
 use Rattle.buffa_map.specs.declared.map_entry.MapEntry.{MapEntry}

@@ -24,7 +24,8 @@ use Rattle.buffa_wire.specs.Takes.{IsTaken, Untaken}
 use Rattle.buffa_map.proofs.EntryLemmas.{entry_faulty}
 use Rattle.buffa_map.proofs.NeedLemmas.{entry_limited}
 use Rattle.buffa_map.specs.Codec.{Reading, value_at}
-use Rattle.buffa_map.specs.Entry.{EntryFault, FaultOf, need_of}
+use Rattle.buffa_map.specs.Entry.{EntryFault, FaultOf}
+use Rattle.buffa_map.specs.EntryReading.{need_of}
 use Rattle.buffa_map.specs.Laws.{LimitsAreTrue}
 use Rattle.buffa_map.specs.MessageFacts.{meant_no_limit}
 use Rattle.buffa_map.specs.ScalarFacts.{never_faulty}

@@ -8,7 +8,7 @@ use Rattle.buffa_bytes.specs.declared.error.DecodeError.TheVariants.{ElementMemo
 use Rattle.buffa_bytes.specs.declared.error.EncodeError.{EncodeError}
 use Rattle.buffa_bytes.specs.declared.error.EncodeError.TheVariants.{MessageTooLarge, GroupRefused, OutOfMemory}
 use Rattle.buffa_wire.specs.BudgetLeft.{BudgetLeft, nothing, units}
-use Rattle.buffa_map.specs.Entry.{need_of}
+use Rattle.buffa_map.specs.EntryReading.{need_of}
 use Rattle.buffa_map.specs.Codec.{Reading, Writing}
 use Rattle.buffa_map.specs.Merge.{ReadsRun, Rules, State, RefusesRun, state, unknown_cost}
 use Rattle.buffa_map.proofs.ReaderRules.{dropping}

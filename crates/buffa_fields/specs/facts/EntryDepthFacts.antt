@@ -16,7 +16,8 @@ use Rattle.buffa_bytes.specs.Join.Join.{none, more}
 use Rattle.buffa_bytes.specs.Scan.{ParsesEach, join}
 use Rattle.buffa_map.proofs.EntryLemmas.{entry_complete, entry_sound}
 use Rattle.buffa_map.specs.Codec.{Reading}
-use Rattle.buffa_map.specs.Entry.{IsCodecField, IsEntry, IsEntryField, blanks, entry_of}
+use Rattle.buffa_map.specs.Entry.{IsCodecField, IsEntry, IsEntryField}
+use Rattle.buffa_map.specs.EntryReading.{blanks, entry_of}
 use Rattle.buffa_map.specs.declared.map_entry.MapEntry.{MapEntry}
 use Rattle.buffa_wire.specs.ByField.{value_of}
 use Rattle.buffa_fields.specs.facts.ValueFacts.{open_level}

@@ -27,7 +27,8 @@ use Rattle.buffa_map.proofs.EntryLemmas.{entry_faulty}
 use Rattle.buffa_map.proofs.SizeLemmas.{length-entry_encoding}
 use Rattle.buffa_map.specs.Codec.{Reading, ValueFault, Writing}
 use Rattle.buffa_map.specs.Encoding.{AllHold, entry_encoding}
-use Rattle.buffa_map.specs.Entry.{FaultOf, entry_of}
+use Rattle.buffa_map.specs.Entry.{FaultOf}
+use Rattle.buffa_map.specs.EntryReading.{entry_of}
 use Rattle.buffa_map.specs.Message.{meant, message_reading}
 use Rattle.buffa_map.specs.Scalars.{delimited_writing}
 use Rattle.buffa_map.specs.declared.map_entry.MapEntry.{MapEntry}

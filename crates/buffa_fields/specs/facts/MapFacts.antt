@@ -12,7 +12,7 @@ use Rattle.buffa_wire.proofs.PassLemmas.{consumes_none, written_none}
 use Rattle.buffa_wire.specs.Records.{records_of}
 use Rattle.buffa_wire.specs.Encoding.{records_encoding}
 use Rattle.buffa_map.specs.Codec.{Reading, Writing}
-use Rattle.buffa_map.specs.Entry.{need_of}
+use Rattle.buffa_map.specs.EntryReading.{need_of}
 use Rattle.buffa_map.specs.Pairs.{put}
 use Rattle.buffa_map.specs.Run.{EntryRecord, fold_entries, pair_entry}
 use Rattle.buffa_map.specs.Encoding.{AllHold, HasEncoding, entry_encoding, field_encoding, record_encoding}

@@ -7,7 +7,7 @@ use Rattle.buffa_bytes.specs.declared.error.DecodeError.{DecodeError}
 use Rattle.buffa_bytes.specs.declared.wire_type.WireType.TheVariants.{LengthDelimited}
 use Rattle.buffa_map.specs.Codec.{Reading}
 use Rattle.buffa_map.specs.Encoding.{AllHold, entry_encoding}
-use Rattle.buffa_map.specs.Entry.{need_at, need_of}
+use Rattle.buffa_map.specs.EntryReading.{need_at, need_of}
 use Rattle.buffa_map.specs.Message.{message_reading}
 use Rattle.buffa_map.specs.Scalars.{delimited_writing}
 use Rattle.buffa_wire.specs.BudgetLeft.{BudgetLeft, need_by, nothing}

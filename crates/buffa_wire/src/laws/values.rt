@@ -27,7 +27,7 @@ ghost use Rattle.buffa_bytes.specs.Scalars.{sint64_of, uint32_at, uint32_encodin
 ghost use Rattle.buffa_bytes.specs.Scalars.{uint64_of, varint_as, zigzag};
 ghost use Rattle.buffa_bytes.specs.Values.{delimited_encoding, int32_at, int32_encoding, int32_of, string_at, tag_encoding};
 ghost use Rattle.buffa_bytes.specs.Varint.{varint_encoding};
-ghost use Rattle.buffa_bytes.specs.Front.{wire_number};
+ghost use Rattle.buffa_bytes.specs.Number.{wire_number};
 ghost use Rattle.buffa_wire.specs.Encoding.{encodings, payload_encoding, records_encoding, tagged_encoding, wire_of};
 ghost use Rattle.buffa_wire.specs.Enums.{DeclaresBlank, Numbers, Refines, numbers, open_number};
 ghost use Rattle.buffa_wire.specs.Found.{fixed32_in, fixed64_in, varint_in};

@@ -19,12 +19,12 @@ ghost use Rattle.buffa_bytes.specs.declared.error.MessageSetFault.{MessageSetFau
 ghost use Rattle.buffa_bytes.specs.ErrorText.{decode_error_text, encode_error_text, message_set_fault_text};
 ghost use Rattle.buffa_bytes.specs.Varint.{IsByte, varint_encoding, IsVarint, TakesVarint, VarintFault};
 ghost use Rattle.buffa_bytes.specs.Left.{past_no_payload, past_no_tag, past_no_delimited, past_no_varint};
-ghost use Rattle.buffa_bytes.specs.Number.{IsNumber};
+ghost use Rattle.buffa_bytes.specs.Number.{IsNumber, wire_kind, wire_number};
 ghost use Rattle.buffa_bytes.specs.Content.{Content, ContentFault, TakesContent, bytes_in, content_at, content_by};
 ghost use Rattle.buffa_bytes.specs.Content.{number_in};
 ghost use Rattle.buffa_bytes.specs.Field.{LengthFault, SomeField, TakesDelimited, TakesTag, TagFault, TakesPayload};
 ghost use Rattle.buffa_bytes.specs.Field.{PayloadFault};
-ghost use Rattle.buffa_bytes.specs.Front.{delimited_at, varint_at, tag_at, skip_at, group_at, group_by_field, check_wire, wire_kind, wire_number};
+ghost use Rattle.buffa_bytes.specs.Front.{delimited_at, varint_at, tag_at, skip_at, group_at, group_by_field, check_wire};
 ghost use Rattle.buffa_bytes.specs.Scalars.{bool_at, bool_of, bool_encoding, eight_as, fixed32_at, fixed32_encoding};
 ghost use Rattle.buffa_bytes.specs.Scalars.{fixed64_at, fixed64_encoding, four_as, int32_of, int64_at, int64_of};
 ghost use Rattle.buffa_bytes.specs.Scalars.{int64_encoding, sfixed32_at, sfixed32_of, sfixed32_encoding, sfixed64_at};

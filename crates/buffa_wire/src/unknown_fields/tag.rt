@@ -3,7 +3,7 @@
 ghost use Rattle.std.specs.Prelude.{◌≡◌, ◌+◌, ◌*◌};
 ghost use Rattle.buffa_wire.specs.Encoding.{wire_of};
 ghost use Rattle.buffa_wire.specs.View.{datum_of};
-ghost use Rattle.buffa_bytes.specs.Front.{wire_number};
+ghost use Rattle.buffa_bytes.specs.Number.{wire_number};
 
 use crate::unknown_fields::UnknownFieldData;
 use buffa_bytes::WireType;

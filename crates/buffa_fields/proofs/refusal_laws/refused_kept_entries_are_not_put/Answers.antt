@@ -1,7 +1,7 @@
 use Rattle.std.proofs.Common.{◌≤◌, ◌+◌, ap, subst, ◌∙◌}
 use Rattle.buffa_wire.proofs.CostLemmas.{plus_nothing}
 use Rattle.buffa_wire.specs.BudgetLeft.{plus}
-use Rattle.buffa_map.specs.Entry.{need_of}
+use Rattle.buffa_map.specs.EntryReading.{need_of}
 use Rattle.buffa_fields.proofs.RecordLawLemmas.{entry_costs, no_entry_costs, others_are_free}
 use Rattle.buffa_fields.specs.KeptMaps.{aside_entry_levels, kept_entry_cost, put_or_keep_cost}
 use Rattle.buffa_fields.proofs.refusal_laws.refused_kept_entries_are_not_put.Goals as goal

@@ -1,5 +1,5 @@
 use Rattle.std.proofs.Common.{◌≡◌, ◌*◌, ◌+◌, ◌∙◌, sym, ap}
-use Rattle.buffa_bytes.specs.Front.{wire_number}
+use Rattle.buffa_bytes.specs.Number.{wire_number}
 use Rattle.buffa_map.proofs.FieldsLemmas.{tag_of_byte}
 use Rattle.buffa_map.proofs.entry_fields.take_tag.Goals as goal
 

@@ -1,5 +1,5 @@
 use Rattle.std.proofs.Common.{◌∙◌, ap, sym, Err}
-use Rattle.buffa_map.specs.Entry.{entry_of}
+use Rattle.buffa_map.specs.EntryReading.{entry_of}
 use Rattle.buffa_bytes.proofs.StepLemmas.{agree_ok, agree_err}
 use Rattle.buffa_map.proofs.EntryLemmas.{entry_sound, entry_complete, entry_faulty}
 use Rattle.buffa_map.proofs.map_laws.entries_are_read.Goals as goal

@@ -1,7 +1,7 @@
 use Rattle.std.proofs.Common.{◌≡◌, ◌+◌, ap, arith}
 use Rattle.buffa_wire.specs.BudgetLeft.{units}
 use Rattle.buffa_bytes.specs.Front.{delimited_at}
-use Rattle.buffa_map.specs.Entry.{blanks, need_at}
+use Rattle.buffa_map.specs.EntryReading.{blanks, need_at}
 use Rattle.buffa_map.proofs.EntryLemmas.{need_by-nothing}
 use Rattle.buffa_map.proofs.NeedLemmas.{need_free}
 use Rattle.buffa_map.proofs.RunLemmas.{inner_free}

@@ -1,5 +1,5 @@
 use Rattle.std.proofs.Common.{◌∙◌, ap, sym, Err}
-use Rattle.buffa_map.specs.Run.{run_of}
+use Rattle.buffa_map.specs.RunReading.{run_of}
 use Rattle.buffa_bytes.proofs.StepLemmas.{agree_ok, agree_err}
 use Rattle.buffa_map.proofs.RunLemmas.{run_sound, run_complete, run_faulty}
 use Rattle.buffa_map.proofs.map_laws.runs_are_read.Goals as goal
