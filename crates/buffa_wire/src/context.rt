@@ -58,7 +58,8 @@ impl<'a> DecodeContext<'a> {
     /// The context one level down.
     ///
     /// # Errors
-    /// [`DecodeError::RecursionLimitExceeded`] at depth 0. It takes no memory, and spends nothing.
+    /// [`DecodeError::RecursionLimitExceeded`] at depth 0. It takes no memory. The contract leaves the budget open then, since it moves
+    /// into the context that is answered.
     ///
     /// ```ignore
     /// let inner = ctx.descend()?;
