@@ -37,7 +37,7 @@ module _ {P D T : Type 0} (tag : Tag) (ctx : DecodeContext) (left : Exit D) (old
   abbrev pub TakesValue : {X : Type 0} → Reading X → (P → X) → Type 0
   TakesValue codec says = TakesIn (value_taken codec) free says
 
-  -- a message of such members merged the field, and paid for it
+  -- a message of such members merged the field, and paid for it; or it refused the field
   abbrev pub MergesIn : {X : Type 0} → Taker X → Need → (P → X) → Type 0
   MergesIn takes need says =
       IsFieldMerged (merged_of takes) (cost_of need) ctx.depth (says old) tag.number tag.wire_type before.now ctx.budget.now r (says new) (budget_left left) after.now

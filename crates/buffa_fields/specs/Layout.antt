@@ -161,7 +161,7 @@ pub record Layout (M X : Type 0) : Type 1 where
   pub slots : X → List ℕ
   pub levels : X → ℕ
   pub normal : X → Type 0
-  -- the numbers that are declared; each may be a field's, and no two are one
+  -- the numbers that are declared; and whether each may be a field's, no two are one, and records that a member puts aside are kept
   pub declares : ℕ → Bool
   pub sound : Bool
   -- whether fields that aren't declared are kept; and the records that are

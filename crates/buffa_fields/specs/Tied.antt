@@ -14,7 +14,7 @@ use Rattle.buffa_fields.specs.facts.ApartFacts.{knot_merged_apart}
 use Rattle.buffa_fields.specs.Laying.{Laying, whole_takes}
 use Rattle.buffa_fields.specs.Words.{Words}
 
--- each number is valid for a field, and no two members have the same one
+-- each number is valid for a field, no two members have the same one, and records that a member puts aside are kept
 abbrev pub IsSound : {X : Type 0} → Laying X → Type 1
 IsSound {X} o = (w : Words X) → (o.layout w).sound ≡ true
 

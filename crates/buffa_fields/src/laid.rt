@@ -27,6 +27,7 @@ pub trait Laid {
     /// Its members, one after the other, by what is told of the messages inside.
     ghost laying: { Laying Self };
 
-    /// Each number is valid for a field, and no two members have the same one.
+    /// Each number is valid for a field, no two members have the same one, and where a member puts records aside, the message
+    /// keeps them.
     ghost sound: { IsSound laying };
 }

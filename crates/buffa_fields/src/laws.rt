@@ -344,7 +344,7 @@ where
 /// Fields that aren't declared, where they are kept: each is a record behind the others, and costs an unknown
 /// field for itself and for each inside. One that has a fault costs as many as are read of it: with fewer left it is
 /// refused for want of them, with so many it isn't. Memory is asked for where reading one takes some, or where one is
-/// there and these unknown fields are left.
+/// there and these unknown fields are left. They are no member of the message, so no number is theirs.
 pub fn kept_fields_are_these<M>()
     ensures meaning { (get : M → List (ℕ × Datum)) (m : M) → (keep get).meaning m ≡ get m }
     ensures blank { (get : M → List (ℕ × Datum)) → (keep get).blank ≡ [] }
@@ -365,9 +365,11 @@ pub fn kept_fields_are_these<M>()
     ensures taken { (get : M → List (ℕ × Datum)) → TakeAlike (keep get).Taken (AmongKept get) }
     ensures apart { (get : M → List (ℕ × Datum)) (n : ℕ) (v u : List (ℕ × Datum)) → (keep get).Apart n v u ↔ (v ≡ u) }
     ensures same { (get : M → List (ℕ × Datum)) (a b : M) → (keep get).Same a b ↔ (get b ≡ get a) }
+    ensures no_member { (get : M → List (ℕ × Datum)) (n : ℕ) → ((keep get).declares n ≡ false) × ((keep get).sound ≡ true) }
 {}
 
-/// Fields that aren't declared, where they are passed over: for nothing, and nothing is said of them.
+/// Fields that aren't declared, where they are passed over: for nothing, without memory, and nothing is said of them. No number
+/// is theirs.
 pub fn passed_fields_are_these<M>()
     ensures takes { (d n : ℕ) (w : _) (p : List ℕ) (v : _) → (skip {M = M}).takes d v n w p ≡ Some v }
     ensures asks { (s d n : ℕ) (w : _) (bs : List ℕ) → (skip {M = M}).asks s d n w bs → ⊥ }
@@ -375,6 +377,7 @@ pub fn passed_fields_are_these<M>()
     ensures records { (v : _) → ((skip {M = M}).records v ≡ []) × ((skip {M = M}).slots v ≡ []) }
     ensures normal { (v : _) → ((skip {M = M}).levels v ≡ 0) × (skip {M = M}).normal v }
     ensures taken { TakeAlike (skip {M = M}).Taken PassedOver }
+    ensures no_member { (n : ℕ) → ((skip {M = M}).declares n ≡ false) × ((skip {M = M}).sound ≡ true) }
 {}
 
 /// A member in front of others: it takes the fields of its number, and they stay then; all other fields are theirs.

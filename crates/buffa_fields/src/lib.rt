@@ -37,6 +37,7 @@ pub mod messages_in;
 pub mod nested;
 pub mod one_of;
 pub mod one_of_laws;
+pub mod open_laws;
 pub mod optional;
 pub mod ordered_key;
 pub mod ordered_map;

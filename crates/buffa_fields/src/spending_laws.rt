@@ -82,8 +82,8 @@ pub fn kept_fields_are_there_so()
 {}
 
 /// A malformed field of a list of a closed enum costs nothing, whatever undeclared numbers stand in it; so a refusal of it spends
-/// no unknown field, and is told as its fault. Nor does a field of one that may be absent, where no varint is there, or the wire
-/// type is another one.
+/// no unknown field, and is told as its fault. A field of one that may be absent costs nothing where no varint is there, or the
+/// wire type is another one.
 pub fn malformed_numbers_cost_nothing<E: Enumeration>()
     ensures no_payload { (d n : ℕ) (w : WireType) (bs : List ℕ) (f : DecodeError) → PayloadFault d n w bs f →
         (⟦<Repeated<ClosedEnum<E>> as Keeping>⟧.aside.need d n w bs ≡ nothing)

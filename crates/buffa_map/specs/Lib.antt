@@ -4,7 +4,9 @@ pub mod Codec
 pub mod Scalars
 pub mod ScalarFacts
 pub mod Entry
+pub mod EntryReading
 pub mod Run
+pub mod RunReading
 pub mod Merge
 pub mod Parts
 pub mod Encoding

@@ -1,9 +1,9 @@
 //! Which codec each public name is: of scalars, strings, bytes, enums and messages.
 
-ghost use Rattle.std.specs.Prelude.{◌≡◌, ◌↔◌, ℕ, ℤ, List, [], None, Some, false, true};
+ghost use Rattle.std.specs.Prelude.{◌≡◌, ◌↔◌, ℕ, ℤ, List, [], None, Option, Some, false, true};
 ghost use Rattle.buffa_map.specs.Scalars.{IsLengthy, IsText};
 ghost use Rattle.buffa_wire.specs.Enums.{numbers};
-ghost use Rattle.buffa_map.specs.Codec.{Coded, Codes, Every};
+ghost use Rattle.buffa_map.specs.Codec.{Coded, Codes, Every, Reading, Writing};
 ghost use Rattle.buffa_map.specs.Enums.{ClosedFits, OpenFits, OpenNormal, closed_reading, closed_writing};
 ghost use Rattle.buffa_map.specs.Enums.{open_reading, open_writing};
 ghost use Rattle.buffa_map.specs.Message.{message_reading};
@@ -41,7 +41,8 @@ impl<VC: MapCodec> IsCodec for VC {
     } };
 }
 
-/// What these laws call a codec: how it reads and writes, and what is said of its values. Nothing is left out.
+/// What these laws call a codec: how it reads and writes, and what is said of its values. Nothing is left out, nor by the word that
+/// says all of it at once; here it says that each value is read back.
 pub fn coded_is_this<VC: MapCodec>()
     ensures reading { ⟦<VC as IsCodec>⟧.coded.reading ≡ VC.reading }
     ensures writing { ⟦<VC as IsCodec>⟧.coded.writing ≡ VC.writing }
@@ -49,6 +50,10 @@ pub fn coded_is_this<VC: MapCodec>()
     ensures undeclared { ⟦<VC as IsCodec>⟧.coded.undeclared ≡ VC.MAY_RETURN_UNKNOWN }
     ensures len { ⟦<VC as IsCodec>⟧.coded.len ≡ VC.FIXED_LEN }
     ensures normal { (v : VC.Value.Meaning) → ⟦<VC as IsCodec>⟧.coded.Normal v ↔ VC.normal v }
+    ensures codes { (reads : Reading VC.Value.Meaning) (writes : Writing VC.Value.Meaning) (costs : ℕ) (undeclared : _)
+        (len : Option ℕ) → Codes ⟦<VC as IsCodec>⟧.coded reads writes costs undeclared len Every
+        ↔ ((VC.reading ≡ reads) × (VC.writing ≡ writes) × (VC.COST ≡ costs) × (VC.MAY_RETURN_UNKNOWN ≡ undeclared)
+        × (VC.FIXED_LEN ≡ len) × ((v : VC.Value.Meaning) → VC.normal v ↔ Unit {0})) }
 {}
 
 /// How each codec reads and writes, what a value costs, whether one may be undeclared, and the length of its payloads.
