@@ -39,6 +39,8 @@ pub use buffa_fields::laws as fields;
 pub use buffa_fields::inside_laws as inside;
 /// Laws of messages that hold themselves, in members of any kind.
 pub use buffa_fields::self_laws as selves;
+/// Laws of the words by which a message that holds itself names its members.
+pub use buffa_fields::open_laws as open_members;
 /// Laws of oneofs and of their cases.
 pub use buffa_fields::one_of_laws as oneofs;
 /// Laws of what groups, maps of messages and numbers that are put aside cost, and what a refusal of them leaves.
