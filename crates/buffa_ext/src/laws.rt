@@ -177,6 +177,32 @@ pub fn messages_in_records_are_read<K: MessageRecord, M: Message>()
         ↔ ((length (M.encoding v) < 2 ^ 31) × (K.refusal (M.encoding v) ≡ None)) }
 {}
 
+/// One record of a kind, a user's own too, is read and written as the message whose encoding it holds, at any depth and of any budget,
+/// and so is an element of a list. A value is refused where its encoding is 2^31 bytes long or longer, or no record of the kind holds it.
+pub fn records_of_a_kind_are_read<K: MessageRecord, M: Message>()
+    ensures one { (n : ℕ) (b : BudgetLeft) (d : Datum) → ⟦<MessageIn<K, M> as SingularCodec>⟧.one n b d
+        ≡ message_of (M.merged n) (M.cost n) M.blank_is b (filter_map K.held (d ∷ [])) }
+    ensures leaves { (n : ℕ) (b left : BudgetLeft) (d : Datum) → ⟦<MessageIn<K, M> as SingularCodec>⟧.leaves n b d left
+        ↔ LeavesOf (message_of (M.merged n) (M.cost n) M.blank_is b (filter_map K.held (d ∷ []))) b
+        (cost_all (M.cost n) (filter_map K.held (d ∷ []))) left }
+    ensures cost { (d : Datum) → ⟦<MessageIn<K, M> as SingularCodec>⟧.cost d
+        ≡ cost_all (M.cost 100) (filter_map K.held (d ∷ [])) }
+    ensures most { (n : ℕ) (d : Datum) → ⟦<MessageIn<K, M> as SingularCodec>⟧.most n d
+        ≡ cost_all (M.cost n) (filter_map K.held (d ∷ [])) }
+    ensures datum { (v : M.Meaning) → ⟦<MessageIn<K, M> as SingularCodec>⟧.datum v ≡ K.holder (M.encoding v) }
+    ensures too_large { (v : M.Meaning) → 2 ^ 31 ≤ length (M.encoding v) → ⟦<MessageIn<K, M> as SingularCodec>⟧.refusal v
+        ≡ Some MessageTooLarge }
+    ensures written { (v : M.Meaning) → length (M.encoding v) < 2 ^ 31 → ⟦<MessageIn<K, M> as SingularCodec>⟧.refusal v
+        ≡ K.refusal (M.encoding v) }
+    ensures fits { (v : M.Meaning) → ⟦<MessageIn<K, M> as SingularCodec>⟧.fits v
+        ↔ ((length (M.encoding v) < 2 ^ 31) × (K.refusal (M.encoding v) ≡ None)) }
+    ensures normal { (v : M.Meaning) → ⟦<MessageIn<K, M> as SingularCodec>⟧.normal v
+        ↔ (M.normal v × (M.levels v ≤ 100) × Fits (records_of (M.records v))) }
+    ensures back { (v : M.Meaning) → ⟦<MessageIn<K, M> as SingularCodec>⟧.back v ≡ v }
+    ensures asks { (d : Datum) → ⟦<MessageIn<K, M> as SingularCodec>⟧.asks d ↔ ((n : ℕ) × K.asks n d) }
+    ensures packed { (bs : List ℕ) → ⟦<MessageIn<K, M> as SingularCodec>⟧.packed bs ≡ [] }
+{}
+
 /// One record of bytes is read and written as a message, at any depth and of any budget, and so is an element
 /// of a list. A value is refused exactly where its encoding is 2^31 bytes long or longer.
 pub fn message_records_are_read<M: Message>()
