@@ -113,8 +113,8 @@ fn move_bytes<B: Buf>(buf: &mut B, len: usize, bytes: &mut Vec<u8>) -> Result<()
 
 /// The first `len` bytes, where the buffer shows them in one piece; they stay unread.
 ///
-/// `None` where fewer are left, and where the bytes that lie together at the front are fewer; never for one
-/// byte that is left.
+/// `None` where fewer are left, and where the bytes that lie together at the front are fewer; never for no bytes, and never for
+/// one byte that is left. The contract leaves open how many lie together, so of two bytes or more it may be `None`.
 ///
 /// ```ignore
 /// let ab = front(&rest, 2); // of "abc": Some("ab"), and `rest` is "abc" still

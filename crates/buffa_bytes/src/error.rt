@@ -67,7 +67,7 @@ pub enum DecodeError {
     },
     /// A text that is not UTF-8.
     InvalidUtf8,
-    /// A length past what an address can name; it does not occur where addresses have 64 bits.
+    /// A length past what an address can name. No reader here tells it, since addresses have 64 bits; a message of one's own may.
     MessageTooLarge,
     /// Groups or messages nested deeper than the depth allows.
     RecursionLimitExceeded,

@@ -31,7 +31,8 @@ fn skip_bytes<B: Buf>(buf: &mut B, n: u64) -> Result<(), DecodeError>
 /// The first fault of the payload: of a varint; [`DecodeError::UnexpectedEof`] where bytes are missing;
 /// [`DecodeError::RecursionLimitExceeded`] at a start of group where `depth` is 0; inside a group the
 /// faults of its tags and payloads, one level less deep; [`DecodeError::InvalidEndGroup`] for the end
-/// tag of a group that is not open. It takes no memory.
+/// tag of a group that is not open. It takes no memory. Where a group is refused, an end of the bytes is unread; the contract
+/// leaves open which.
 ///
 /// Source: the protobuf encoding guide, "Message Structure" and "Groups".
 ///

@@ -24,8 +24,8 @@ pub const DEFAULT_ELEMENT_MEMORY_LIMIT: usize = 268_435_456;
 ///
 /// Of the unknown fields left one is spent for each unknown field that is kept, nested ones too, for each map
 /// entry that is kept whole, and for each MessageSet Item; of the element memory left, for each map entry the
-/// units that its two codecs cost, and for each message of a repeated field those that its type costs. What
-/// was spent stays spent, also where the reading is refused later.
+/// units that its two codecs cost, and for each message of a repeated field those that its type costs. A refused reading
+/// has spent no more than what it read costs; how much of that, its own contract says or leaves open.
 ///
 /// ```ignore
 /// let mut budget = Budget::new(DEFAULT_UNKNOWN_FIELD_LIMIT);

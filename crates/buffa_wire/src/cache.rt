@@ -8,7 +8,8 @@ use buffa_bytes::EncodeError;
 use std::alloc::Global;
 use std::marker::Model;
 
-/// Sizes of nested messages, which the size pass puts in and the write pass takes out, in one order.
+/// Sizes of nested messages, which the size pass puts in and the write pass takes out, in one order. Where a pass was refused, the
+/// cache may hold sizes that nothing takes out, so the next pass wants a new one.
 ///
 /// ```ignore
 /// let mut cache = SizeCache::new(alloc);

@@ -121,7 +121,7 @@ pub trait Message: MessageSpec {
     /// appended.
     ///
     /// # Errors
-    /// [`EncodeError::OutOfMemory`] alone; the old slots come first then.
+    /// [`EncodeError::OutOfMemory`] alone; the old slots come first then. The contract leaves open when memory runs out.
     ///
     /// ```ignore
     /// let size = message.compute_size(&mut cache)?;
@@ -136,7 +136,7 @@ pub trait Message: MessageSpec {
     ///
     /// # Errors
     /// [`EncodeError::OutOfMemory`] alone, after a beginning of the encoding; some of the value's slots are
-    /// consumed then.
+    /// consumed then. The contract leaves open when memory runs out.
     ///
     /// ```ignore
     /// message.write_to(&mut cache, &mut sink)?; // as many bytes as compute_size said
@@ -191,7 +191,7 @@ pub trait Message: MessageSpec {
     /// # Errors
     /// Those of [`Message::merge`], of this field alone where its payload is whole; never
     /// [`DecodeError::OutOfMemory`] for an end tag. Which error it is, and what the value holds then, is said by its type
-    /// (`Refused`). It may leave that out.
+    /// (`Refused`). It may leave that out. What is unread then is left open, and so is how much of the field's cost is spent.
     ///
     /// ```ignore
     /// let tag = Tag::decode(&mut rest)?;
@@ -282,7 +282,7 @@ pub trait Message: MessageSpec {
 
     /// Merges the length and so many bytes at the front, one level down.
     ///
-    /// Bytes that lie together are merged where they lie; others are put together first.
+    /// Bytes that lie together are merged where they lie; others are put together first. The contract leaves open which do.
     ///
     /// # Errors
     /// In this order: [`DecodeError::RecursionLimitExceeded`] where no level is left; the length's faults;

@@ -155,8 +155,8 @@ pub fn decode_bytes_to_bytes<B: Buf>(alloc: Global, buf: &mut B) -> Result<Bytes
 ///
 /// # Errors
 /// In this order: those of a varint, [`DecodeError::UnexpectedEof`] where the length passes what is left;
-/// [`DecodeError::OutOfMemory`], where a byte or more had to be put together; or the function's. What follows a length
-/// that passes the end stays unread then, and what follows the bytes.
+/// [`DecodeError::OutOfMemory`], where there is a byte or more; or the function's. What follows a length that passes the
+/// end stays unread then, and what follows the bytes. The contract leaves open whether bytes that lie together are copied.
 ///
 /// ```ignore
 /// with_delimited(alloc, buf, &mut |bytes: &[u8]| P::from_wire(alloc, bytes)) // of 02 DE AD: what P makes of DE AD

@@ -64,7 +64,8 @@ fn decode_plain<B: Buf>(
 /// The first fault, in this order: [`DecodeError::InvalidEndGroup`] for an end tag, which spends nothing;
 /// [`DecodeError::UnknownFieldLimitExceeded`] where no unknown field is left; those of the payload, as
 /// [`skip_field_depth`](crate::skip_field_depth) returns them. Inside a group, one level less deep, the same
-/// of each tag and field. Or [`DecodeError::OutOfMemory`].
+/// of each tag and field. Or [`DecodeError::OutOfMemory`]. Where a group is refused, an end of the bytes is unread; the contract
+/// leaves open which.
 ///
 /// Source: the protobuf encoding guide, "Message Structure" and "Groups".
 ///
