@@ -1,11 +1,16 @@
 //! What the members are of a message that holds itself: what each word says by which an author names them.
 
-ghost use Rattle.std.specs.Prelude.{◌≡◌, ◌↔◌, ℕ, List, Option};
+ghost use Rattle.std.specs.Prelude.{◌≡◌, ◌↔◌, ℕ, List, Option, Result};
+ghost use Rattle.std.specs.Option.{option_map};
+ghost use Rattle.buffa_bytes.specs.declared.error.DecodeError.{DecodeError};
+ghost use Rattle.buffa_bytes.specs.declared.wire_type.WireType.{WireType};
+ghost use Rattle.buffa_wire.specs.BudgetLeft.{BudgetLeft};
 ghost use Rattle.buffa_wire.specs.Records.{Datum};
 ghost use Rattle.buffa_fields.specs.Aside.{ReadsBackBeside};
 ghost use Rattle.buffa_fields.specs.BlockPinned.{SaysTheSame};
 ghost use Rattle.buffa_fields.specs.Knots.{Knot, KnotList, Maybe, Rest, Slots, children_list, head_many, head_one, knot, knot_of, many, no_slot, of_list, of_option, one, option_of, rest_of, tail_slots};
 ghost use Rattle.buffa_fields.specs.Layout.{ReadsBackTo};
+ghost use Rattle.buffa_fields.specs.Meant.{TookMeant};
 ghost use Rattle.buffa_fields.specs.Members.{field, field_kept, keep, skip};
 ghost use Rattle.buffa_fields.specs.OneOf.{one_of};
 ghost use Rattle.buffa_fields.specs.OneOfParts.{case_means};
@@ -34,7 +39,8 @@ pub trait OpenMembers {
 }
 
 /// A member of another type, in front of others, is that member of a list of members, and the others stand behind it. So it is with
-/// one that puts records aside, and with a oneof.
+/// one that puts records aside, and with a oneof, whose case took a field where it took it of some values that mean this, before and
+/// after.
 pub fn members_of_other_types_are_named_so<F, T: OpenMembers, N: Keeping, E: OneOf>()
     ensures member { (k : ℕ) (get : F → N.Part) (others : F → Rest T.Own T.These) → SaysTheSame (λ v. v)
         ((member k N.shape T.open).lay (λ m. ((N.shape.meaning (get m), (others m).0), (others m).1)) T.told)
@@ -54,6 +60,10 @@ pub fn members_of_other_types_are_named_so<F, T: OpenMembers, N: Keeping, E: One
     ensures exact { (k : ℕ) → ((member k N.shape T.open).Exact ↔ (N.shape.Exact × T.open.Exact))
         × ((member_kept k N.shape N.aside T.open).Exact ↔ (N.shape.Exact × T.open.Exact))
         × ((member_one_of E.cases T.open).Exact ↔ (E.cases.all.cases.Exact × T.open.Exact)) }
+    ensures took { (d n : ℕ) (old new : _) (w : WireType) (bs : List ℕ) (before : BudgetLeft) (r : Result (Unit {0}) DecodeError)
+        (after : BudgetLeft) (rest : List ℕ) → TookMeant E.cases d old n w bs before r new after rest
+        ↔ ((o : Option E) × (p : Option E) × (case_means E.cases o ≡ old) × (case_means E.cases p ≡ new)
+        × E.cases.all.cases.Took (λ x. option_map E.cases.view x) d o n w bs before r p after rest) }
 {}
 
 /// A member of the message's own type is a member of a list of members, by what is told of the messages inside: a list of them, one

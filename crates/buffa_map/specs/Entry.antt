@@ -48,11 +48,11 @@ module _ {K V : Type 0} (key : Reading K) (val : Reading V) (d : ℕ) where
 
   -- e is a join of fields, which take the blanks to s
   abbrev pub IsEntry : List ℕ → MapEntry K V → Type 0
-  IsEntry e s = ParsesTo IsEntryField blanks e s []
+  IsEntry e s = ParsesTo IsEntryField (blanks key val d) e s []
 
   -- f is the first fault of what follows the fields that begin e
   abbrev pub FaultOf : List ℕ → DecodeError → Type 0
-  FaultOf e f = ParseStops IsEntryField EntryFieldFault blanks e f
+  FaultOf e f = ParseStops IsEntryField EntryFieldFault (blanks key val d) e f
 
   -- a length and the entry e, which says s, begin the bytes, and rest follows
   abbrev pub EntryOf : List ℕ → List ℕ → MapEntry K V → List ℕ → Type 0
@@ -67,8 +67,8 @@ module _ {K V : Type 0} (key : Reading K) (val : Reading V) (d : ℕ) where
       LengthFault bs f
       ⊎ ((e : List ℕ) × (rest : List ℕ) × TakesDelimited bs e rest
       × (((left.memory < cost) × (f ≡ ElementMemoryLimitExceeded))
-      ⊎ ((cost ≤ left.memory) × (Lacks left (need_of cost e) ⊎ (FaultOf e f
-      ⊎ ((s : MapEntry K V) × IsEntry e s × (s.known ≡ false) × (left.unknown < (need_of cost e).unknown + unknown_cost)
+      ⊎ ((cost ≤ left.memory) × (Lacks left (need_of key val d cost e) ⊎ (FaultOf e f
+      ⊎ ((s : MapEntry K V) × IsEntry e s × (s.known ≡ false) × (left.unknown < (need_of key val d cost e).unknown + unknown_cost)
       × (f ≡ UnknownFieldLimitExceeded)))))))
 
 -- ---- what merging the fields of an entry does to what was said, and to a budget
