@@ -1,6 +1,8 @@
 -- The lemmas that this crate hands out.
 pub mod RecordLemmas
 pub mod ByValueLemmas
+mod EncodingBytes
+mod FrontRest
 pub mod EncodingLemmas
 pub mod ReadLemmas
 pub mod LoopLemmas

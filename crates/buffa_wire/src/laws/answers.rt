@@ -4,6 +4,7 @@
 ghost use Rattle.std.specs.Prelude.{◌≡◌, ◌≢◌, ◌<◌, ◌≤◌, ◌⊎◌, ◌^◌, ◌+◌, ◌-◌, ◌↔◌, ℕ, suc, List, [], ◌∷◌, ◌++◌, length, take, drop};
 ghost use Rattle.std.specs.Prelude.{Bool, true, false, Some, None, Result, Ok, Err, IsOk};
 ghost use Rattle.std.specs.Borrow.{Bor, MutBor};
+ghost use Rattle.std.specs.Fn.{CalledAt};
 ghost use Rattle.buffa_bytes.specs.declared.error.DecodeError.{DecodeError};
 ghost use Rattle.buffa_bytes.specs.declared.error.DecodeError.TheVariants as decoding;
 ghost use Rattle.buffa_bytes.specs.declared.error.EncodeError.{EncodeError};
@@ -11,6 +12,7 @@ ghost use Rattle.buffa_bytes.specs.declared.error.EncodeError.TheVariants as enc
 ghost use Rattle.buffa_bytes.specs.declared.wire_type.WireType.{WireType};
 ghost use Rattle.buffa_bytes.specs.declared.wire_type.WireType.TheVariants as wire;
 ghost use Rattle.buffa_bytes.specs.Content.{ContentFault};
+ghost use Rattle.buffa_bytes.specs.Delimited.{Lends};
 ghost use Rattle.buffa_bytes.specs.Field.{IsTag, Payload, TagFault, TakesPayload, TakesTag};
 ghost use Rattle.buffa_bytes.specs.Front.{delimited_at, tag_at, FullOnlyIf, Gives, GivesUnlessFull};
 ghost use Rattle.buffa_bytes.specs.Left.{LeavesUnlessFull, IsChunkOf, IsFrontOf, IsTailOf, MayBeCut, MovesUnlessFull, bytes_read};
@@ -32,6 +34,7 @@ ghost use Rattle.buffa_wire.specs.Takes.{IsTaken, Leads, Piece, ReadsBack, Stays
 ghost use Rattle.buffa_wire.specs.declared.context.DecodeContext.{DecodeContext};
 
 use crate::message::{Message, MessageSpec};
+use buffa_bytes::error::DecodeError;
 
 /// What a call gives is what is read, and its error the fault, unless memory ran out where the contract says so.
 pub fn answers_are_these<X, Y>()
@@ -46,6 +49,15 @@ pub fn answers_are_these<X, Y>()
     ensures never_full { (x y z : X) → FullOnlyIf (Ok z) (x ≡ y) }
     ensures left { (e : DecodeError) (rest left : List ℕ) → LeavesUnlessFull {X = X} (Err e) rest left
         ↔ ((e ≢ decoding.OutOfMemory → left ≡ rest) × IsTailOf rest left) }
+{}
+
+/// Bytes that are lent are the argument of one call, whose answer is handed on, and what follows them is left; or memory ran out,
+/// of a byte or more, and the function is as it was. Where no bytes are there their fault is handed on, and it is so too.
+pub fn lent_bytes_are_these<T, F: FnMut(&[u8]) -> Result<T, DecodeError>>()
+    ensures there { (f h : F) (r : Result T DecodeError) (p rest left : List ℕ) → Lends F.FnMut f (Ok (p, rest)) r h left
+        ↔ ((CalledAt F.FnMut f p r h × (left ≡ rest)) ⊎ ((r ≡ Err decoding.OutOfMemory) × (h ≡ f) × (p ≢ []))) }
+    ensures fault { (f h : F) (r : Result T DecodeError) (e : DecodeError) (left : List ℕ) → Lends F.FnMut f (Err e) r h left
+        ↔ ((r ≡ Err e) × (h ≡ f)) }
 {}
 
 /// What stands at the front of a buffer, and what follows it.

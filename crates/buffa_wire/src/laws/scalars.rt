@@ -1,6 +1,6 @@
 //! Which scalar each one is, in the words of the encoding guide: laws, as in [`records`](crate::laws::records).
 
-ghost use Rattle.std.specs.Prelude.{◌≡◌, ◌^◌, ◌↔◌, ℕ, None, Some, true};
+ghost use Rattle.std.specs.Prelude.{◌≡◌, ◌<◌, ◌^◌, ◌↔◌, ℕ, List, Option, None, Some, true};
 ghost use Rattle.buffa_bytes.specs.Scalars.{bool_of, bool_encoding, fixed32_of, fixed32_encoding, fixed64_of, fixed64_encoding};
 ghost use Rattle.buffa_bytes.specs.Scalars.{int64_of, int64_encoding, sfixed32_of, sfixed32_encoding, sfixed64_of};
 ghost use Rattle.buffa_bytes.specs.Scalars.{sfixed64_encoding, sint32_of, sint32_encoding, sint64_of, sint64_encoding};
@@ -14,7 +14,7 @@ ghost use Rattle.buffa_wire.specs.declared.reals.DoubleBits.{DoubleBits};
 ghost use Rattle.buffa_wire.specs.declared.reals.FloatBits.{FloatBits};
 ghost use Rattle.buffa_wire.specs.Found.{fixed32_in, fixed64_in, varint_in};
 ghost use Rattle.buffa_wire.specs.Pinned.{IsRecordedAs, IsSpelled, SpellsBelow};
-ghost use Rattle.buffa_wire.specs.Records.{fixed32, fixed64, varint};
+ghost use Rattle.buffa_wire.specs.Records.{Datum, fixed32, fixed64, varint};
 
 use crate::form::{EightBytes, Form, FourBytes, Varint};
 use crate::reals::{DoubleBits, FloatBits};
@@ -121,6 +121,18 @@ pub fn forms_are_these()
     ensures eight { SpellsBelow ⟦<EightBytes as Form>⟧.encoding ⟦<EightBytes as Form>⟧.spells (to_le_bytes w64) (2 ^ 64) }
     ensures eight_record { IsRecordedAs ⟦<EightBytes as Form>⟧.datum ⟦<EightBytes as Form>⟧.found fixed64 fixed64_in }
     ensures eight_wire { ⟦<EightBytes as Form>⟧.WIRE_TYPE ≡ wire.Fixed64 }
+{}
+
+/// What the words say by which the laws of scalars and forms name how numbers are spelled and recorded. Which numbers are
+/// spelled is said here of what has an answer.
+pub fn words_of_scalars_are_these<V>()
+    ensures spelled { (number_of : V → ℕ) (spelling : ℕ → List ℕ) (encoding : V → List ℕ) → IsSpelled number_of spelling encoding
+        ↔ ((v : V) → spelling (number_of v) ≡ encoding v) }
+    ensures below { (spelling wanted : ℕ → List ℕ) (spells : ℕ → _) (limit : ℕ) →
+        SpellsBelow spelling (λ n. spells n ≡ true) wanted limit
+        ↔ ((n : ℕ) → (spelling n ≡ wanted n) × ((spells n ≡ true) ↔ (n < limit))) }
+    ensures recorded { (datum wanted : ℕ → Datum) (found found_so : Datum → Option ℕ) → IsRecordedAs datum found wanted found_so
+        ↔ (((n : ℕ) → datum n ≡ wanted n) × (found ≡ found_so)) }
 {}
 
 /// A real number means its bits, and its default is that of which no bit is set. Two are equal exactly where their bits are,

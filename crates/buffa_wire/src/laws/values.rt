@@ -27,11 +27,11 @@ ghost use Rattle.buffa_bytes.specs.Scalars.{sint64_of, uint32_at, uint32_encodin
 ghost use Rattle.buffa_bytes.specs.Scalars.{uint64_of, varint_as, zigzag};
 ghost use Rattle.buffa_bytes.specs.Values.{delimited_encoding, int32_at, int32_encoding, int32_of, string_at, tag_encoding};
 ghost use Rattle.buffa_bytes.specs.Varint.{varint_encoding};
-ghost use Rattle.buffa_bytes.specs.Number.{wire_number};
+ghost use Rattle.buffa_bytes.specs.Number.{IsNumber, wire_number};
 ghost use Rattle.buffa_wire.specs.Encoding.{encodings, payload_encoding, records_encoding, tagged_encoding, wire_of};
 ghost use Rattle.buffa_wire.specs.Enums.{DeclaresBlank, Numbers, Refines, numbers, open_number};
 ghost use Rattle.buffa_wire.specs.Found.{fixed32_in, fixed64_in, varint_in};
-ghost use Rattle.buffa_wire.specs.Parse.{InRange, field_count, fields_inside};
+ghost use Rattle.buffa_wire.specs.Parse.{AreValid, Fits, InRange, field_count, fields_inside};
 ghost use Rattle.buffa_wire.specs.Records as datum;
 ghost use Rattle.buffa_wire.specs.Records.{Datum, Held, IsEmpty, IsNumeric, Records, datum_height, height, records_height};
 ghost use Rattle.buffa_wire.specs.Records.{records_of};
@@ -119,6 +119,7 @@ pub fn numbers_of_enums_stay<E: Enumeration>()
     ensures declared { (n : ℤ) → (open_number E.of_number n).0 ≡ is_some (E.of_number n) }
     ensures declares { (n blank : ℤ) → (numbers E.of_number blank).declares n ≡ is_some (E.of_number n) }
     ensures default { (n : ℤ) → (numbers E.of_number n).blank ≡ n }
+    ensures default_declared { is_some (E.of_number E.blank_is) ≡ true }
     ensures declares_default { (e : Numbers) → DeclaresBlank e ↔ (e.declares e.blank ≡ true) }
     ensures refines { (e f : Numbers) → Refines e f ↔ (((n : ℤ) → e.declares n ≡ true → f.declares n ≡ true)
         × (e.blank ≡ f.blank)) }
@@ -233,4 +234,30 @@ pub fn ranges_of_data_are_these()
     ensures fixed64 { (n v : ℕ) (rs : Records) → InRange (datum.one n (datum.fixed64 v) rs) ↔ ((v < 2 ^ 64) × InRange rs) }
     ensures bytes { (n : ℕ) (b : List ℕ) (rs : Records) → InRange (datum.one n (datum.bytes b) rs) ↔ InRange rs }
     ensures group { (n : ℕ) (qs rs : Records) → InRange (datum.one n (datum.group qs) rs) ↔ (InRange qs × InRange rs) }
+{}
+
+/// Records that fit: no length of bytes in them is 2^64 or more, in a group neither.
+pub fn records_that_fit_are_these()
+    ensures none { Fits datum.no_records }
+    ensures varint { (n v : ℕ) (rs : Records) → Fits (datum.one n (datum.varint v) rs) ↔ Fits rs }
+    ensures fixed32 { (n v : ℕ) (rs : Records) → Fits (datum.one n (datum.fixed32 v) rs) ↔ Fits rs }
+    ensures fixed64 { (n v : ℕ) (rs : Records) → Fits (datum.one n (datum.fixed64 v) rs) ↔ Fits rs }
+    ensures bytes { (n : ℕ) (b : List ℕ) (rs : Records) → Fits (datum.one n (datum.bytes b) rs)
+        ↔ ((length b < 2 ^ 64) × Fits rs) }
+    ensures group { (n : ℕ) (qs rs : Records) → Fits (datum.one n (datum.group qs) rs) ↔ (Fits qs × Fits rs) }
+{}
+
+/// Valid records: each has a number that a field may have, in a group too, and data in range.
+pub fn valid_records_are_these()
+    ensures none { AreValid datum.no_records }
+    ensures varint { (n v : ℕ) (rs : Records) → AreValid (datum.one n (datum.varint v) rs)
+        ↔ (IsNumber n × (v < 2 ^ 64) × AreValid rs) }
+    ensures fixed32 { (n v : ℕ) (rs : Records) → AreValid (datum.one n (datum.fixed32 v) rs)
+        ↔ (IsNumber n × (v < 2 ^ 32) × AreValid rs) }
+    ensures fixed64 { (n v : ℕ) (rs : Records) → AreValid (datum.one n (datum.fixed64 v) rs)
+        ↔ (IsNumber n × (v < 2 ^ 64) × AreValid rs) }
+    ensures bytes { (n : ℕ) (b : List ℕ) (rs : Records) → AreValid (datum.one n (datum.bytes b) rs)
+        ↔ (IsNumber n × AreValid rs) }
+    ensures group { (n : ℕ) (qs rs : Records) → AreValid (datum.one n (datum.group qs) rs)
+        ↔ (IsNumber n × AreValid qs × AreValid rs) }
 {}

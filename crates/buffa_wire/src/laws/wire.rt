@@ -1,8 +1,9 @@
 //! Laws of `buffa_bytes`: what bytes say, field by field, and how values are written.
 
 ghost use Rattle.std.specs.Prelude.{◌≡◌, ◌≢◌, ◌<◌, ◌≤◌, ◌<ℤ◌, ◌^◌, ◌+◌, ◌↔◌, ℕ, ℤ, suc, pos, Bool, List, ◌++◌};
-ghost use Rattle.std.specs.Prelude.{length, drop, Ok, Err, FitsSigned, true, false, [], ◌∷◌, ◌-◌, Some, None, string_bytes};
+ghost use Rattle.std.specs.Prelude.{length, take, drop, Ok, Err, FitsSigned, true, false, [], ◌∷◌, ◌-◌, Some, None, string_bytes};
 ghost use Rattle.std.specs.Prelude.{vec_capacity, vec_len, Vec};
+ghost use Rattle.std.specs.Borrow.{MutBor};
 ghost use Rattle.std.specs.Global.{Global};
 ghost use Rattle.std.specs.Int.{cast_unsigned, from_bool, w32, w64};
 ghost use Rattle.std.specs.List.{All};
@@ -12,7 +13,7 @@ ghost use Rattle.buffa_bytes.specs.declared.wire_type.WireType.{WireType};
 ghost use Rattle.buffa_bytes.specs.declared.wire_type.WireType.TheVariants.{EndGroup, Fixed32, Fixed64, LengthDelimited};
 ghost use Rattle.buffa_bytes.specs.declared.wire_type.WireType.TheVariants.{StartGroup, Varint};
 ghost use Rattle.buffa_bytes.specs.declared.error.DecodeError.{DecodeError};
-ghost use Rattle.buffa_bytes.specs.declared.error.DecodeError.TheVariants.{OutOfMemory, WireTypeMismatch};
+ghost use Rattle.buffa_bytes.specs.declared.error.DecodeError.TheVariants.{OutOfMemory, UnexpectedEof, WireTypeMismatch};
 ghost use Rattle.buffa_bytes.specs.declared.error.EncodeError.{EncodeError};
 ghost use Rattle.buffa_bytes.specs.declared.error.EncodeError.TheVariants as encoding;
 ghost use Rattle.buffa_bytes.specs.declared.error.MessageSetFault.{MessageSetFault};
@@ -24,7 +25,7 @@ ghost use Rattle.buffa_bytes.specs.Content.{Content, ContentFault, TakesContent,
 ghost use Rattle.buffa_bytes.specs.Content.{number_in};
 ghost use Rattle.buffa_bytes.specs.Field.{LengthFault, SomeField, TakesDelimited, TakesTag, TagFault, TakesPayload};
 ghost use Rattle.buffa_bytes.specs.Field.{PayloadFault};
-ghost use Rattle.buffa_bytes.specs.Front.{delimited_at, varint_at, tag_at, skip_at, group_at, group_by_field, check_wire};
+ghost use Rattle.buffa_bytes.specs.Front.{delimited_at, varint_at, tag_at, taken, skip_at, group_at, group_by_field, check_wire};
 ghost use Rattle.buffa_bytes.specs.Scalars.{bool_at, bool_of, bool_encoding, eight_as, fixed32_at, fixed32_encoding};
 ghost use Rattle.buffa_bytes.specs.Scalars.{fixed64_at, fixed64_encoding, four_as, int32_of, int64_at, int64_of};
 ghost use Rattle.buffa_bytes.specs.Scalars.{int64_encoding, sfixed32_at, sfixed32_of, sfixed32_encoding, sfixed64_at};
@@ -74,6 +75,14 @@ pub fn delimited_bytes_are_read()
     ensures err { (bs : List ℕ) (e : DecodeError) → (delimited_at bs ≡ Err e) ↔ LengthFault bs e }
 {}
 
+/// The first bytes are there exactly where they and what follows are all, and where there are fewer that is an unexpected end.
+pub fn first_bytes_are_these()
+    ensures there { (n : ℕ) (bs first rest : List ℕ) → (taken n bs ≡ Ok (first, rest)) ↔ ((length first ≡ n)
+        × (bs ≡ first ++ rest)) }
+    ensures too_few { (n : ℕ) (bs : List ℕ) (e : DecodeError) → (taken n bs ≡ Err e) ↔ ((length bs < n)
+        × (e ≡ UnexpectedEof)) }
+{}
+
 /// The same of what a payload holds, a number or bytes.
 pub fn contents_are_read()
     ensures ok { (w : WireType) (bs : List ℕ) (c : Content) (rest : List ℕ) → (content_at w bs ≡ Ok (c, rest))
@@ -94,6 +103,7 @@ pub fn shortest_spelling()
     ensures spells { (n : ℕ) → n < 2 ^ 64 → IsVarint (varint_encoding n) n }
     ensures shortest { (bytes : List ℕ) (n : ℕ) → IsVarint bytes n → length (varint_encoding n) ≤ length bytes }
     ensures read_back { (n : ℕ) (rest : List ℕ) → n < 2 ^ 64 → varint_at (varint_encoding n ++ rest) ≡ Ok (n, rest) }
+    ensures bytes { (n : ℕ) → All IsByte (varint_encoding n) }
 {}
 
 /// Of two spellings of a number in as many bytes there is one: the shortest is the only one of its length.
@@ -128,6 +138,11 @@ pub fn constants()
     ensures bool { BOOL_ENCODED_LEN ≡ 1 }
     ensures fixed32 { FIXED32_ENCODED_LEN ≡ 4 }
     ensures fixed64 { FIXED64_ENCODED_LEN ≡ 8 }
+{}
+
+/// The number of a tag is one that a field may have.
+pub fn tags_have_numbers(tag: Tag)
+    ensures { IsNumber tag.number }
 {}
 
 /// What is read does not depend on what follows.
@@ -356,10 +371,23 @@ pub fn fronts_let_go_stay<B: Buf + Drop>(buf: &mut B, limit: usize)
     }
 }
 
+/// A lent front that was read from and is let go leaves the buffer behind what was read.
+pub fn fronts_let_go_leave_what_is_unread<B: Buf + Drop>(buf: &mut B, limit: usize, n: usize)
+    requires within { n ≤ limit }
+    requires there { limit ≤ length (B.unread buf.old) }
+    ensures rest { B.unread buf.new ≡ drop n (B.unread buf.old) }
+    ensures kept { B.beyond buf.new ≡ B.beyond buf.old }
+{
+    let mut front = Limited::new(buf, limit);
+    front.advance(n);
+}
+
 /// An adapted buffer shows what the one within does, and keeps what that one keeps. It doesn't say where chunks end.
 #[tactic(auto, using(buffa_bytes::proofs::AdaptedLemmas::kept_is_one))]
 pub fn adapted_buffers_are_these<B: bytes::Buf>()
     ensures inner { ShowsInner ⟦<Adapted<B> as Buf>⟧.unread ⟦<Adapted<B> as Buf>⟧.beyond (λ s. s.0) B.unread B.kept }
+    ensures shown { (s : _) → ⟦<Adapted<B> as Buf>⟧.unread s ≡ B.unread s.0 }
+    ensures past { (s : _) → ⟦<Adapted<B> as Buf>⟧.beyond s ≡ kept_beyond (B.kept s.0) }
     ensures kept { (x y : List (List ℕ × ℕ)) → kept_beyond x ≡ kept_beyond y → x ≡ y }
     ensures none_kept { kept_beyond [] ≡ [] }
     ensures more_kept { (n : ℕ) (b : List ℕ) (x : List (List ℕ × ℕ)) → kept_beyond ((b, n) ∷ x) ≡ (n, b) ∷ kept_beyond x }
@@ -419,6 +447,26 @@ pub fn clones_are_these()
     ensures decode { IsCopied ⟦<DecodeError as Clone>⟧.is_clone ⟦<DecodeError as Clone>⟧.is_infallible }
     ensures encode { IsCopied ⟦<EncodeError as Clone>⟧.is_clone ⟦<EncodeError as Clone>⟧.is_infallible }
     ensures tag { IsCopied ⟦<Tag as Clone>⟧.is_clone ⟦<Tag as Clone>⟧.is_infallible }
+{}
+
+/// What the words say by which laws name a type of values and a buffer. Whether two are one, and whether a copy is made, is
+/// said here of what has an answer.
+pub fn words_of_laws_are_these<A, B, M>()
+    ensures means { (of : A → M) (zero : M) (meaning : A → M) (blank : M) → Means of zero meaning blank
+        ↔ (((v : A) → meaning v ≡ of v) × (blank ≡ zero)) }
+    ensures same { (same : A → A → Bool) → SameIsOne same ↔ ((a b : A) → (same a b ≡ true) ↔ (a ≡ b)) }
+    ensures copied { (copy : A → A → Bool) (made : A → Bool) → IsCopied (λ a b. copy a b ≡ true) (λ a. made a ≡ true)
+        ↔ (((a b : A) → copy a b ≡ true → a ≡ b) × ((a : A) → made a ≡ true)) }
+    ensures its_bytes { (bytes of : List ℕ → List ℕ) → IsItsBytes bytes of ↔ ((b : List ℕ) → (bytes b ≡ b) × (of b ≡ b)) }
+    ensures bytes { (bytes unread : A → List ℕ) (beyond : A → List (ℕ × List ℕ)) → ShowsBytes bytes unread beyond
+        ↔ (((s : A) → unread s ≡ bytes s) × ((s : A) → beyond s ≡ [])) }
+    ensures front { (unread : A → List ℕ) (beyond : A → List (ℕ × List ℕ)) (inner : A → MutBor B) (limit : A → ℕ)
+        (shown : B → List ℕ) (past : B → List (ℕ × List ℕ)) → ShowsFront unread beyond inner limit shown past
+        ↔ (((s : A) → unread s ≡ take (limit s) (shown (inner s).now))
+        × ((s : A) → beyond s ≡ ((inner s).ghost_name, drop (limit s) (shown (inner s).now)) ∷ past (inner s).now)) }
+    ensures inner { (unread : A → List ℕ) (beyond : A → List (ℕ × List ℕ)) (inner : A → B) (shown : B → List ℕ)
+        (kept : B → List (List ℕ × ℕ)) → ShowsInner unread beyond inner shown kept
+        ↔ (((s : A) → unread s ≡ shown (inner s)) × ((s : A) → beyond s ≡ kept_beyond (kept (inner s)))) }
 {}
 
 /// What is printed of each error, in std's words for text. It leaves nothing out.
