@@ -75,14 +75,6 @@ pub fn delimited_bytes_are_read()
     ensures err { (bs : List ℕ) (e : DecodeError) → (delimited_at bs ≡ Err e) ↔ LengthFault bs e }
 {}
 
-/// The first bytes are there exactly where they and what follows are all, and where there are fewer that is an unexpected end.
-pub fn first_bytes_are_these()
-    ensures there { (n : ℕ) (bs first rest : List ℕ) → (taken n bs ≡ Ok (first, rest)) ↔ ((length first ≡ n)
-        × (bs ≡ first ++ rest)) }
-    ensures too_few { (n : ℕ) (bs : List ℕ) (e : DecodeError) → (taken n bs ≡ Err e) ↔ ((length bs < n)
-        × (e ≡ UnexpectedEof)) }
-{}
-
 /// The same of what a payload holds, a number or bytes.
 pub fn contents_are_read()
     ensures ok { (w : WireType) (bs : List ℕ) (c : Content) (rest : List ℕ) → (content_at w bs ≡ Ok (c, rest))
@@ -98,7 +90,15 @@ pub fn payloads_are_read()
         ↔ PayloadFault d f w bs e }
 {}
 
-/// The shortest spelling is one, none is shorter, and it is read back whatever follows.
+/// The first bytes are there exactly where they and what follows are all, and where there are fewer that is an unexpected end.
+pub fn first_bytes_are_these()
+    ensures there { (n : ℕ) (bs first rest : List ℕ) → (taken n bs ≡ Ok (first, rest)) ↔ ((length first ≡ n)
+        × (bs ≡ first ++ rest)) }
+    ensures too_few { (n : ℕ) (bs : List ℕ) (e : DecodeError) → (taken n bs ≡ Err e) ↔ ((length bs < n)
+        × (e ≡ UnexpectedEof)) }
+{}
+
+/// The shortest spelling is one, of bytes, none is shorter, and it is read back whatever follows.
 pub fn shortest_spelling()
     ensures spells { (n : ℕ) → n < 2 ^ 64 → IsVarint (varint_encoding n) n }
     ensures shortest { (bytes : List ℕ) (n : ℕ) → IsVarint bytes n → length (varint_encoding n) ≤ length bytes }
