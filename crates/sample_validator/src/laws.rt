@@ -1,31 +1,35 @@
 //! What the definitions of options and rules say together: each law is a function with nothing to do, whose
 //! contract is the law.
 
-ghost use Rattle.std.specs.Prelude.{◌≡◌, ◌↔◌, ℕ, ℤ, List, [], ◌∷◌, Bool, FitsSigned, IfSome, None, Option, Some, codes, false, map, option_map};
-ghost use Rattle.std.specs.Prelude.{pos, true, unwrap_or};
+ghost use Rattle.std.specs.Prelude.{◌≡◌, ◌↔◌, ◌⊎◌, ℕ, ℤ, List, [], ◌∷◌, ◌++◌, Bool, FitsSigned, IfSome, None, Option, Some, codes, false};
+ghost use Rattle.std.specs.Prelude.{map, option_map, pos, true, unwrap_or};
 ghost use Rattle.std.specs.Int.{w64};
 ghost use Rattle.std.specs.Int.Signed.{◌≤ℤ◌, ◌<ℤ◌};
-ghost use Rattle.std.specs.List.{AllByRecursion};
+ghost use Rattle.std.specs.List.{AllByRecursion, filter_map, flat_map, last_or};
 ghost use Rattle.buffa_bytes.specs.Scalars.{bool_of, sint64_of, sint64_encoding, zigzag};
 ghost use Rattle.buffa_bytes.specs.Values.{int32_of};
-ghost use Rattle.buffa_bytes.specs.declared.wire_type.WireType.TheVariants.{Varint};
+ghost use Rattle.buffa_bytes.specs.declared.error.DecodeError.{DecodeError};
+ghost use Rattle.buffa_bytes.specs.declared.error.DecodeError.TheVariants.{WireTypeMismatch};
+ghost use Rattle.buffa_bytes.specs.declared.wire_type.WireType.TheVariants.{Fixed32, Fixed64, LengthDelimited, StartGroup, Varint};
 ghost use Rattle.buffa_bytes.specs.Pinned.{IsCopied, SameIsOne};
 ghost use Rattle.buffa_wire.specs.BudgetLeft.{BudgetLeft, nothing};
 ghost use Rattle.buffa_wire.specs.Found.{varint_in};
 ghost use Rattle.buffa_wire.specs.Encoding.{records_encoding};
 ghost use Rattle.buffa_wire.specs.Kept.{keep_need};
 ghost use Rattle.buffa_wire.specs.Parse.{AreValid};
-ghost use Rattle.buffa_wire.specs.Records.{Datum, Held, height, records_of, varint};
+ghost use Rattle.buffa_wire.specs.Records.{Datum, Held, Records, bytes, fixed32, fixed64, group, height, records_of, varint};
 ghost use Rattle.buffa_wire.specs.Takes.{cost_of, merged_of};
 ghost use Rattle.buffa_codec.specs.Packed.{numbers_in};
-ghost use Rattle.buffa_codec.specs.Decoded.{last_read};
+ghost use Rattle.buffa_codec.specs.Decoded.{last_read, string_held};
 ghost use Rattle.buffa_codec.specs.Strict.{unless_found};
 ghost use Rattle.buffa_codec.specs.Sub.{sub};
 ghost use Rattle.buffa_fields.specs.Calls.{KeepsFields};
 ghost use Rattle.buffa_fields.specs.Keep.{keep_takes};
 ghost use Rattle.sample_validator.specs.Meaning.{OthersAreKept, TakesOptions, options_need, options_records, options_takes};
+ghost use Rattle.sample_validator.specs.Options.{IsMalformed, IsReadWhole, bool_option, int32_list, int32_option};
+ghost use Rattle.sample_validator.specs.Options.{int32s_in, string_option, varint_fault};
 ghost use Rattle.sample_validator.specs.Pinned.{EqualByMeaning, AcceptsOrBreaks, OneViolation, NotBoth};
-ghost use Rattle.sample_validator.specs.Rules.{Accepts, AreRead, BreaksRule, rules_in};
+ghost use Rattle.sample_validator.specs.Rules.{Accepts, AreMalformed, AreRead, BreaksRule, rules_in};
 ghost use Rattle.sample_validator.specs.declared.carrier.Carrier.{Carrier};
 ghost use Rattle.sample_validator.specs.declared.options.FieldOptions.{FieldOptions};
 ghost use Rattle.sample_validator.specs.declared.price.Price.{Price};
@@ -41,17 +45,22 @@ use buffa_fields::fields::Fields;
 use buffa_fields::message::members_read_back;
 use buffa_wire::{Blank, MessageSpec};
 
-/// A value is accepted, or it breaks a rule, and not both; and the rule that is named is one.
+/// A value is accepted, or it breaks a rule, and not both; and the rule that is named is one. Each is said by its word, and in full.
 ///
 /// Nothing is left out.
 pub fn judgements_are_pinned()
     ensures judged { AcceptsOrBreaks }
     ensures either { NotBoth }
     ensures told { OneViolation }
+    ensures accepted { (rules : Rules) (o : Option ℤ) → Accepts rules o ⊎ ((v : Violation) × BreaksRule rules o v) }
+    ensures not_both { (rules : Rules) (o : Option ℤ) (v : Violation) → Accepts rules o → BreaksRule rules o v → ⊥ }
+    ensures one { (rules : Rules) (o : Option ℤ) (v w : Violation) →
+        BreaksRule rules o v → BreaksRule rules o w → v ≡ w }
 {}
 
-/// Which values rules accept, and which rule a value breaks: both bounds may be met, a value below the least is too small even
-/// where it is above the greatest, too, and a value is missing only where one is asked for. Where each rule is found.
+/// Which values rules accept, and which rule a value breaks: both bounds may be met, or the one that is set; a value below the least
+/// is too small even where it is above the greatest, too, and a value is missing only where one is asked for. Where each rule is
+/// found, and of which the fault is told where one isn't read.
 pub fn rules_are_these()
     ensures missing { (rules : Rules) → Accepts rules None ↔ (rules.required ≡ false) }
     ensures told_missing { (rules : Rules) (o : Option ℤ) → BreaksRule rules o Missing ↔ ((o ≡ None) × (rules.required ≡ true)) }
@@ -59,6 +68,10 @@ pub fn rules_are_these()
     ensures bound { (v least most : ℤ) (asked : Bool) →
         Accepts (record { min = Some least; max = Some most; required = asked }) (Some v)
         ↔ ((least ≤ℤ v) × (v ≤ℤ most)) }
+    ensures least { (v least : ℤ) (asked : Bool) →
+        Accepts (record { min = Some least; max = None; required = asked }) (Some v) ↔ (least ≤ℤ v) }
+    ensures most { (v most : ℤ) (asked : Bool) →
+        Accepts (record { min = None; max = Some most; required = asked }) (Some v) ↔ (v ≤ℤ most) }
     ensures too_small { (rules : Rules) (o : Option ℤ) → BreaksRule rules o TooSmall
         ↔ ((v least : ℤ) × (o ≡ Some v) × (rules.min ≡ Some least) × (v <ℤ least)) }
     ensures too_great { (rules : Rules) (o : Option ℤ) → BreaksRule rules o TooGreat
@@ -72,6 +85,37 @@ pub fn rules_are_these()
         ↔ (AllByRecursion (λ d. unless_found (varint_in d) Varint 50011 d ≡ None) (sub 50011 rs)
         × AllByRecursion (λ d. unless_found (varint_in d) Varint 50012 d ≡ None) (sub 50012 rs)
         × AllByRecursion (λ d. unless_found (varint_in d) Varint 50013 d ≡ None) (sub 50013 rs)) }
+    ensures not_read { (rs : List (ℕ × Datum)) (e : DecodeError) → AreMalformed rs e
+        ↔ (IsMalformed 50011 rs e ⊎ ((IsReadWhole 50011 rs × IsMalformed 50012 rs e)
+        ⊎ (IsReadWhole 50011 rs × IsReadWhole 50012 rs × IsMalformed 50013 rs e))) }
+{}
+
+/// What is read of an option of any number: of an `int32` or a `bool` its last varint, of a string the last that is UTF-8, and of a
+/// list the numbers of all its records, one or packed ones each. An option is read whole where each of its records is a varint; or
+/// it is malformed, by the fault of the first that is none, which tells the wire type that is there.
+pub fn options_are_read_so()
+    ensures int32 { (n : ℕ) (rs : List (ℕ × Datum)) →
+        int32_option n rs ≡ last_or None (filter_map (λ d. option_map int32_of (varint_in d)) (sub n rs)) }
+    ensures boolean { (n : ℕ) (rs : List (ℕ × Datum)) →
+        bool_option n rs ≡ last_or None (filter_map (λ d. option_map bool_of (varint_in d)) (sub n rs)) }
+    ensures string { (n : ℕ) (rs : List (ℕ × Datum)) → string_option n rs ≡ last_or None (filter_map string_held (sub n rs)) }
+    ensures list { (n : ℕ) (rs : List (ℕ × Datum)) → int32_list n rs ≡ flat_map int32s_in (sub n rs) }
+    ensures one { (x : ℕ) → int32s_in (varint x) ≡ int32_of x ∷ [] }
+    ensures packed { (b : List ℕ) → int32s_in (bytes b) ≡ map int32_of (numbers_in Varint b) }
+    ensures no_number { (x : ℕ) (rs : Records) → (int32s_in (fixed32 x) ≡ []) × (int32s_in (fixed64 x) ≡ [])
+        × (int32s_in (group rs) ≡ []) }
+    ensures no_fault { (n x : ℕ) → varint_fault n (varint x) ≡ None }
+    ensures fault { (n x : ℕ) (b : List ℕ) (rs : Records) →
+        (varint_fault n (fixed32 x) ≡ Some (WireTypeMismatch n Varint Fixed32))
+        × (varint_fault n (fixed64 x) ≡ Some (WireTypeMismatch n Varint Fixed64))
+        × (varint_fault n (bytes b) ≡ Some (WireTypeMismatch n Varint LengthDelimited))
+        × (varint_fault n (group rs) ≡ Some (WireTypeMismatch n Varint StartGroup)) }
+    ensures whole { (n : ℕ) (rs : List (ℕ × Datum)) → IsReadWhole n rs
+        ↔ AllByRecursion (λ d. unless_found (varint_in d) Varint n d ≡ None) (sub n rs) }
+    ensures malformed { (n : ℕ) (rs : List (ℕ × Datum)) (e : DecodeError) → IsMalformed n rs e
+        ↔ ((front : List Datum) × (d : Datum) × (back : List Datum) × (sub n rs ≡ front ++ d ∷ back)
+        × AllByRecursion (λ x. unless_found (varint_in x) Varint n x ≡ None) front
+        × (unless_found (varint_in d) Varint n d ≡ Some e)) }
 {}
 
 /// A price is a number, read and written as a `sint64`, in lists too, packed or not.

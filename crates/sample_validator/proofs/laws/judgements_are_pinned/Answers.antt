@@ -9,3 +9,12 @@ returns-clause-either c = not_both
 
 pub returns-clause-told : goal.returns-clause-told
 returns-clause-told c = one_violation
+
+pub returns-clause-accepted : goal.returns-clause-accepted
+returns-clause-accepted c = is_judged
+
+pub returns-clause-not_both : goal.returns-clause-not_both
+returns-clause-not_both c = not_both
+
+pub returns-clause-one : goal.returns-clause-one
+returns-clause-one c = one_violation
