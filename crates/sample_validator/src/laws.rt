@@ -1,15 +1,16 @@
 //! What the definitions of options and rules say together: each law is a function with nothing to do, whose
 //! contract is the law.
 
-ghost use Rattle.std.specs.Prelude.{◌≡◌, ◌↔◌, ◌⊎◌, ℕ, ℤ, List, [], ◌∷◌, ◌++◌, Bool, FitsSigned, IfSome, None, Option, Some, codes, false};
-ghost use Rattle.std.specs.Prelude.{map, option_map, pos, true, unwrap_or};
-ghost use Rattle.std.specs.Int.{w64};
+ghost use Rattle.std.specs.Prelude.{◌≡◌, ◌↔◌, ◌==◌, ◌⊎◌, ℕ, ℤ, List, [], ◌∷◌, ◌++◌, Bool, FitsSigned, IfSome, None, Option, Some, codes, false};
+ghost use Rattle.std.specs.Prelude.{Err, Ok, if◌then◌else◌, map, not, option_map, pos, true, unwrap_or};
+ghost use Rattle.std.specs.Int.{from_bool, w64};
 ghost use Rattle.std.specs.Int.Signed.{◌≤ℤ◌, ◌<ℤ◌};
 ghost use Rattle.std.specs.List.{AllByRecursion, filter_map, flat_map, last_or};
 ghost use Rattle.buffa_bytes.specs.Scalars.{bool_of, sint64_of, sint64_encoding, zigzag};
 ghost use Rattle.buffa_bytes.specs.Values.{int32_of};
 ghost use Rattle.buffa_bytes.specs.declared.error.DecodeError.{DecodeError};
 ghost use Rattle.buffa_bytes.specs.declared.error.DecodeError.TheVariants.{WireTypeMismatch};
+ghost use Rattle.buffa_bytes.specs.declared.wire_type.WireType.{WireType};
 ghost use Rattle.buffa_bytes.specs.declared.wire_type.WireType.TheVariants.{Fixed32, Fixed64, LengthDelimited, StartGroup, Varint};
 ghost use Rattle.buffa_bytes.specs.Pinned.{IsCopied, SameIsOne};
 ghost use Rattle.buffa_wire.specs.BudgetLeft.{BudgetLeft, nothing};
@@ -24,8 +25,11 @@ ghost use Rattle.buffa_codec.specs.Decoded.{last_read, string_held};
 ghost use Rattle.buffa_codec.specs.Strict.{unless_found};
 ghost use Rattle.buffa_codec.specs.Sub.{sub};
 ghost use Rattle.buffa_fields.specs.Calls.{KeepsFields};
-ghost use Rattle.buffa_fields.specs.Keep.{keep_takes};
-ghost use Rattle.sample_validator.specs.Meaning.{OthersAreKept, TakesOptions, options_need, options_records, options_takes};
+ghost use Rattle.buffa_fields.specs.Keep.{AllNumbers, keep_takes};
+ghost use Rattle.buffa_fields.specs.Values.{field_value_at, some_taken};
+ghost use Rattle.buffa_map.specs.Scalars.{number_reading};
+ghost use Rattle.sample_validator.specs.Meaning.{OthersAreKept, ReadsDeprecated, TakesOptions};
+ghost use Rattle.sample_validator.specs.Meaning.{options_need, options_records, options_takes};
 ghost use Rattle.sample_validator.specs.Options.{IsMalformed, IsReadWhole, bool_option, int32_list, int32_option};
 ghost use Rattle.sample_validator.specs.Options.{int32s_in, string_option, varint_fault};
 ghost use Rattle.sample_validator.specs.Pinned.{EqualByMeaning, AcceptsOrBreaks, OneViolation, NotBoth};
@@ -190,6 +194,27 @@ pub fn messages_are_these()
     ensures carrier_encoding { ⟦<Carrier as MessageSpec>⟧.encoding ≡ records_encoding }
     ensures slots { (⟦<FieldOptions as MessageSpec>⟧.slots ≡ (λ _. [])) × (⟦<Carrier as MessageSpec>⟧.slots ≡ (λ _. [])) }
     ensures costs { (⟦<FieldOptions as MessageSpec>⟧.COST ≡ 32) × (⟦<Carrier as MessageSpec>⟧.COST ≡ 24) }
+{}
+
+/// What the words mean that say which message options are: field 3 is a `bool` that is there or isn't, for which nothing is charged,
+/// and is written first; all others are kept behind one another, and none of these has its number.
+pub fn options_mean_so()
+    ensures takes { (d n : ℕ) (v : Option Bool × List (ℕ × Datum)) (w : WireType) (p : List ℕ) → options_takes d v n w p
+        ≡ (if n == 3 then option_map (λ x. (x, v.1)) (some_taken (number_reading Varint false bool_of) d v.0 n w p)
+        else option_map (λ y. (v.0, y)) (keep_takes d v.1 n w p)) }
+    ensures need { (d n : ℕ) (w : WireType) (bs : List ℕ) →
+        options_need d n w bs ≡ (if n == 3 then nothing else keep_need d n w bs) }
+    ensures absent { (rs : List (ℕ × Datum)) → options_records (None, rs) ≡ rs }
+    ensures there { (b : Bool) (rs : List (ℕ × Datum)) →
+        options_records (Some b, rs) ≡ (3, varint (from_bool b)) ∷ rs }
+    ensures kept { (v : Option Bool × List (ℕ × Datum)) → OthersAreKept v
+        ↔ (AreValid (records_of v.1) × AllNumbers (λ n. not (n == 3)) v.1) }
+    ensures read { (d n : ℕ) (old new : Option Bool) (w : WireType) (bs rest : List ℕ) →
+        ReadsDeprecated d n old w bs (Ok tt) new rest ↔ ((x : Bool) × (new ≡ Some x)
+        × (field_value_at (number_reading Varint false bool_of) d false n w bs ≡ Ok ((x, true), rest))) }
+    ensures refused { (d n : ℕ) (old new : Option Bool) (w : WireType) (bs rest : List ℕ) (e : DecodeError) →
+        ReadsDeprecated d n old w bs (Err e) new rest
+        ↔ ((new ≡ old) × (field_value_at (number_reading Varint false bool_of) d false n w bs ≡ Err e)) }
 {}
 
 /// Which values are read back from their encoding, and how deep it nests. Nothing is left out.
