@@ -11,3 +11,5 @@ mod TreeNormalLemmas
 mod TreeRefusedLemmas
 mod PinLemmas
 mod PassPinLemmas
+mod MergedLemmas
+mod CensusLemmas

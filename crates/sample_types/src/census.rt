@@ -1,8 +1,11 @@
 //! A census, a worked example of docs/BY_HAND.md: a count for each name, in a map field.
 
-ghost use Rattle.std.specs.Prelude.{◌≡◌, []};
+ghost use Rattle.std.specs.Prelude.{◌≡◌, ◌≢◌, [], IfErr, None, OnErr, OnOk, Some};
+ghost use Rattle.buffa_bytes.specs.Left.{IsTailOf};
+ghost use Rattle.buffa_bytes.specs.declared.error.DecodeError.TheVariants.{OutOfMemory};
+ghost use Rattle.buffa_wire.specs.BudgetLeft.{IsLimit};
 ghost use Rattle.buffa_map.specs.Encoding.{UsesRoomOf, WritesField, field_size, field_encoding, saturated};
-ghost use Rattle.sample_types.specs.Census.{counts_by_name};
+ghost use Rattle.sample_types.specs.Census.{census_merged, counts_by_name};
 ghost use Rattle.buffa_map.specs.Scalars.{int32_writing, text_writing};
 
 use buffa_map::map_codec::{Int32, Map, Str, field_len, merge_entry, write_field};
@@ -64,6 +67,10 @@ impl Census {
 
     /// Reads the fields to the end of the buffer; those of other numbers are skipped.
     ///
+    /// # Errors
+    /// A field is malformed, or memory or the budget ran out; never where there are no bytes. Open is where memory and the budget run
+    /// out, which fault is told, what is counted then, and what is spent.
+    ///
     /// ```ignore
     /// census.merge(alloc, &mut rest, ctx)?;
     /// ```
@@ -72,7 +79,16 @@ impl Census {
         alloc: Global,
         buf: &mut B,
         ctx: DecodeContext<'_>,
-    ) -> Result<(), DecodeError> {
+    ) -> Result<(), DecodeError>
+        ensures merged { OnOk result (census_merged ctx.entry.depth (counts_by_name self.old.counts.entries) (B.unread buf.old)
+            ≡ Some (counts_by_name self.new.counts.entries)) }
+        ensures read { OnOk result (B.unread buf.new ≡ []) }
+        ensures refused { IfErr result (λ e. e ≢ OutOfMemory → (IsLimit e → ⊥) →
+            census_merged ctx.entry.depth (counts_by_name self.old.counts.entries) (B.unread buf.old) ≡ None) }
+        ensures some { OnErr result (B.unread buf.old ≢ []) }
+        ensures tail { IsTailOf (B.unread buf.new) (B.unread buf.old) }
+        ensures kept { B.beyond buf.new ≡ B.beyond buf.old }
+    {
         let DecodeContext { depth, budget } = ctx;
         'fields: while buf.remaining() > 0 {
             let tag = Tag::decode(buf)?;
