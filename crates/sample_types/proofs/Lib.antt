@@ -12,4 +12,5 @@ mod TreeRefusedLemmas
 mod PinLemmas
 mod PassPinLemmas
 mod MergedLemmas
+mod CountLemmas
 mod CensusLemmas

@@ -34,6 +34,11 @@ use crate::passed_on::{Pass, Way};
 use crate::tree::Tree;
 use crate::two::TestMsg;
 use crate::word::Word;
+pub use crate::word_laws::{
+    answers_of_proxies_are_these, answers_of_trips_are_these, censuses_are_read_so,
+    fields_are_counted_so, letters_are_these, names_are_their_bytes, proxies_are_these,
+    runs_are_passed_on_so, trips_are_refused_so,
+};
 use buffa_fields::fields::Fields;
 use buffa_fields::message::members_read_back;
 use buffa_fields::self_laws;
@@ -99,7 +104,7 @@ pub fn kept_fields_stay_normal()
 {}
 
 /// Which message each sample is: what bytes make of it, what they cost, and its encoding; of trees `trees_are_these` says it.
-/// Nothing is left out.
+/// Which fault refuses a field of `FlatMsg`, `TestMsg` and `BudgetMsg`, `fields_are_read_alone` says. Nothing else is left out.
 pub fn messages_are_these()
     ensures flat { ⟦<FlatMsg as MessageSpec>⟧.merged ≡ merged_of flat_takes }
     ensures flat_encoding { (v : _) → ⟦<FlatMsg as MessageSpec>⟧.encoding v ≡ value_encoding v.0 }

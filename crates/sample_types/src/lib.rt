@@ -17,3 +17,4 @@ pub mod round_trip;
 pub mod tree;
 pub mod two;
 pub mod word;
+mod word_laws;
