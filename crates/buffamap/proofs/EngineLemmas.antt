@@ -1,5 +1,5 @@
 -- What is told of a call.
-use Rattle.std.proofs.Common.{rules, ◌≡◌, ◌⊎◌, inl, inr, ℕ, List, ◌++◌, Bool, true, None, Some, Option, Result, Ok, Err, refl, ap, subst, arith, String, string_bytes}
+use Rattle.std.proofs.Common.{rules, ◌≡◌, ◌⊎◌, inl, inr, ℕ, List, ◌++◌, Bool, false, true, None, Some, Option, Result, Ok, Err, refl, ap, subst, arith, String, string_bytes}
 use Rattle.std.specs.Prelude.{IfOk}
 use Rattle.buffamap.specs.declared.command.Command.{Command}
 use Rattle.buffamap.specs.declared.fault.Fault.{Fault}
@@ -14,6 +14,14 @@ pub named_or_not : {Z E : Type 0} (r : Result (String Z) E) (line : List ℕ) (o
 named_or_not (Ok t) line out err status is given = inl (subst (λ z. GivesReply (reply 1 z) out err status) is given)
 named_or_not (Err e) line out err status is given = inr (refl, given)
 
+-- a fault that a line names isn't that a call of the reader failed
+named_well : (c : Command) (from : Source) (f : Fault) → Answers (Some c) from (fault_reply f) → (fault_reply f).status ≡ 1 → from.failed ≡ false
+named_well c from f (inl h) one = h.3
+named_well c from f (inr (inl h)) one = h.1
+named_well c from f (inr (inr h)) one =
+    let three : (fault_reply f).status ≡ 3 = ap (λ (r : Reply). r.status) h.0 in
+    absurd (omega (arith, three, one))
+
 -- what is told of the fault answers the call
 pub told_answers : (o : Option Command) (from : Source) (f : Fault) (out err : StreamChange) (status : ℕ) →
     Answers o from (fault_reply f) → TellsFault f out err status → (r : Reply) × Answers o from r × GivesReply r out err status
@@ -21,7 +29,7 @@ told_answers o from f out err status h (inl g) = (fault_reply f, h, g)
 told_answers None from f out err status h (inr k) =
     let two : (fault_reply f).status ≡ 2 = ap (λ (r : Reply). r.status) h in
     absurd (omega (arith, two, k.0))
-told_answers (Some c) from f out err status h (inr k) = (no_memory, inr (inl refl), k.1)
+told_answers (Some c) from f out err status h (inr k) = (no_memory, inr (inl (refl, named_well c from f h k.0)), k.1)
 
 -- the errors have a beginning of the line behind what they held
 line_begun : (err text : List ℕ) (b : Known) (failed : Bool) → WritesOrBreaks (record { old = Some err; new = b; failed = failed }) text →

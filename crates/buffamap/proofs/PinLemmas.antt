@@ -195,7 +195,7 @@ module _ (o : Option Command) (a b : Reply) where
 -- the reply of a command to its input, where neither memory nor the reader is told
 known_reply : (c : Command) (f : Bool) (input : List ℕ) (a : Reply) → Answers (Some c) (having f input) a → a.status ≢ 4 → (a ≡ broken → f ≡ true → ⊥) → RepliesTo c input a
 known_reply c f input a (inl h) memory whole = rw (sym h.1) h.2
-known_reply c f input a (inr (inl h)) memory whole = absurd (memory (ap (λ (r : Reply). r.status) h))
+known_reply c f input a (inr (inl h)) memory whole = absurd (memory (ap (λ (r : Reply). r.status) h.0))
 known_reply c f input a (inr (inr h)) memory whole = absurd (whole h.0 h.1)
 
 reply_one : (o : Option Command) (f g : Bool) (input : List ℕ) (a b : Reply) → Answers o (having f input) a → Answers o (having g input) b → (a.status ≢ 4) × (b.status ≢ 4) →

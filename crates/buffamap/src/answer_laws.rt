@@ -191,13 +191,14 @@ pub fn commands_are_answered_so()
         ↔ RepliesToAgain set_merged set_cost set_encoding [] input reply }
 {}
 
-/// Which reply a call gives: to words that are no command the usage line; to a command its reply to the input; or that memory ran
-/// out, or that the input failed, where a call of it did. Of streams that don't tell it, any may have failed.
+/// Which reply a call gives: to words that are no command the usage line; to a command its reply to the input, or that memory ran
+/// out, where no call of the input failed; and where one failed, that the input failed, and nothing else. Of streams that don't tell
+/// it, any may have failed.
 pub fn calls_are_answered_so()
     ensures words { (from : Source) (reply : Reply) → Answers None from reply ↔ (reply ≡ wrong_words) }
     ensures command { (c : Command) (from : Source) (reply : Reply) → Answers (Some c) from reply
-        ↔ (((input : List ℕ) × IfSome from.bytes (λ xs. input ≡ xs) × RepliesTo c input reply)
-        ⊎ ((reply ≡ no_memory) ⊎ ((reply ≡ broken) × (from.failed ≡ true)))) }
+        ↔ (((input : List ℕ) × IfSome from.bytes (λ xs. input ≡ xs) × RepliesTo c input reply × (from.failed ≡ false))
+        ⊎ (((reply ≡ no_memory) × (from.failed ≡ false)) ⊎ ((reply ≡ broken) × (from.failed ≡ true)))) }
     ensures call { (words : List (Bor (List ℕ))) (from : Source) (out err : StreamChange) (status : ℕ) →
         AnswersCall words from out err status
         ↔ ((reply : Reply) × Answers (command_of (map (λ w. w.now) words)) from reply × GivesReply reply out err status) }

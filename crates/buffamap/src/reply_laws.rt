@@ -16,7 +16,7 @@ ghost use Rattle.hex.specs.Hex.{decode_of, encode_lower};
 ghost use Rattle.buffa_bytes.specs.ErrorText.{decode_error_text, encode_error_text};
 ghost use Rattle.buffa_map.specs.Pairs.{ListsOnce, put};
 ghost use Rattle.buffamap.specs.Command.{IsNamed, command_of};
-ghost use Rattle.buffamap.specs.Fault.{fault_reply};
+ghost use Rattle.buffamap.specs.Fault.{TellsFault, fault_reply};
 ghost use Rattle.buffamap.specs.Forms.{decimal, hex_bytes, without_newline};
 ghost use Rattle.buffamap.specs.Lines.{ListedInOrder, Pair, key_of, line_of, lines_of, map_in, pair_of, put_lines, value_of_text};
 ghost use Rattle.buffamap.specs.Reply.{GivesReply, Reply, bad_input, broken, fault, hex_line, no_memory, success, wrong_words};
@@ -73,6 +73,24 @@ pub fn faults_are_told_so()
     ensures memory { fault_reply Fault.OutOfMemory ≡ no_memory }
     ensures bytes { (e : DecodeError) → fault_reply (Fault.RefusedBytes e) ≡ fault (decode_error_text e) }
     ensures encoding { (e : EncodeError) → fault_reply (Fault.RefusedEncoding e) ≡ fault (encode_error_text e) }
+{}
+
+/// Which reply is given of a fault: the one that tells it. Of bytes and of encodings that are refused it may be that memory ran out,
+/// since the line that names their fault takes memory; and of no other fault. Nothing is left out.
+pub fn faults_are_given_so()
+    ensures words { (out err : StreamChange) (status : ℕ) → TellsFault Fault.Words out err status
+        ↔ GivesReply wrong_words out err status }
+    ensures form { (out err : StreamChange) (status : ℕ) → TellsFault Fault.Form out err status
+        ↔ GivesReply bad_input out err status }
+    ensures stream { (out err : StreamChange) (status : ℕ) → TellsFault Fault.Stream out err status
+        ↔ GivesReply broken out err status }
+    ensures memory { (out err : StreamChange) (status : ℕ) → TellsFault Fault.OutOfMemory out err status
+        ↔ GivesReply no_memory out err status }
+    ensures bytes { (e : DecodeError) (out err : StreamChange) (status : ℕ) → TellsFault (Fault.RefusedBytes e) out err status
+        ↔ (GivesReply (fault (decode_error_text e)) out err status ⊎ GivesReply no_memory out err status) }
+    ensures encoding { (e : EncodeError) (out err : StreamChange) (status : ℕ) →
+        TellsFault (Fault.RefusedEncoding e) out err status
+        ↔ (GivesReply (fault (encode_error_text e)) out err status ⊎ GivesReply no_memory out err status) }
 {}
 
 /// What the forms of words and inputs are: decimal digits, hexadecimal digits, a line of these, and a final newline.
