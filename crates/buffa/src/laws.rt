@@ -51,8 +51,9 @@ pub use buffa_fields::block_laws as blocks;
 pub use buffa_map::laws as map_fields;
 /// Laws of Items of a MessageSet.
 pub use buffa_message_set::laws::{
-    item_tags, items_are_pinned, items_are_read, items_are_read_in_order, no_item_begins_another,
-    written_items_are_pinned,
+    faults_of_items_are_these, item_tags, item_words_are_these, items_are_groups, items_are_pinned,
+    items_are_read, items_are_read_in_order, items_are_these, items_take_memory_so,
+    no_item_begins_another, written_items_are_pinned,
 };
 /// Laws of the sample that holds itself, and of its enum.
 pub use sample_node::laws as nodes;

@@ -25,16 +25,20 @@ ghost use Rattle.buffa_map.specs.Enums.{closed_reading, open_reading};
 ghost use Rattle.buffa_map.specs.Message.{message_reading};
 ghost use Rattle.buffa_map.specs.Pairs.{put};
 ghost use Rattle.buffa_map.specs.Scalars.{bytes_reading, number_reading, string_reading};
+ghost use Rattle.buffa.specs.NodeMeaning.{node_merged};
+ghost use Rattle.buffa.specs.Set.{set_merged};
 
 use crate::extension::{ExtensionCodec, PackableCodec, SingularCodec, codecs};
 use crate::fields::{
-    Laid, Listing, Member, OrderedKey, Packable, ProtoType, SelfFields, SelfListing,
+    Fields, Keeping, Keyed, Laid, Listing, Member, OneOf, OrderedKey, Packable, ProtoType,
+    SelfFields, SelfListing,
 };
+use crate::laws::open_members::OpenMembers;
 use crate::map_codec::{MapCodec, MapStorage, MapValueDecode};
 use crate::{
     Blank, Buf, DEFAULT_ELEMENT_MEMORY_LIMIT, DEFAULT_UNKNOWN_FIELD_LIMIT, DoubleBits, Enumeration,
     FloatBits, Limited, MAX_FIELD_NUMBER, MAX_MESSAGE_BYTES, Map, MapKey, Message, MessageSpec,
-    Pieces, RECURSION_LIMIT, fields, laws, map_codec,
+    Pieces, RECURSION_LIMIT, fields, laws, map_codec, samples,
 };
 use buffa_codec::laws::{numbers_are_read, the_last_record_is_read};
 use buffa_wire::MessageMeaning;
@@ -57,11 +61,43 @@ pub fn buffers_are_these<B: Buf>()
 {}
 
 /// Which laws the names of the modules in [`laws`] are: each has those of the form that it is named for.
-pub fn law_modules_are_these<M: SelfFields, N: Message>(message: &M) {
+pub fn law_modules_are_these<
+    M: SelfFields,
+    N: Message,
+    T: OpenMembers,
+    K: Keyed,
+    E: OneOf,
+    C: ProtoType,
+    F: Fields,
+    G: Keeping,
+>(message: &M) {
+    laws::wire::varints_are_read();
+    laws::records::records_are_read();
+    laws::grammar::varints_are_these();
+    laws::values::records_of_fields_are_these();
+    laws::answers::merges_are_these::<N>();
+    laws::extension_codecs::packed_numbers_are_read();
+    laws::extensions::last_step_counts();
     laws::fields::nested_members_are_these::<N>();
     laws::inside::lists_inside_are_these::<M>();
     laws::selves::messages_are_their_members(message);
+    laws::open_members::members_of_the_same_type_are_named_so::<M, T, K>();
+    laws::oneofs::the_last_value_stands::<E, C>();
     laws::spending::groups_cost_what_is_in_them::<N>();
+    laws::blocks::blocks_of_one_are_their_member::<F, G, E>();
+    laws::map_fields::rewrite_errors_print();
+    laws::nodes::node_is_this();
+    laws::sets::sets_are_these();
+    laws::names::limits_are_these();
+}
+
+/// Which samples the names are: what bytes make of each.
+pub fn samples_are_these()
+    ensures node { ⟦<samples::Node as MessageSpec>⟧.merged ≡ node_merged }
+    ensures set { ⟦<samples::SetMsg as MessageSpec>⟧.merged ≡ set_merged }
+{
+    laws::nodes::node_is_this();
+    laws::sets::sets_are_these();
 }
 
 /// How each codec of extensions of one value reads a record, and which records lists and messages have. What the laws of
