@@ -42,11 +42,11 @@ MovesUnlessFull r n old new held holds = MatchResult r (λ _. (holds ≡ held ++
 unfoldable pub past_no_varint : List ℕ → List ℕ
 past_no_varint bs = drop 10 bs
 
--- where no tag begins them: what follows the varint that is there, or that is none
+-- where no tag begins them: what follows the varint that is there, or the first ten bytes where none is there
 unfoldable pub past_no_tag : List ℕ → List ℕ
 past_no_tag bs = elim (varint_at bs) [ Ok n ↦ n.1 | Err e ↦ past_no_varint bs ]
 
--- where no length and so many bytes begin them: what follows the first ten where no length is there, what follows the length where
+-- of a refused length and so many bytes: what follows the first ten bytes where no length is there, what follows the length where
 -- that passes the end, else what follows so many bytes
 unfoldable pub past_no_delimited : List ℕ → List ℕ
 past_no_delimited bs = elim (varint_at bs) [ Ok n ↦ (if nat_lt (length n.1) n.0 then n.1 else drop n.0 n.1) | Err e ↦ past_no_varint bs ]

@@ -259,7 +259,7 @@ module _ {K V : Type 0} (r : Rules K V) where
         elim h.spent.units [ inl stays ↦ omega (arith, stays) | inr paid ↦ omega (arith, same, paid.1) ];
     fields = λ old new bs e rest tail f h is.
         let same = ap (λ z. z.unknown) (inner bs e rest is) in
-        (omega (arith, same, h.spent.least), λ ne. omega (arith, same, h.spent.no_unknown ne));
+        (omega (arith, same, h.spent.least), λ ne. omega (arith, same, h.spent.no_keeping ne));
     unspent = λ old new bs tail f g h is. (h.spent.unspent (not_delimited bs g is), h.unread.nothing_there (not_delimited bs g is));
     end = λ old new bs tail f h. h.unread.tail;
     all_units = λ old new bs tail f h. elim h.spent.units [ inl same ↦ inl same | inr paid ↦ inr paid.0 ];

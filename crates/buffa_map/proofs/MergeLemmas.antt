@@ -45,7 +45,7 @@ module _ {K V : Type 0} (r : Rules K V) (pairs : List (K × V)) (records : List 
       unspent = λ no. refl;
       most = omega arith;
       least = omega arith;
-      no_unknown = λ ne. omega arith;
+      no_keeping = λ ne. omega arith;
     };
   }
 
@@ -103,7 +103,7 @@ module _ {K V : Type 0} (r : Rules K V) (pairs : List (K × V)) (records : List 
             unspent = λ none. absurd (none e rest there);
             most = h.most;
             least = omega (arith, h.least, taken);
-            no_unknown = λ ne. omega (arith, h.least, taken);
+            no_keeping = λ ne. omega (arith, h.least, taken);
           };
         }
 
@@ -167,7 +167,7 @@ module _ {K V : Type 0} (r : Rules K V) (pairs : List (K × V)) (records : List 
               unspent = λ none. absurd (none e rest there);
               most = omega (arith, h.pays, most);
               least = omega (arith, h.pays, least, taken);
-              no_unknown = λ ne. omega (arith, h.pays, (which ne).3, taken);
+              no_keeping = λ ne. omega (arith, h.pays, (which ne).3, taken);
             };
           }
 

@@ -20,7 +20,7 @@ use Rattle.buffa_map.specs.EntryReading.{inner_need, need_at, need_of, blanks}
 use Rattle.buffa_map.specs.Merge.{RefusesEntry, Rules, State, RefusesRun, unknown_cost, kept_of_entry, kept_of_run}
 use Rattle.buffa_map.specs.Pairs.{SamePairs}
 use Rattle.buffa_map.specs.Pinned.{SameState, EntryIsPinned, RunIsPinned, ValueIsPinned}
-use Rattle.buffa_map.specs.Run.{EntryRecord, ArePaid, RecordFault, Run, fold_entries, inner_needs, step, undeclared}
+use Rattle.buffa_map.specs.Run.{EntryRecord, ArePaid, RecordFault, Run, fold_entries, cost_inside, step, undeclared}
 use Rattle.buffa_map.specs.RunReading.{record_at}
 use Rattle.buffa_map.proofs.EntryLemmas.{Plain, need_by-nothing, value_faulty}
 use Rattle.buffa_map.proofs.FrontLemmas.{paid_no_fault, same_front, same_taken}
@@ -81,8 +81,8 @@ module _ {K V : Type 0} (key : Reading K) (val : Reading V) (d n cost extra : �
 
   pub run_one : (bs : List ℕ) (es fs : List (EntryRecord K V)) → Run key val d n bs es → Run key val d n bs fs → es ≡ fs
   run_one bs es fs h k =
-      let a = inner_needs key val d es in
-      let b = inner_needs key val d fs in
+      let a = cost_inside key val d es in
+      let b = cost_inside key val d fs in
       let both : BudgetLeft = plus a b in
       ap (λ z. z.0) (ok_same (sym (run_complete key val d n 0 0 key_free val_free both bs es b h (omega arith, omega arith)) ∙ run_complete key val d n 0 0 key_free val_free both bs fs a k (omega arith, omega arith)))
 
@@ -98,7 +98,7 @@ module _ {K V : Type 0} (key : Reading K) (val : Reading V) (d n cost extra : �
       let whole : bs ≡ r ++ (more ++ rest) = split ∙ ap (λ z. z ++ rest) e ∙ append_assoc r more rest in
       (more, ap (record_at key val d n cost extra left) whole ∙ said_complete key val d n cost extra left r (more ++ rest) x (omega (arith, paid.0)) (one_unknown paid.1) m, run)
     where
-      one_unknown : over.unknown + ((length (undeclared (x ∷ es))) * extra + (inner_needs key val d (x ∷ es)).unknown) ≡ left.unknown → (need_of key val d cost x.bytes).unknown + cond x.parts.known 0 extra ≤ left.unknown
+      one_unknown : over.unknown + ((length (undeclared (x ∷ es))) * extra + (cost_inside key val d (x ∷ es)).unknown) ≡ left.unknown → (need_of key val d cost x.bytes).unknown + cond x.parts.known 0 extra ≤ left.unknown
       one_unknown h = omega (arith, h, extra_kept x.parts.known x.bytes (undeclared es) extra)
 
   -- no record begins bytes that have a fault
@@ -129,7 +129,7 @@ module _ {K V : Type 0} (key : Reading K) (val : Reading V) (d n cost extra : �
       let q = first_record y fs left last bs b more t ran spent in
       let same = ok_same (sym p.1 ∙ q.1) in
       let one : x ≡ y = ap (λ z. z.0) same in
-      let u : BudgetLeft = record { unknown = over.unknown + (length (undeclared es) * extra + (inner_needs key val d es).unknown); memory = over.memory + (length es * cost + (inner_needs key val d es).memory) } in
+      let u : BudgetLeft = record { unknown = over.unknown + (length (undeclared es) * extra + (cost_inside key val d es).unknown); memory = over.memory + (length es * cost + (cost_inside key val d es).memory) } in
       let again = subst (λ z. ArePaid key val d cost extra left (z ∷ fs) last) (sym one) spent in
       let i = stop_one es fs u over last (p.0 ++ rest) p.0 rest q.0 more f g refl p.2 (refl, refl) bad (ap (λ z. z.1) same) q.2
       (omega (arith, paid.0, again.0), omega (arith, paid.1, again.1, extra_kept x.parts.known x.bytes (undeclared es) extra, extra_kept x.parts.known x.bytes (undeclared fs) extra)) worse in
@@ -158,7 +158,7 @@ module _ {K V : Type 0} (r : Rules K V)
         let none = inner_none r.key r.val r.depth r.number r.cost (unknown_cost r) key_free val_free plain bs in
         let unit = ap (λ (z : BudgetLeft). z.memory) none in
         let taken = ap (λ (z : BudgetLeft). z.unknown) none in
-        same_left a.left b.left (omega (arith, h.spent.most, k.spent.most, h.spent.no_unknown ne, k.spent.no_unknown nf, taken))
+        same_left a.left b.left (omega (arith, h.spent.most, k.spent.most, h.spent.no_keeping ne, k.spent.no_keeping nf, taken))
         (one_memory old.left.memory r.cost (inner_need r.key r.val r.depth bs).memory a.left.memory b.left.memory unit h.spent.units k.spent.units (h.spent.charged ne p.0 p.1 t) (k.spent.charged nf p.0 p.1 t))
     refused_left (Err z) is = h.spent.unspent (not_delimited bs z is) ∙ sym (k.spent.unspent (not_delimited bs z is))
 
@@ -268,7 +268,7 @@ module _ {K V : Type 0} (r : Rules K V)
                 let two = ap (λ (z : BudgetLeft). z.unknown) stopped_over in
                 let hc = h_spends.charged ne mid e after tag t in
                 let kc = k_spends.charged nf mid e after (subst (λ z. tag_at z ≡ Ok (r.number, LengthDelimited, mid)) rest tag) t in
-                same_left a.left b.left (omega (arith, h_spends.most, k_spends.most, h_spends.no_unknown ne, k_spends.no_unknown nf, two, ap (λ (z : BudgetLeft). z.unknown) none, ap (λ (z : BudgetLeft). z.unknown) nil))
+                same_left a.left b.left (omega (arith, h_spends.most, k_spends.most, h_spends.no_keeping ne, k_spends.no_keeping nf, two, ap (λ (z : BudgetLeft). z.unknown) none, ap (λ (z : BudgetLeft). z.unknown) nil))
                 (spent_one h.now.left.memory k.now.left.memory r.cost (record_need r.key r.val r.depth h.rest).memory (record_need r.key r.val r.depth k.rest).memory a.left.memory b.left.memory one (ap (λ (z : BudgetLeft). z.memory) none) (ap (λ (z : BudgetLeft). z.memory) nil) h_spends.units k_spends.units hc kc)
           ]
 

@@ -38,5 +38,5 @@ module _ {K V : Type 0} (r : Rules K V) (need : (e : List ℕ) → need_of r.key
         charged = λ ne e rest t room. exact old.left.memory new.left.memory r.cost _ h.spent.units unit (h.spent.charged ne e rest t room);
         most = h.spent.most;
         least = omega (arith, h.spent.least, extra);
-        no_unknown = λ ne. omega (arith, h.spent.most, h.spent.no_unknown ne, extra);
+        no_keeping = λ ne. omega (arith, h.spent.most, h.spent.no_keeping ne, extra);
       }

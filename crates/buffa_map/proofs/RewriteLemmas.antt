@@ -24,7 +24,7 @@ use Rattle.buffa_map.specs.EnumFacts.{closed_reads_back}
 use Rattle.buffa_map.specs.Enums.{ClosedFits, closed_reading, closed_writing}
 use Rattle.buffa_map.specs.Pairs.{ListsOnce, SamePairs, put}
 use Rattle.buffa_map.specs.Rewrite.{IsOrderedClass, IsRewrite, KeepsMeaning, Ordered, SeenByTwo, first, is_new, last, seen}
-use Rattle.buffa_map.specs.Run.{fold_entries, undeclared, Run, EntryRecord, inner_needs, undeclared_records}
+use Rattle.buffa_map.specs.Run.{fold_entries, undeclared, Run, EntryRecord, cost_inside, undeclared_records}
 use Rattle.buffa_map.specs.Encoding.{AllHold, field_encoding}
 use Rattle.buffa_map.specs.declared.map_entry.MapEntry.{MapEntry}
 use Rattle.buffa_bytes.proofs.SequenceLemmas.{ok_same}
@@ -171,8 +171,8 @@ module _ {K : Type 0} (key : Reading K) (Normal : K → Type 0) (blank_normal : 
   pub twins : (key.nested ≡ false → (d : ℕ) (c : Content) → key.cost d c ≡ nothing) → (d n : ℕ) (b : List ℕ) (es fs : List (EntryRecord K ℤ)) → Run key (closed_reading e) d n b es → Run key (closed_reading f) d n b fs → Twins Normal e es fs
   twins free d n bs es fs h k =
       let i = run_twin d n bs es h in
-      let a = inner_needs key (closed_reading f) d i.0 in
-      let b = inner_needs key (closed_reading f) d fs in
+      let a = cost_inside key (closed_reading f) d i.0 in
+      let b = cost_inside key (closed_reading f) d fs in
       let both : BudgetLeft = plus a b in
       let same : i.0 ≡ fs = ap (λ z. z.0) (ok_same (sym (run_complete key (closed_reading f) d n 0 0 free (λ _ d c. refl) both bs i.0 b i.1 (omega arith, omega arith)) ∙ run_complete key (closed_reading f) d n 0 0 free (λ _ d c. refl) both bs fs a k (omega arith, omega arith))) in
       subst (λ z. Twins Normal e es z) same i.2

@@ -21,7 +21,7 @@ use Rattle.buffa_map.specs.Codec.{Reading}
 use Rattle.buffa_map.specs.Entry.{IsEntry, FaultOf, EntryOf, EntryFault}
 use Rattle.buffa_map.specs.EntryReading.{blanks, need_at, need_of}
 use Rattle.buffa_map.specs.Pairs.{InOrder, put, SamePairs}
-use Rattle.buffa_map.specs.Run.{EntryRecord, IsRecord, Run, ArePaid, RecordFault, RunFault, inner_needs, step, fold_entries, undeclared, undeclared_record, undeclared_records}
+use Rattle.buffa_map.specs.Run.{EntryRecord, IsRecord, Run, ArePaid, RecordFault, RunFault, cost_inside, step, fold_entries, undeclared, undeclared_record, undeclared_records}
 use Rattle.buffa_map.specs.RunReading.{entry_in, lacks, record_at, after_entry, next_record, run_of}
 use Rattle.buffa_map.specs.Merge.{Rules, kept_of_entry, kept_of_run}
 use Rattle.buffa_map.specs.declared.map_entry.MapEntry.{MapEntry}
@@ -248,7 +248,7 @@ module _ {K V : Type 0} (key : Reading K) (val : Reading V) (d n : ℕ) where
         let unknown : s.1.unknown ≡ over.unknown = omega (arith, paid.1) in
         ([], h, (λ i. (sym (append-nil s.0) i, record { unknown = unknown i; memory = memory i })))
     pieces_of_run b s (x ∷ xs) over (r, rest, m, e, h) paid =
-        let u : Paying = (s.0 ++ x ∷ [], record { unknown = over.unknown + (length (undeclared xs) * extra + (inner_needs key val d xs).unknown); memory = over.memory + (length xs * cost + (inner_needs key val d xs).memory) }) in
+        let u : Paying = (s.0 ++ x ∷ [], record { unknown = over.unknown + (length (undeclared xs) * extra + (cost_inside key val d xs).unknown); memory = over.memory + (length xs * cost + (cost_inside key val d xs).memory) }) in
         let i = pieces_of_run rest u xs over h (refl, refl) in (
           r ∷ i.0,
           e ∙ ap (λ z. r ++ z) i.1,
@@ -282,7 +282,7 @@ module _ {K V : Type 0} (key : Reading K) (val : Reading V) (d n : ℕ) where
 
 -- what no payload of which is nested costs is the units
 pub inner_free : {K V : Type 0} (key : Reading K) (val : Reading V) (d : ℕ) → (key.nested ≡ false → (d : ℕ) (c : Content) → key.cost d c ≡ nothing) → (val.nested ≡ false → (d : ℕ) (c : Content) → val.cost d c ≡ nothing) →
-    (es : List (EntryRecord K V)) → Plain key val d → inner_needs key val d es ≡ nothing
+    (es : List (EntryRecord K V)) → Plain key val d → cost_inside key val d es ≡ nothing
 inner_free key val d key_free val_free [] p = refl
 inner_free key val d key_free val_free (x ∷ xs) p = rw (need_free key val d key_free val_free (blanks key val d) x.bytes p, inner_free key val d key_free val_free xs p) refl
 
@@ -339,16 +339,16 @@ kept-more r a b c es x h k =
     kept_too r.keeps_undeclared a b c (undeclared_records r.number es) (undeclared_record r.number x.bytes x.parts.known) (undeclared_records r.number (es ++ x ∷ [])) (undeclared_records-last r.number es x) h k
 
 -- ---- one entry more is paid
-inner_needs-last : {K V : Type 0} (key : Reading K) (val : Reading V) (d : ℕ) (xs : List (EntryRecord K V)) (x : EntryRecord K V) →
-    ((inner_needs key val d (xs ++ x ∷ [])).memory ≡ (inner_needs key val d xs).memory + (need_at key val d (blanks key val d) x.bytes).memory)
-    × ((inner_needs key val d (xs ++ x ∷ [])).unknown ≡ (inner_needs key val d xs).unknown + (need_at key val d (blanks key val d) x.bytes).unknown)
-inner_needs-last key val d [] x = (omega arith, omega arith)
-inner_needs-last key val d (y ∷ xs) x = let i = inner_needs-last key val d xs x in (omega (arith, i.0), omega (arith, i.1))
+cost_inside-last : {K V : Type 0} (key : Reading K) (val : Reading V) (d : ℕ) (xs : List (EntryRecord K V)) (x : EntryRecord K V) →
+    ((cost_inside key val d (xs ++ x ∷ [])).memory ≡ (cost_inside key val d xs).memory + (need_at key val d (blanks key val d) x.bytes).memory)
+    × ((cost_inside key val d (xs ++ x ∷ [])).unknown ≡ (cost_inside key val d xs).unknown + (need_at key val d (blanks key val d) x.bytes).unknown)
+cost_inside-last key val d [] x = (omega arith, omega arith)
+cost_inside-last key val d (y ∷ xs) x = let i = cost_inside-last key val d xs x in (omega (arith, i.0), omega (arith, i.1))
 
 pub Paid-more : {K V : Type 0} (key : Reading K) (val : Reading V) (d cost extra : ℕ) (a b c : BudgetLeft) (xs : List (EntryRecord K V)) (x : EntryRecord K V) → ArePaid key val d cost extra a xs b →
     Pays b (plus (need_of key val d cost x.bytes) (unknown_fields (cond x.parts.known 0 extra))) c → ArePaid key val d cost extra a (xs ++ x ∷ []) c
 Paid-more key val d cost extra a b c xs x h k =
-    let i = inner_needs-last key val d xs x in (
+    let i = cost_inside-last key val d xs x in (
       rw (length-append xs (x ∷ [])) (omega (arith, h.0, k.1, i.0)),
       rw (undeclared-append xs (x ∷ []), length-append (undeclared xs) (undeclared (x ∷ []))) (omega (arith, h.1, k.0, i.1, extra_kept x.parts.known x.bytes [] extra)),
     )

@@ -45,7 +45,7 @@ pub record SpendsOnRecord {K V : Type 0} (r : Rules K V) (left : BudgetLeft) (by
   pub charged : f ≢ OutOfMemory → (mid e after : List ℕ) → tag_at bytes ≡ Ok (r.number, LengthDelimited, mid) → TakesDelimited mid e after → r.cost ≤ left.memory → left_after.memory + r.cost ≤ left.memory
   pub unspent : (HasWholeRecord r.number bytes → ⊥) → left_after ≡ left
   pub most : left_after.unknown ≤ left.unknown
-  pub no_unknown : f ≢ OutOfMemory → left.unknown ≤ left_after.unknown + (record_need r.key r.val r.depth bytes).unknown
+  pub no_keeping : f ≢ OutOfMemory → left.unknown ≤ left_after.unknown + (record_need r.key r.val r.depth bytes).unknown
 
 -- a tag that was refused is none of the field's
 not_of_field : (n : ℕ) (rest tail : List ℕ) (f : DecodeError) → RefusesTag n rest tail f → (mid : List ℕ) → tag_at rest ≡ Ok (n, LengthDelimited, mid) → ⊥
@@ -110,7 +110,7 @@ module _ {K V : Type 0} (r : Rules K V) (now new : State K V) (rest tail : List 
         charged = λ ne mid e after k w room. absurd (not_of_field r.number rest tail f t mid k);
         unspent = λ no. refl;
         most = omega arith;
-        no_unknown = λ ne. omega arith;
+        no_keeping = λ ne. omega arith;
       })
   spends_by (inr (mid, takes, k)) =
       let found = tag_read rest mid r.number LengthDelimited takes in
@@ -122,7 +122,7 @@ module _ {K V : Type 0} (r : Rules K V) (now new : State K V) (rest tail : List 
         charged = λ ne m e after is t room. k.spent.charged ne e after (subst (λ z. TakesDelimited z e after) (one_after rest m mid r.number r.number LengthDelimited LengthDelimited is found) t) room;
         unspent = λ no. k.spent.unspent (λ e after t. no (mid, found, rw (delimited_taken mid e after t) cc));
         most = k.spent.most;
-        no_unknown = λ ne. omega (arith, k.spent.no_unknown ne, taken);
+        no_keeping = λ ne. omega (arith, k.spent.no_keeping ne, taken);
       }
 
   pairs_by : IsRefused → new.pairs ≡ now.pairs

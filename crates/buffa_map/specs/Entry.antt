@@ -30,8 +30,8 @@ module _ {V : Type 0} (codec : Reading V) (d n : ℕ) (old : V) where
       ⊎ ((w ≡ codec.wire) × ValueFault codec d old bs e)
 
 module _ {K V : Type 0} (key : Reading K) (val : Reading V) (d : ℕ) where
-  -- f is one field of an entry, which takes what was said from s to t: a key field, a value field, or a
-  -- field of another number, with groups nested at most d deep
+  -- f is one field of an entry, which takes what was said from s to t: a key field; a value field, which alone says whether the
+  -- entry is known; or a field of another number, with groups nested at most d deep
   abbrev pub IsEntryField : MapEntry K V → List ℕ → MapEntry K V → Type 0
   IsEntryField s f t =
       ((k : K) × (known : Bool) × IsCodecField key d 1 s.key f k known × (t ≡ record s { key = k }))
@@ -60,8 +60,8 @@ module _ {K V : Type 0} (key : Reading K) (val : Reading V) (d : ℕ) where
 
   -- f is the first fault, where an entry costs so many units of element memory and what the messages in it cost, and
   -- one that is undeclared so many of the unknown fields left (none where it is dropped): of the length; of the units;
-  -- of the fields; of the unknown fields left. Where what the messages cost isn't left, a message may be refused with
-  -- any error.
+  -- of the fields; of the unknown fields left. Where the units are left, but not what the messages cost besides, f may be any
+  -- error.
   abbrev pub EntryFault : ℕ → ℕ → BudgetLeft → List ℕ → DecodeError → Type 0
   EntryFault cost unknown_cost left bs f =
       LengthFault bs f

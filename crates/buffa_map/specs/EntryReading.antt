@@ -1,4 +1,5 @@
--- What the bytes of an entry are read as, and what they cost: the same as the relations of `Entry` say, by functions.
+-- What the bytes of an entry are read as, and what they cost: the same as the relations of `Entry` say, by functions. The laws
+-- `entries_are_read` and `values_are_read` say that the two agree.
 use Rattle.std.specs.Prelude.{ℕ, ◌==◌, Bool, true, List, if◌then◌else◌, Result, Ok}
 use Rattle.buffa_bytes.specs.Front.{tag_at, check_wire, skip_at, delimited_at, ◌>>=◌, same_wire}
 use Rattle.buffa_bytes.specs.Scan.{scan, parse_all}

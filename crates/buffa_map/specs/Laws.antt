@@ -20,7 +20,7 @@ use Rattle.buffa_map.specs.MessageField.{IsSmallField}
 use Rattle.buffa_map.specs.Scalars.{delimited_writing}
 use Rattle.buffa_map.specs.Pairs.{ListsOnce}
 use Rattle.buffa_map.specs.Rewrite.{IsRewrite, KeepsMeaning}
-use Rattle.buffa_map.specs.Run.{fold_entries, undeclared, ArePaid, Run, RunFault, EntryRecord, inner_needs}
+use Rattle.buffa_map.specs.Run.{fold_entries, undeclared, ArePaid, Run, RunFault, EntryRecord, cost_inside}
 use Rattle.buffa_map.specs.RunReading.{run_of}
 use Rattle.buffa_map.specs.Encoding.{AllHold, HasEncoding, field_size, field_encoding}
 use Rattle.buffa_map.specs.declared.map_entry.MapEntry.{MapEntry}
@@ -58,7 +58,7 @@ module _ {K V : Type 0} (key : Reading K) (val : Reading V) where
   pub record NeedsUnits : Type 0 where
     pub entry : ArePlain → (d cost : ℕ) (e : List ℕ) → need_of key val d cost e ≡ units cost
     pub front : ArePlain → (d : ℕ) (bs : List ℕ) → inner_need key val d bs ≡ nothing
-    pub run : ArePlain → (d : ℕ) (es : List (EntryRecord K V)) → inner_needs key val d es ≡ nothing
+    pub run : ArePlain → (d : ℕ) (es : List (EntryRecord K V)) → cost_inside key val d es ≡ nothing
 
   -- a limit's error is a fault of an entry only where what it needs isn't left: its units, what the messages in it
   -- cost, and the unknown fields of one that is undeclared

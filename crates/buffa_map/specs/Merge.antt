@@ -1,6 +1,11 @@
 -- What reading entries does to a map, to the records that are kept beside it, and to a budget: first a run of them, then the
 -- entry that is refused, and at the end the list that may be passed, and one entry alone.
-use Rattle.std.specs.Prelude.{ℕ, ◌+◌, length, List, [], Option, None, Some, ◌≡◌, ◌≢◌, ◌<◌, ◌≤◌, Bool, ◌++◌, ◌⊎◌, cond, if◌then◌else◌, true}
+--
+-- Read `p × q` as "p and q", `p ⊎ q` as "p or q", `p → ⊥` as "not p", `(x : A) × p` as "there is an x such that p", and `(x : A) → p`
+-- as "for every x, p". A record holds where all its parts do. In a clause, `x.old` and `x.new` are what x holds at the call and at
+-- the return, and `x.entry` and `x.exit` the same of a parameter that holds a `&mut`, or may be one. `B.unread` is the bytes that a
+-- buffer has left, `B.beyond` those behind its limits, and `C.pairs` what a map holds, in some order.
+use Rattle.std.specs.Prelude.{ℕ, ◌+◌, length, List, [], Option, None, Some, ◌≡◌, ◌≢◌, ◌<◌, ◌≤◌, Bool, ◌++◌, ◌⊎◌, if◌then◌else◌, true}
 use Rattle.std.proofs.Common.{inl, inr}
 use Rattle.buffa_wire.specs.Records.{Datum, Held}
 use denote.Ref.{MutBor}
@@ -40,8 +45,9 @@ pub record Rules (K V : Type 0) : Type 0 where
   pub cost : ℕ
   pub keeps_undeclared : Bool
 
--- The rules of codecs and a storage: how a key is read, and what it costs; how a value is read, and what it costs; which
--- keys are the same, and whether their order is kept; the depth; the number; and whether what is undeclared is kept.
+-- The rules of two codecs and a storage: how a key is read, and what it costs (`reading` and `COST` of its codec); how a value is
+-- read, and what it costs; which keys are the same, and whether their order is kept (`equal` and `keeps_order` of the storage); the
+-- depth; the number; and whether what is undeclared is kept.
 abbrev pub rules : {K V : Type 0} → Reading K × ℕ → Reading V × ℕ → (K → K → Bool) × Bool → ℕ → ℕ → Bool → Rules K V
 rules key val storage depth number keeps = record {
   key = key.0;
@@ -69,7 +75,7 @@ pub record ReadsRun {K V : Type 0} (r : Rules K V) (old : State K V) (bytes : Li
   pub run : Run r.key r.val r.depth r.number bytes entries
   -- each key finds in the new pairs what it finds in the old ones with each declared entry put into them
   pub folded : SamePairs r.same (fold_entries r.same old.pairs entries) new.pairs
-  -- and they are these, in the order in which keys came, where that is kept
+  -- where the map keeps the order in which keys came, the new pairs are that very list
   pub order : InOrder r.keeps_order (fold_entries r.same old.pairs entries) new.pairs
   -- the undeclared entries follow the old records, where they are kept
   pub keeps : new.records ≡ old.records ++ kept_of_run r entries
@@ -78,10 +84,10 @@ pub record ReadsRun {K V : Type 0} (r : Rules K V) (old : State K V) (bytes : Li
   -- nothing is unread
   pub whole : rest ≡ []
 
--- Memory may run out while an entry is merged only where a length and so many bytes, the entry, are there, and then at one of
--- these: the entry may be copied before it is read, where it has bytes, undeclared entries are kept, and the value's codec may
--- give an undeclared value; or its units are left, and a field of it takes memory, or it is whole, and is put into the map, or
--- kept, for which an unknown field is left beyond what its messages need.
+-- Memory may run out while an entry is merged only where a length and so many bytes, the entry, are there, and then in one of two
+-- cases. One: the entry has bytes, undeclared entries are kept, and the value's codec may give an undeclared value; then the entry
+-- may be copied before it is read. Two: its units are left, and a field of it takes memory; or it is whole, and is put into the
+-- map; or it is whole, and is kept, for which an unknown field is left beyond what its messages need.
 abbrev pub EntryTakesMemory : {K V : Type 0} → Rules K V → BudgetLeft → List ℕ → Type 0
 EntryTakesMemory {K} {V} r left bs =
     (e : List ℕ) × (rest : List ℕ) × TakesDelimited bs e rest
@@ -98,7 +104,7 @@ pub record LeavesEntry (bytes : List ℕ) (f : DecodeError) (unread : List ℕ) 
   pub past : f ≢ OutOfMemory → (e rest : List ℕ) → TakesDelimited bytes e rest → unread ≡ rest
   -- where the entry was there, no less than what follows it
   pub within : (e rest : List ℕ) → TakesDelimited bytes e rest → IsTailOf rest unread
-  -- what follows the length, or what is none, where no length and so many bytes were there
+  -- where no length and so many bytes were there, what follows the length, or the first ten bytes where no length was
   pub nothing_there : ((e rest : List ℕ) → TakesDelimited bytes e rest → ⊥) → unread ≡ past_no_delimited bytes
 
 -- what a refused entry spends of a budget
@@ -115,11 +121,11 @@ pub record SpendsOnEntry {K V : Type 0} (r : Rules K V) (left : BudgetLeft) (byt
   pub most : left_after.unknown ≤ left.unknown
   -- and at most the one that keeps the entry is spent, and what the messages in it cost
   pub least : left.unknown ≤ left_after.unknown + (unknown_cost r + (inner_need r.key r.val r.depth bytes).unknown)
-  -- but not the one that keeps it, unless memory ran out
-  pub no_unknown : f ≢ OutOfMemory → left.unknown ≤ left_after.unknown + (inner_need r.key r.val r.depth bytes).unknown
+  -- the one that keeps the entry only where memory ran out
+  pub no_keeping : f ≢ OutOfMemory → left.unknown ≤ left_after.unknown + (inner_need r.key r.val r.depth bytes).unknown
 
--- The entry at the front was refused, and f is why. Of a fault inside a message any error may be told that is no limit's. Where
--- its units are left, and not what the messages in it need besides, any error may be.
+-- The entry at the front was refused, and f is why. A fault inside a message may be told as any error that is no limit's. Where
+-- the entry's units are left, but not what its messages need besides, f may be any error, but `OutOfMemory` only as `memory` says.
 pub record RefusesEntry {K V : Type 0} (r : Rules K V) (old : State K V) (bytes : List ℕ) (new : State K V) (tail : List ℕ) (f : DecodeError) : Type 0 where
   -- it is the entry's first fault
   pub fault : f ≢ OutOfMemory → EntryFault r.key r.val r.depth r.cost (unknown_cost r) old.left bytes f
@@ -133,21 +139,22 @@ pub record RefusesEntry {K V : Type 0} (r : Rules K V) (old : State K V) (bytes 
   pub spent : SpendsOnEntry r old.left bytes f new.left
 
 -- no tag of number n and of wire type LengthDelimited begins the bytes, and f is why; what is left follows the tag that is
--- there, or what is none
+-- there, or the varint that is no tag, or the first ten bytes where none is there
 abbrev pub RefusesTag : ℕ → List ℕ → List ℕ → DecodeError → Type 0
 RefusesTag n bytes tail f =
     (TagFault bytes f × (tail ≡ past_no_tag bytes))
     ⊎ ((g : ℕ) × (w : WireType) × TakesTag bytes g w tail
     × (((g ≢ n) × (f ≡ UnexpectedField g)) ⊎ ((g ≡ n) × (w ≢ LengthDelimited) × (f ≡ WireTypeMismatch n LengthDelimited w))))
 
--- The records in front were read, as a run of their own; what follows them was refused, and f is why.
+-- The records in front were read, as a run of their own; what follows them was refused, and f is why. The tail is what is left
+-- unread of the bytes.
 pub record RefusesRun {K V : Type 0} (r : Rules K V) (old : State K V) (bytes : List ℕ) (new : State K V) (tail : List ℕ) (f : DecodeError) : Type 0 where
   pub front : List ℕ
   pub rest : List ℕ
   -- the bytes are two parts, of which the second has a byte at least
   pub split : bytes ≡ front ++ rest
   pub some : rest ≢ []
-  -- the first was read, and this was the state then
+  -- the first was read, and `now` was the state behind it
   pub now : State K V
   pub read : ReadsRun r old front now []
   -- no tag of the field begins the second, and the state stands; or one does, and the entry behind it was refused
@@ -192,11 +199,16 @@ kept_of_entry r entry says = if r.keeps_undeclared then undeclared_record r.numb
 pub record MergesEntry {K V : Type 0} (r : Rules K V) (old : State K V) (bytes : List ℕ) (new : State K V) (rest : List ℕ) : Type 0 where
   pub says : MapEntry K V
   pub entry : List ℕ
+  -- a length and the entry, which says so, begin the bytes
   pub read : EntryOf r.key r.val r.depth bytes entry says rest
+  -- each key finds in the new pairs what it finds in the old ones with the entry, if it is declared, put into them
   pub put : SamePairs r.same (step r.same old.pairs says) new.pairs
+  -- where the map keeps the order in which keys came, the new pairs are that very list
   pub order : InOrder r.keeps_order (step r.same old.pairs says) new.pairs
+  -- an undeclared entry follows the old records, where it is kept
   pub keeps : new.records ≡ old.records ++ kept_of_entry r entry says
-  pub pays : Pays old.left (plus (need_of r.key r.val r.depth r.cost entry) (unknown_fields (cond says.known 0 (unknown_cost r)))) new.left
+  -- exactly what the entry needs is spent, and an unknown field, where it is kept
+  pub pays : Pays old.left (plus (need_of r.key r.val r.depth r.cost entry) (unknown_fields (if says.known then 0 else unknown_cost r))) new.left
 
 -- the entry e was merged, or refused, wherever a length and e begin the bytes
 abbrev pub MergesWhole : {K V : Type 0} → Rules K V → State K V → List ℕ → State K V → Type 0

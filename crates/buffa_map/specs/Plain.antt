@@ -1,5 +1,5 @@
 -- What the promises of entries come to where no payload is a message.
-use Rattle.std.specs.Prelude.{◌≡◌, ◌≢◌, ℕ, ◌+◌, ◌<◌, ◌≤◌, Bool, false, List, cond, ◌⊎◌}
+use Rattle.std.specs.Prelude.{◌≡◌, ◌≢◌, ℕ, ◌+◌, ◌<◌, ◌≤◌, Bool, false, List, if◌then◌else◌, ◌⊎◌}
 use Rattle.buffa_bytes.specs.Field.{LengthFault, TakesDelimited}
 use Rattle.buffa_wire.specs.BudgetLeft.{BudgetLeft}
 use Rattle.buffa_bytes.specs.declared.error.DecodeError.{DecodeError}
@@ -23,7 +23,7 @@ module _ {K V : Type 0} (r : Rules K V) (old : State K V) (bytes : List ℕ) whe
   abbrev pub MergesExactly : State K V → List ℕ → Type 0
   MergesExactly new rest =
       (m : MergesEntry r old bytes new rest) →
-      (new.left.memory + r.cost ≡ old.left.memory) × (new.left.unknown + cond m.says.known 0 (unknown_cost r) ≡ old.left.unknown)
+      (new.left.memory + r.cost ≡ old.left.memory) × (new.left.unknown + (if m.says.known then 0 else unknown_cost r) ≡ old.left.unknown)
 
   -- A refused one spends its cost or nothing. A fault is the first; it spends the cost where the entry was there and
   -- the units were, and no unknown field.
@@ -33,7 +33,7 @@ module _ {K V : Type 0} (r : Rules K V) (old : State K V) (bytes : List ℕ) whe
     pub charged : f ≢ OutOfMemory → (e rest : List ℕ) → TakesDelimited bytes e rest → r.cost ≤ old.left.memory → new.left.memory + r.cost ≡ old.left.memory
     pub most : new.left.unknown ≤ old.left.unknown
     pub least : old.left.unknown ≤ new.left.unknown + unknown_cost r
-    pub no_unknown : f ≢ OutOfMemory → new.left.unknown ≡ old.left.unknown
+    pub no_keeping : f ≢ OutOfMemory → new.left.unknown ≡ old.left.unknown
 
 -- entries under these rules are exact
 abbrev pub IsExact : {K V : Type 0} → Rules K V → Type 0

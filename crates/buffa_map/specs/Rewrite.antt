@@ -1,5 +1,5 @@
 -- Rewrites: an older reader, of one enum, reads a run, and writes the map and behind it the entries that it doesn't
--- know. And when that means to a newer reader, whose enum declares more, what the run means; why one was refused.
+-- know. Besides: when a rewrite means to a newer reader, whose enum declares more, what the run means; and why one was refused.
 use Rattle.std.specs.Prelude.{◌≡◌, ◌≢◌, ◌+◌, ◌<◌, ◌≤◌, length, ℕ, Bool, true, ◌&&◌, not, List, [], ◌∷◌, ◌++◌, ◌⊎◌, Option, None, Some, IfSome, OnOk, Result, MatchResult}
 use Rattle.std.specs.List.{filter}
 use Rattle.buffa_wire.specs.BudgetLeft.{BudgetLeft}
@@ -98,12 +98,14 @@ pub record WritesWalk {K V : Type 0} (eq : K → K → Bool) (Walks : List (K ×
 -- ---- what a rewrite does
 
 -- The bytes are a run, which was read into an empty map, and what is undeclared in it into an empty list. Behind what stood in
--- the sink is its rewrite, by a walk that the map has; and room for no more than that was used.
+-- the sink is its rewrite, by a walk that the map has; and room for no more than that was used. Of the sink, `old` is what stood in
+-- it and `written` what stands in it now, and it had room for `before` bytes and has room for `after`.
 pub record RewritesRun {K V : Type 0} (r : Rules K V) (key : Writing K) (val : Writing V) (KeyFits : K → Type 0) (ValFits : V → Type 0) (Walks : List (K × V) → Type 0) (left : BudgetLeft) (bytes : List ℕ) (new : List (K × V)) (left_after : BudgetLeft) (rest : List ℕ) (old written : List ℕ) (before after : ℕ) : Type 0 where
   pub kept : List (ℕ × Datum)
   pub read : ReadsRun r (state [] [] left) bytes (state new kept left_after) rest
   pub out : List ℕ
   pub rewrite : IsRewrite r.same key val KeyFits ValFits r.number read.entries out
+  -- rewrite.0 is the list by whose order the pairs are written
   pub walks : Walks rewrite.0
   pub encoding : written ≡ old ++ out
   pub ordered : r.keeps_order ≡ true → out ≡ field_encoding key val r.number (fold_entries r.same [] read.entries) ++ records_encoding (undeclared_records r.number read.entries)

@@ -1,5 +1,5 @@
 -- Runs of map records, and what they mean. Source: the protobuf encoding guide, "Maps".
-use Rattle.std.specs.Prelude.{◌≡◌, ◌≢◌, ℕ, ◌+◌, ◌*◌, Bool, true, List, [], ◌∷◌, ◌++◌, length, map, cond, ◌⊎◌}
+use Rattle.std.specs.Prelude.{◌≡◌, ◌≢◌, ℕ, ◌+◌, ◌*◌, Bool, true, List, [], ◌∷◌, ◌++◌, length, map, if◌then◌else◌, ◌⊎◌}
 use Rattle.buffa_bytes.specs.Varint.{IsVarint}
 use Rattle.buffa_bytes.specs.Field.{IsTag, TakesTag, TagFault}
 use Rattle.buffa_bytes.specs.declared.wire_type.WireType.{WireType}
@@ -14,19 +14,20 @@ use Rattle.buffa_map.specs.EntryReading.{blanks, need_at}
 use Rattle.buffa_map.specs.Pairs.{put}
 use Rattle.buffa_map.specs.declared.map_entry.MapEntry.{MapEntry}
 
--- an entry of a run, and what it says
+-- an entry of a run: its bytes, without the tag and the length in front of them, and what it says
 pub record EntryRecord (K V : Type 0) : Type 0 where
   pub bytes : List ℕ
   pub parts : MapEntry K V
 
--- the bytes of the entries that are undeclared, in order
+-- the bytes of the entries that are undeclared, in order: those whose last value field has a number that its closed enum doesn't
+-- declare
 abbrev pub undeclared : {K V : Type 0} → List (EntryRecord K V) → List (List ℕ)
 undeclared [] = []
-undeclared (x ∷ xs) = cond x.parts.known (undeclared xs) (x.bytes ∷ undeclared xs)
+undeclared (x ∷ xs) = if x.parts.known then undeclared xs else (x.bytes ∷ undeclared xs)
 
 -- the record of an entry of a field of number n, if it is undeclared
 abbrev pub undeclared_record : ℕ → List ℕ → Bool → List (ℕ × Datum)
-undeclared_record n e known = cond known [] ((n, bytes e) ∷ [])
+undeclared_record n e known = if known then [] else ((n, bytes e) ∷ [])
 
 -- the undeclared entries as length-delimited records of number n
 abbrev pub undeclared_records : {K V : Type 0} → ℕ → List (EntryRecord K V) → List (ℕ × Datum)
@@ -38,16 +39,16 @@ pair_entry p = record { key = p.0; value = p.1; known = true }
 
 module _ {K V : Type 0} (key : Reading K) (val : Reading V) (d : ℕ) where
   -- what the messages in these entries cost
-  abbrev pub inner_needs : List (EntryRecord K V) → BudgetLeft
-  inner_needs [] = nothing
-  inner_needs (x ∷ xs) = plus (need_at key val d (blanks key val d) x.bytes) (inner_needs xs)
+  abbrev pub cost_inside : List (EntryRecord K V) → BudgetLeft
+  cost_inside [] = nothing
+  cost_inside (x ∷ xs) = plus (need_at key val d (blanks key val d) x.bytes) (cost_inside xs)
 
   -- left_after is what is left of left after these entries, each of which costs some units of element memory and what the
   -- messages in it cost, and each one that is undeclared some of the unknown fields left
   abbrev pub ArePaid : ℕ → ℕ → BudgetLeft → List (EntryRecord K V) → BudgetLeft → Type 0
   ArePaid cost unknown_cost left es left_after =
-      (left_after.memory + (length es * cost + (inner_needs es).memory) ≡ left.memory)
-      × (left_after.unknown + (length (undeclared es) * unknown_cost + (inner_needs es).unknown) ≡ left.unknown)
+      (left_after.memory + (length es * cost + (cost_inside es).memory) ≡ left.memory)
+      × (left_after.unknown + (length (undeclared es) * unknown_cost + (cost_inside es).unknown) ≡ left.unknown)
 
 module _ {K V : Type 0} (key : Reading K) (val : Reading V) (d n : ℕ) where
   -- r is a tag of number n, a length, and the entry x of that length
@@ -80,7 +81,7 @@ module _ {K V : Type 0} (key : Reading K) (val : Reading V) (d n : ℕ) where
 module _ {K V : Type 0} (eq : K → K → Bool) where
   -- the pairs after an entry that said s: a declared one is put
   abbrev pub step : List (K × V) → MapEntry K V → List (K × V)
-  step m s = cond s.known (put eq m s.key s.value) m
+  step m s = if s.known then put eq m s.key s.value else m
 
   -- the pairs after the entries, in order
   abbrev pub fold_entries : List (K × V) → List (EntryRecord K V) → List (K × V)

@@ -1,5 +1,6 @@
--- What the bytes of a run are read as: the same as the relations of `Run` say, by functions.
-use Rattle.std.specs.Prelude.{ℕ, ◌+◌, ◌-◌, nat_lt, ◌==◌, ◌&&◌, ◌||◌, not, Bool, List, [], ◌∷◌, ◌++◌, cond, if◌then◌else◌, Result, Ok, Err}
+-- What the bytes of a run are read as: the same as the relations of `Run` say, by functions. The law `runs_are_read` says that the
+-- two agree.
+use Rattle.std.specs.Prelude.{ℕ, ◌+◌, ◌-◌, nat_lt, ◌==◌, ◌&&◌, ◌||◌, not, Bool, List, [], ◌∷◌, ◌++◌, if◌then◌else◌, Result, Ok, Err}
 use Rattle.buffa_bytes.specs.Front.{tag_at, check_wire, delimited_at, ◌>>=◌}
 use Rattle.buffa_bytes.specs.Scan.{parse_all}
 use Rattle.buffa_bytes.specs.declared.wire_type.WireType.TheVariants.{LengthDelimited}
@@ -29,7 +30,7 @@ module _ {K V : Type 0} (key : Reading K) (val : Reading V) (d : ℕ) where
   abbrev pub after_entry : ℕ → ℕ → BudgetLeft → EntryRecord K V → BudgetLeft
   after_entry cost unknown_cost left x =
       let need : BudgetLeft = need_of key val d cost x.bytes in
-      record { unknown = left.unknown - (need.unknown + cond x.parts.known 0 unknown_cost); memory = left.memory - need.memory }
+      record { unknown = left.unknown - (need.unknown + (if x.parts.known then 0 else unknown_cost)); memory = left.memory - need.memory }
 
 module _ {K V : Type 0} (key : Reading K) (val : Reading V) (d n : ℕ) where
   -- what the record at the front is read as

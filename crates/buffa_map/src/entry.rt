@@ -189,8 +189,10 @@ pub(crate) fn merge_entry_by<
 /// # Errors
 /// The first of these, in this order: the faults of the length's varint; [`DecodeError::UnexpectedEof`]
 /// where the length passes what is left; [`DecodeError::ElementMemoryLimitExceeded`] where the units
-/// aren't left; the first fault of the entry's fields. Or [`DecodeError::OutOfMemory`]. The map is as it
-/// was then; units that were charged stay spent.
+/// aren't left; the first fault of the entry's fields. Or [`DecodeError::OutOfMemory`]. A fault inside a
+/// message may be told as another error, but as no limit's; and where the units are left, but not what
+/// the messages in the entry need besides, the error may be any, but out of memory only where merging
+/// takes memory. The map is as it was then; units that were charged stay spent.
 ///
 /// Source: the protobuf encoding guide, "Maps".
 ///
@@ -209,8 +211,8 @@ pub fn merge_entry<
         (rules (KC.reading, KC.COST) (VC.reading, VC.COST) (C.equal, C.keeps_order) ctx.entry.depth 0 false)
         (state (C.pairs map.old) [] ctx.entry.budget.now) (B.unread buf.old)
         (state (C.pairs map.new) [] (budget_left ctx.exit)) (B.unread buf.new)) }
-    // Refused: the error is the entry's first fault, or memory ran out, and the map is as it was. Inside a message the error may
-    // be another, as `read_map_field` says.
+    // Refused: the error is the entry's first fault, or memory ran out, and the map is as it was. `RefusesEntry` says what is left
+    // open where messages are in the entry.
     ensures err { IfErr result (RefusesEntry
         (rules (KC.reading, KC.COST) (VC.reading, VC.COST) (C.equal, C.keeps_order) ctx.entry.depth 0 false)
         (state (C.pairs map.old) [] ctx.entry.budget.now) (B.unread buf.old)
@@ -262,12 +264,12 @@ pub fn merge_entry_with_unknowns<
         (rules (KC.reading, KC.COST) (VC.reading, VC.COST) (C.equal, C.keeps_order) ctx.entry.depth number (is_some unknown.entry))
         (state (C.pairs map.old) (records_before unknown.entry) ctx.entry.budget.now) (B.unread buf.old)
         (state (C.pairs map.new) (records_after unknown.exit) (budget_left ctx.exit)) (B.unread buf.new)) }
-    // Refused: the error is its first fault, or memory ran out, as `merge_entry` says, and map and list are as they were.
+    // Refused: the error is its first fault, or memory ran out, as `RefusesEntry` says, and map and list are as they were.
     ensures err { IfErr result (RefusesEntry
         (rules (KC.reading, KC.COST) (VC.reading, VC.COST) (C.equal, C.keeps_order) ctx.entry.depth number (is_some unknown.entry))
         (state (C.pairs map.old) (records_before unknown.entry) ctx.entry.budget.now) (B.unread buf.old)
         (state (C.pairs map.new) (records_after unknown.exit) (budget_left ctx.exit)) (B.unread buf.new)) }
-    // The list doesn't shrink, and what lies behind the end of a limited buffer stays there.
+    // The list can hold no fewer records than before without new memory; what lies behind the end of a limited buffer stays.
     ensures room { capacity_before unknown.entry ≤ capacity_after unknown.exit }
     ensures kept { B.beyond buf.new ≡ B.beyond buf.old }
 {

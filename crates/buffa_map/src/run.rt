@@ -1,4 +1,4 @@
-//! A run of map records.
+//! A run of map records. `docs/CONTRACTS.md` reads the contract of [`read_map_field`] aloud.
 
 ghost use Rattle.std.specs.Prelude.{◌≡◌, ◌+◌, ◌≤◌, IfErr, OnOk, is_some};
 ghost use Rattle.buffa_wire.specs.BudgetLeft.{budget_left};
@@ -60,9 +60,10 @@ pub fn read_run_by<
 
 /// Merges the records of a map field, to the end of the buffer, into the map.
 ///
-/// An entry with a value that is undeclared is appended to the list, if one is passed, as a
-/// length-delimited record of the field's `number`, byte for byte, and takes one of the
-/// unknown fields left; without a list it is dropped, and takes none.
+/// An entry is undeclared if its value is a number that its closed enum doesn't declare. Such an
+/// entry is appended to the list, if one is passed, as a length-delimited record of the field's
+/// `number`, byte for byte, and takes one of the unknown fields left; without a list it is dropped,
+/// and takes none.
 ///
 /// # Errors
 /// The first fault of a record, in this order: of its tag; [`DecodeError::UnexpectedField`] for another
@@ -93,9 +94,9 @@ pub fn read_map_field<
         (rules (KC.reading, KC.COST) (VC.reading, VC.COST) (C.equal, C.keeps_order) ctx.entry.depth number (is_some unknown.entry))
         (state (C.pairs map.old) (records_before unknown.entry) ctx.entry.budget.now) (B.unread buf.old)
         (state (C.pairs map.new) (records_after unknown.exit) (budget_left ctx.exit)) (B.unread buf.new)) }
-    // Refused: the same of the records in front of the refused one. The error is that one's first fault, or memory ran out. Of
-    // a fault inside a message any error may be told that is no limit's, and any where its units are left, and not what its
-    // messages need besides.
+    // Refused: the records in front were read as above, and the refused one puts and keeps nothing. The error is its first fault,
+    // or memory ran out where merging it takes memory. `RefusesEntry` says what is left open of the error and of what is spent,
+    // all of it in messages or where memory ran out.
     ensures err { IfErr result (RefusesRun
         (rules (KC.reading, KC.COST) (VC.reading, VC.COST) (C.equal, C.keeps_order) ctx.entry.depth number (is_some unknown.entry))
         (state (C.pairs map.old) (records_before unknown.entry) ctx.entry.budget.now) (B.unread buf.old)

@@ -30,7 +30,7 @@ ghost use Rattle.buffa_map.specs.Merge.{MergesEntry, ReadsRun, RefusesEntry, Ref
 ghost use Rattle.buffa_map.specs.MessageField.{IsFieldWritten, IsSmallField, field_slots};
 ghost use Rattle.buffa_map.specs.Pairs.{ListsOnce, SamePairs, put};
 ghost use Rattle.buffa_map.specs.Rewrite.{RefusesEncoding, RewritesRun, rewrite_error_text};
-ghost use Rattle.buffa_map.specs.Run.{ArePaid, EntryRecord, Run, RunFault, fold_entries, inner_needs, undeclared};
+ghost use Rattle.buffa_map.specs.Run.{ArePaid, EntryRecord, Run, RunFault, fold_entries, cost_inside, undeclared};
 ghost use Rattle.buffa_map.specs.Run.{undeclared_record};
 ghost use Rattle.buffa_map.specs.Scalars.{delimited_writing, int32_reading, int32_writing, text_reading, text_writing};
 ghost use Rattle.buffa_map.specs.Enums.{closed_writing};
@@ -167,13 +167,13 @@ pub fn runs_are_these<KC: MapValueDecode, VC: MapValueDecode>()
         × (bs ≡ r ++ rest) × Run KC.reading VC.reading d n rest xs) }
     ensures paid { (d cost more : ℕ) (left after : BudgetLeft) (xs : List (EntryRecord KC.Value.Meaning VC.Value.Meaning)) →
         ArePaid KC.reading VC.reading d cost more left xs after
-        ↔ ((after.memory + (length xs * cost + (inner_needs KC.reading VC.reading d xs).memory) ≡ left.memory)
-        × (after.unknown + (length (undeclared xs) * more + (inner_needs KC.reading VC.reading d xs).unknown)
+        ↔ ((after.memory + (length xs * cost + (cost_inside KC.reading VC.reading d xs).memory) ≡ left.memory)
+        × (after.unknown + (length (undeclared xs) * more + (cost_inside KC.reading VC.reading d xs).unknown)
         ≡ left.unknown)) }
-    ensures no_needs { (d : ℕ) → inner_needs KC.reading VC.reading d [] ≡ nothing }
+    ensures no_needs { (d : ℕ) → cost_inside KC.reading VC.reading d [] ≡ nothing }
     ensures needs { (d : ℕ) (x : EntryRecord KC.Value.Meaning VC.Value.Meaning)
-        (xs : List (EntryRecord KC.Value.Meaning VC.Value.Meaning)) → inner_needs KC.reading VC.reading d (x ∷ xs)
-        ≡ plus (need_of KC.reading VC.reading d 0 x.bytes) (inner_needs KC.reading VC.reading d xs) }
+        (xs : List (EntryRecord KC.Value.Meaning VC.Value.Meaning)) → cost_inside KC.reading VC.reading d (x ∷ xs)
+        ≡ plus (need_of KC.reading VC.reading d 0 x.bytes) (cost_inside KC.reading VC.reading d xs) }
 {}
 
 /// Why bytes are no run: behind some records, which are paid, comes no tag, or one of another number or wire type; or an entry that is

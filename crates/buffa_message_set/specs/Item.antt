@@ -200,12 +200,6 @@ item_size id len = 4 + length (varint_encoding id) + length (varint_encoding len
 
 -- ---- laws
 
--- an Item begins bytes in one way: no Item is a proper beginning of another
-abbrev pub OneItem : Type 0
-OneItem =
-    (d : ℕ) (a b x y m o : List ℕ) (n k : ℕ) →
-    Item d a n m → Item d b k o → a ++ x ≡ b ++ y → (a ≡ b) × (n ≡ k) × (m ≡ o)
-
 -- the encoding of an Item, without its start tag, is that Item
 abbrev pub WrittenIsItem : Type 0
 WrittenIsItem = (d id : ℕ) (msg : List ℕ) → IsTypeId id → length msg < 2 ^ 64 → Item d (body_encoding id msg) id msg

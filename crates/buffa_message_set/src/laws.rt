@@ -11,7 +11,7 @@ ghost use Rattle.buffa_bytes.specs.Values.{delimited_encoding, tag_encoding};
 ghost use Rattle.buffa_bytes.specs.Varint.{IsVarint, VarintFault, varint_encoding};
 ghost use Rattle.buffa_bytes.specs.declared.wire_type.WireType.{WireType};
 ghost use Rattle.buffa_wire.specs.BudgetLeft.{BudgetLeft, IsLimit};
-ghost use Rattle.buffa_message_set.specs.Item.{GroupsAreReadAlike, HasMessage, IsTypeId, Item, ItemFault, ItemsAreGroups, NoOtherFront, OneItem, Reaches, SpendsUnknown};
+ghost use Rattle.buffa_message_set.specs.Item.{GroupsAreReadAlike, HasMessage, IsTypeId, Item, ItemFault, ItemsAreGroups, NoOtherFront, Reaches, SpendsUnknown};
 ghost use Rattle.buffa_message_set.specs.Item.{TakesItem, WrittenIsItem, body_encoding, item_at, item_encoding, item_in, said};
 ghost use Rattle.buffa_message_set.specs.Pinned.{ItemIsPinned, WrittenItemIsPinned};
 
@@ -124,7 +124,8 @@ pub fn items_take_memory_so()
 
 /// No Item is a proper beginning of another, and bytes are an Item in one way.
 pub fn no_item_begins_another()
-    ensures { OneItem }
+    ensures { (d : ℕ) (a b x y m o : List ℕ) (n k : ℕ) → Item d a n m → Item d b k o → a ++ x ≡ b ++ y
+        → (a ≡ b) × (n ≡ k) × (m ≡ o) }
 {}
 
 /// An Item is a group of number 1, one level deeper than its fields are passed over, and whether such a group is an

@@ -1,5 +1,5 @@
 -- A refused merge leaves one value and one budget, memory aside.
-use Rattle.std.proofs.Common.{◌≡◌, inl, inr, ℕ, List, [], ◌++◌, Option, Some, None, Ok, refl, sym, ap, subst, ◌∙◌, arith, append_assoc}
+use Rattle.std.proofs.Common.{◌≡◌, ◌≢◌, inl, inr, ℕ, List, [], ◌++◌, Option, Some, None, Ok, refl, sym, ap, subst, ◌∙◌, arith, append_assoc}
 use Rattle.std.specs.Option.{option_and_then}
 use Rattle.std.proofs.lemmas.List.{append_cancel_left}
 use Rattle.buffa_bytes.proofs.FieldLemmas.{one_field, tag_complete}
@@ -9,6 +9,7 @@ use Rattle.buffa_bytes.specs.Join.Join.{none, more}
 use Rattle.buffa_bytes.specs.Front.{tag_at}
 use Rattle.buffa_bytes.specs.declared.wire_type.WireType.{WireType}
 use Rattle.buffa_bytes.specs.declared.error.DecodeError.{DecodeError}
+use Rattle.buffa_bytes.specs.declared.error.DecodeError.TheVariants.{OutOfMemory}
 use Rattle.buffa_bytes.proofs.SequenceLemmas.{err_same, ok_same}
 use Rattle.buffa_wire.proofs.SpentLemmas.{same_left}
 use Rattle.buffa_wire.specs.BudgetLeft.{BudgetLeft, Lacks, Pays, plus}
@@ -16,7 +17,7 @@ use Rattle.buffa_wire.specs.Records.{Datum}
 use Rattle.buffa_wire.proofs.CostLemmas.{field_alone}
 use Rattle.buffa_wire.specs.ByField.{value_of}
 use Rattle.buffa_wire.proofs.ByFieldLemmas.{Same, refused}
-use Rattle.sample_set_msg.specs.Set.{IsSetFieldRefused, NextIsRefused, StopIsPinned, record_of_field, set_cost, set_field, set_merged, set_need}
+use Rattle.sample_set_msg.specs.Set.{IsSetFieldRefused, NextIsRefused, StopsBehind, record_of_field, set_cost, set_field, set_merged, set_need}
 use Rattle.sample_set_msg.specs.SetFacts.{set_same, set_sound, set_stays}
 use Rattle.sample_set_msg.proofs.MergeLemmas.{by_payloads}
 use Rattle.buffa_wire.proofs.ByPayloadLemmas.{cost_empty, cost_next, merged_empty, merged_next}
@@ -119,7 +120,8 @@ one_fault d v bs left e f (inr (n, w, after, tag, why)) (inl b) = let bad = sym 
 one_fault d v bs left e f (inr (n, w, after, tag, why)) (inr (m, u, behind_tag, also, because)) =
     err_same (sym why.1 ∙ ap (λ z. record_of_field d left.unknown z.0 z.1 z.2) (ok_same (sym tag ∙ also)) ∙ because.1)
 
-pub stop_is_pinned : StopIsPinned
+pub stop_is_pinned : (d : ℕ) (old a b : List (ℕ × Datum)) (bs : List ℕ) (before x y : BudgetLeft) (e f : DecodeError) →
+    StopsBehind d old bs before e a x → StopsBehind d old bs before f b y → e ≢ OutOfMemory → f ≢ OutOfMemory → (a ≡ b) × (x ≡ y) × (e ≡ f)
 stop_is_pinned d old a b bs before x y e h (f, r, j, is, some, ma, px, na, fa) (g, s, k, is2, some2, mb, py, nb, fb) ne nh =
     let same = one_front d f g j k r s old a b before x y e h (sym is ∙ is2) ma mb px py (na ne) (nb nh) in
     let value : a ≡ b = same_Some _ _ (sym ma ∙ ap (set_merged d old) same ∙ mb) in

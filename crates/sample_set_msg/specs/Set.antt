@@ -83,10 +83,6 @@ abbrev pub AreItems : List (ℕ × Datum) → Type 0
 AreItems [] = Unit {0}
 AreItems (r ∷ rs) = IsItem r.0 r.1 × AreItems rs
 
--- they nest one level deep, and none of them none
-abbrev pub NestOneDeep : Type 0
-NestOneDeep = (v : List (ℕ × Datum)) → AreItems v → ((v ≡ []) × (set_levels v ≡ 0)) ⊎ ((v ≢ []) × (set_levels v ≡ 1))
-
 -- ---- calls
 
 -- the record of the field whose tag was read, where so many unknown fields are left; how many are left then; and what
@@ -127,9 +123,3 @@ StopsBehind d old bs before e new after =
     (front : List ℕ) × (rest : List ℕ) × Join (SomeField d) front × (bs ≡ front ++ rest) × (0 < length rest)
     × (set_merged d old front ≡ Some new) × Pays before (set_cost d front) after
     × (e ≢ OutOfMemory → NextIsRefused d new rest after e) × (e ≡ OutOfMemory → BeginsField rest)
-
--- so one value stands after a refusal, one budget is left, and one fault is told, unless memory ran out
-abbrev pub StopIsPinned : Type 0
-StopIsPinned =
-    (d : ℕ) (old a b : List (ℕ × Datum)) (bs : List ℕ) (before x y : BudgetLeft) (e f : DecodeError) →
-    StopsBehind d old bs before e a x → StopsBehind d old bs before f b y → e ≢ OutOfMemory → f ≢ OutOfMemory → (a ≡ b) × (x ≡ y) × (e ≡ f)

@@ -1,5 +1,5 @@
 -- What a MessageSet owes as a message.
-use Rattle.std.proofs.Common.{◌≡◌, inl, inr, ℕ, zero, suc, ◌<◌, ◌≤◌, ◌^◌, max, Bool, true, false, List, [], ◌∷◌, ◌++◌, length, Some, Result, Ok, refl, sym, ap, subst, ◌∙◌, arith, append_assoc, append-nil, if◌then◌else◌}
+use Rattle.std.proofs.Common.{◌≡◌, ◌≢◌, ◌⊎◌, inl, inr, ℕ, zero, suc, ◌<◌, ◌≤◌, ◌^◌, max, Bool, true, false, List, [], ◌∷◌, ◌++◌, length, Some, Result, Ok, refl, sym, ap, subst, ◌∙◌, arith, append_assoc, append-nil, if◌then◌else◌}
 use Rattle.buffa_bytes.proofs.StepLemmas.{Agrees, agree_bind, agree_if, agree_weaker}
 use Rattle.buffa_bytes.proofs.VarintLemmas.{IsVarint-varint_encoding}
 use Rattle.buffa_bytes.specs.Field.{Group, IsTag, Payload}
@@ -20,7 +20,7 @@ use Rattle.buffa_wire.proofs.TakesLemmas.{framed_same, framed_sound}
 use Rattle.buffa_wire.proofs.ByFieldLemmas.{IsSame, IsSound, Same, empty, read}
 use Rattle.buffa_fields.specs.Keep.{keep_takes}
 use Rattle.buffa_wire.proofs.KeepLemmas.{keep_stays}
-use Rattle.sample_set_msg.specs.Set.{AreItems, NestOneDeep, encoded_record, is_type_id, item_field, item_record, set_record_encoding, set_field, set_levels, set_merged, set_need, set_records, set_encoding, starts}
+use Rattle.sample_set_msg.specs.Set.{AreItems, encoded_record, is_type_id, item_field, item_record, set_record_encoding, set_field, set_levels, set_merged, set_need, set_records, set_encoding, starts}
 
 -- ---- one field
 item_sound : (d : ℕ) (v : List (ℕ × Datum)) (bs : List ℕ) → Agrees (item_field d v bs) (λ x. (p : List ℕ) × Payload d 1 StartGroup p × (bs ≡ p ++ x.1)) NoLimit
@@ -144,7 +144,7 @@ at_most_one ((n, fixed32 x) ∷ ys) h = absurd h.0
 at_most_one ((n, fixed64 x) ∷ ys) h = absurd h.0
 at_most_one ((n, group x) ∷ ys) h = absurd h.0
 
-pub nest_one_deep : NestOneDeep
+pub nest_one_deep : (v : List (ℕ × Datum)) → AreItems v → ((v ≡ []) × (set_levels v ≡ 0)) ⊎ ((v ≢ []) × (set_levels v ≡ 1))
 nest_one_deep [] h = inl (refl, refl)
 nest_one_deep ((n, bytes b) ∷ ys) h =
     let one_deep : max (datum_height (item_record n b).1) (set_levels ys) ≡ 1 = omega (arith, at_most_one ys h.1) in

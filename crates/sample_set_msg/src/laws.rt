@@ -18,8 +18,8 @@ ghost use Rattle.buffa_wire.specs.Message.{BeginsField, MergeFault};
 ghost use Rattle.buffa_wire.specs.RecordReading.{field_at};
 ghost use Rattle.buffa_wire.specs.Records.{Datum, Records, bytes, fixed32, fixed64, group, height, no_records, one, varint};
 ghost use Rattle.buffa_wire.specs.Takes.{framed};
-ghost use Rattle.sample_set_msg.specs.Set.{AreItems, IsSetRefused, NestOneDeep, is_type_id, set_cost, set_field, set_levels, set_merged, set_need, set_records};
-ghost use Rattle.sample_set_msg.specs.Set.{NextIsRefused, StopIsPinned, StopsBehind, TakesSetField, record_of_field, set_encoding};
+ghost use Rattle.sample_set_msg.specs.Set.{AreItems, IsSetRefused, is_type_id, set_cost, set_field, set_levels, set_merged, set_need, set_records};
+ghost use Rattle.sample_set_msg.specs.Set.{NextIsRefused, StopsBehind, TakesSetField, record_of_field, set_encoding};
 
 use crate::set_msg::SetMsg;
 use buffa_ext::ExtensionSet;
@@ -105,7 +105,7 @@ pub fn sets_are_read_back()
         × (AreItems ((n, fixed32 x) ∷ rs) → ⊥) × (AreItems ((n, fixed64 x) ∷ rs) → ⊥)
         × (AreItems ((n, group qs) ∷ rs) → ⊥) }
     ensures levels { ⟦<SetMsg as MessageSpec>⟧.levels ≡ set_levels }
-    ensures deep { NestOneDeep }
+    ensures deep { (v : List (ℕ × Datum)) → AreItems v → ((v ≡ []) × (set_levels v ≡ 0)) ⊎ ((v ≢ []) × (set_levels v ≡ 1)) }
 {}
 
 /// Which record is read of a field, where so many unknown fields are left, or which fault is told. An Item is read a level
@@ -160,5 +160,7 @@ pub fn stops_in_sets_are_these()
 /// A refused merge leaves one value and one budget, and returns one fault: the fields before the refused one are merged,
 /// and paid for. Open is where memory runs out.
 pub fn refused_sets_are_pinned()
-    ensures { StopIsPinned }
+    ensures { (d : ℕ) (v : List (ℕ × Datum)) (bs : List ℕ) (b : BudgetLeft) (e f : DecodeError)
+        (u w : List (ℕ × Datum)) (a c : BudgetLeft) → StopsBehind d v bs b e u a → StopsBehind d v bs b f w c
+        → e ≢ OutOfMemory → f ≢ OutOfMemory → (u ≡ w) × (a ≡ c) × (e ≡ f) }
 {}

@@ -12,7 +12,7 @@ use Rattle.buffa_map.specs.Laws.{OneReading}
 use Rattle.buffa_map.specs.Merge.{ReadsRun, State, RefusesRun, state}
 use Rattle.buffa_map.proofs.ReaderRules.{keeping}
 use Rattle.buffa_map.specs.Rewrite.{MatchRefusal, RefusesDecoding, RefusesEncoding, RewritesRun}
-use Rattle.buffa_map.specs.Run.{EntryRecord, ArePaid, RecordFault, Run, inner_needs}
+use Rattle.buffa_map.specs.Run.{EntryRecord, ArePaid, RecordFault, Run, cost_inside}
 use Rattle.buffa_map.specs.declared.rewrite.RewriteError.{RewriteError}
 use Rattle.buffa_map.specs.declared.rewrite.RewriteError.TheVariants.{Decode, Encode}
 use Rattle.buffa_map.proofs.StopLemmas.{broken}
@@ -107,8 +107,8 @@ module _ {K V : Type 0} (key : Reading K) (val : Reading V) (d n cost extra : �
   pub stop_is_limit : OneReading key val → (left over : BudgetLeft) (out rest : List ℕ) (gs es : List (EntryRecord K V)) (f : DecodeError) → Run key val d n out gs →
       ((front : List ℕ) × (out ≡ front ++ rest) × Run key val d n front es × ArePaid key val d cost extra left es over) → rest ≢ [] → RecordFault key val d n cost extra over rest f → IsLimit f
   stop_is_limit one left over out rest gs es f run begins some fault =
-      let a = inner_needs key val d gs in
-      let b = inner_needs key val d es in
+      let a = cost_inside key val d gs in
+      let b = cost_inside key val d es in
       let both : BudgetLeft = plus a b in
       elim (record_limit over a rest f fault) [
         | inl l ↦ l

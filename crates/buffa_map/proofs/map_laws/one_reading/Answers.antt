@@ -1,6 +1,6 @@
 use Rattle.std.proofs.Common.{◌∙◌, sym, ap}
 use Rattle.buffa_wire.specs.BudgetLeft.{BudgetLeft, plus}
-use Rattle.buffa_map.specs.Run.{inner_needs}
+use Rattle.buffa_map.specs.Run.{cost_inside}
 use Rattle.buffa_bytes.proofs.SequenceLemmas.{ok_same, ok_no_err}
 use Rattle.buffa_map.proofs.RunLemmas.{run_complete, run_faulty}
 use Rattle.std.proofs.Common.{arith}
@@ -18,8 +18,8 @@ returns g c = record {
       let val = g.VC.MapValueDecode.reading in
       let key_free = g.met.KC.MapValueDecode.free in
       let val_free = g.met.VC.MapValueDecode.free in
-      let a = inner_needs key val d es in
-      let b = inner_needs key val d fs in
+      let a = cost_inside key val d es in
+      let b = cost_inside key val d fs in
       let both : BudgetLeft = plus a b in
       ap (λ z. z.0) (ok_same (sym (run_complete key val d n 0 0 key_free val_free both bs es b h (omega arith, omega arith)) ∙ run_complete key val d n 0 0 key_free val_free both bs fs a k (omega arith, omega arith)));
   run_or_fault = λ d n cost extra left over bs es f h paid k.
