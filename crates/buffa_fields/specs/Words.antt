@@ -61,7 +61,7 @@ module _ {X : Type 0} (w : Words X) where
   abbrev pub AreExactBy : Type 0
   AreExactBy = AreExactLevels w.merged encoding_by w.records w.normal w.levels
 
-  -- ---- a list of them
+  -- ---- a list of them: each payload is merged into a default message, which is put behind the others
   abbrev pub list_shape : Shape (List X) (List X)
   list_shape = record {
     whole = true;

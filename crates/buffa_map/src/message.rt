@@ -13,7 +13,8 @@ use buffa_wire::{Buf, DecodeContext, DecodeError, Message, WireType};
 use std::alloc::Global;
 use std::marker::PhantomData;
 
-/// A message: a length and so many bytes, which are merged into the value that is there, one level down.
+/// A message: a length and so many bytes, which are merged into the value that is there, one level down. In an entry that is the
+/// entry's own value, blank at first, and not the map's.
 ///
 /// ```ignore
 /// read_map_field::<Int32, Msg<TestMsg>, _, _>(alloc, &mut map, 5, &mut rest, ctx, None)?;

@@ -160,7 +160,7 @@ abbrev pub item_step : ℕ → Said → Result (ℕ × WireType × List ℕ) Dec
 item_step d s (Ok t) = if ends_item t.0 t.1 then ends (ended s.type_id s.message t.2) else parsed (item_field_at d s t.0 t.1 t.2)
 item_step d s (Err e) = ends (Err e)
 
--- the Item, where s was said already
+-- The Item, where s was said already. The scan itself never answers: where no byte is left, `tag_at` has the fault.
 unfoldable pub item_from : ℕ → Said → List ℕ → Result (ℕ × List ℕ × List ℕ) DecodeError
 item_from d s bs = scan (λ t rest. item_step d t (tag_at rest)) (Err UnexpectedEof) s bs
 
