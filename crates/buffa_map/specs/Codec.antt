@@ -13,8 +13,8 @@ use Rattle.buffa_map.specs.declared.codec.MapValueDecodeStatus.TheVariants.{Know
 -- How a codec reads: what a value starts with, the wire type of its payloads, and at a depth what a content
 -- makes of the value that stood: the new value, and whether the content is a declared one; or the fault.
 -- Payloads are plain, or they are nested: messages, of which each opens a level, costs something, and leaves open
--- which fault it has inside. Where they are plain they cost nothing beyond the COST of the codec. No fault that a reading has is a limit's. Some payloads may
--- hold a value that is undeclared. Reading some takes memory, which may run out.
+-- which fault it has inside. Some payloads may hold a value that is undeclared. Reading some takes memory, which may run out. The
+-- trait of codecs adds that plain payloads cost nothing beyond the codec's COST, and that no fault that a reading has is a limit's.
 pub record Reading (V : Type 0) : Type 0 where
   pub blank : V
   pub wire : WireType

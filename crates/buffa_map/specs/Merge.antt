@@ -2,9 +2,10 @@
 -- entry that is refused, and at the end the list that may be passed, and one entry alone.
 --
 -- Read `p × q` as "p and q", `p ⊎ q` as "p or q", `p → ⊥` as "not p", `(x : A) × p` as "there is an x such that p", and `(x : A) → p`
--- as "for every x, p". A record holds where all its parts do. In a clause, `x.old` and `x.new` are what x holds at the call and at
--- the return, and `x.entry` and `x.exit` the same of a parameter that holds a `&mut`, or may be one. `B.unread` is the bytes that a
--- buffer has left, `B.beyond` those behind its limits, and `C.pairs` what a map holds, in some order.
+-- as "for every x, p". A record holds where all its parts do. `OnOk r P` says that P, if r is `Ok`; `IfErr r P` says `P f`, if r is
+-- `Err f`; and `lookup_entry` finds the pair of a key. In a clause, `x.old` and `x.new` are what x holds at the call and at the
+-- return, and `x.entry` and `x.exit` the same of a parameter that holds a `&mut`, or may be one. `B.unread` is the bytes that a
+-- buffer has left, `B.beyond` those behind the limits of the buffers that were lent, and `C.pairs` what a map holds, in some order.
 use Rattle.std.specs.Prelude.{ℕ, ◌+◌, length, List, [], Option, None, Some, ◌≡◌, ◌≢◌, ◌<◌, ◌≤◌, Bool, ◌++◌, ◌⊎◌, if◌then◌else◌, true}
 use Rattle.std.proofs.Common.{inl, inr}
 use Rattle.buffa_wire.specs.Records.{Datum, Held}
@@ -86,8 +87,8 @@ pub record ReadsRun {K V : Type 0} (r : Rules K V) (old : State K V) (bytes : Li
 
 -- Memory may run out while an entry is merged only where a length and so many bytes, the entry, are there, and then in one of two
 -- cases. One: the entry has bytes, undeclared entries are kept, and the value's codec may give an undeclared value; then the entry
--- may be copied before it is read. Two: its units are left, and a field of it takes memory; or it is whole, and is put into the
--- map; or it is whole, and is kept, for which an unknown field is left beyond what its messages need.
+-- may be copied before it is read. Two: its units are left, and besides one of these holds: a field of it takes memory; it is whole,
+-- and is put into the map; it is whole, and is kept, for which an unknown field is left beyond what its messages need.
 abbrev pub EntryTakesMemory : {K V : Type 0} → Rules K V → BudgetLeft → List ℕ → Type 0
 EntryTakesMemory {K} {V} r left bs =
     (e : List ℕ) × (rest : List ℕ) × TakesDelimited bs e rest
@@ -104,7 +105,7 @@ pub record LeavesEntry (bytes : List ℕ) (f : DecodeError) (unread : List ℕ) 
   pub past : f ≢ OutOfMemory → (e rest : List ℕ) → TakesDelimited bytes e rest → unread ≡ rest
   -- where the entry was there, no less than what follows it
   pub within : (e rest : List ℕ) → TakesDelimited bytes e rest → IsTailOf rest unread
-  -- where no length and so many bytes were there, what follows the length, or the first ten bytes where no length was
+  -- where no length and so many bytes were there, what follows the length, or what follows the first ten bytes where no length was
   pub nothing_there : ((e rest : List ℕ) → TakesDelimited bytes e rest → ⊥) → unread ≡ past_no_delimited bytes
 
 -- what a refused entry spends of a budget
@@ -117,11 +118,11 @@ pub record SpendsOnEntry {K V : Type 0} (r : Rules K V) (left : BudgetLeft) (byt
   pub charged : f ≢ OutOfMemory → (e rest : List ℕ) → TakesDelimited bytes e rest → r.cost ≤ left.memory → left_after.memory + r.cost ≤ left.memory
   -- nothing, where no length and so many bytes were there
   pub unspent : ((e rest : List ℕ) → TakesDelimited bytes e rest → ⊥) → left_after ≡ left
-  -- of the unknown fields no more are left than before
+  -- of the unknown fields at most those are left that were
   pub most : left_after.unknown ≤ left.unknown
-  -- and at most the one that keeps the entry is spent, and what the messages in it cost
+  -- and at least those without the one that keeps the entry, and without what the messages in it cost
   pub least : left.unknown ≤ left_after.unknown + (unknown_cost r + (inner_need r.key r.val r.depth bytes).unknown)
-  -- the one that keeps the entry only where memory ran out
+  -- the one that keeps the entry is gone only where memory ran out
   pub no_keeping : f ≢ OutOfMemory → left.unknown ≤ left_after.unknown + (inner_need r.key r.val r.depth bytes).unknown
 
 -- The entry at the front was refused, and f is why. A fault inside a message may be told as any error that is no limit's. Where
@@ -139,7 +140,7 @@ pub record RefusesEntry {K V : Type 0} (r : Rules K V) (old : State K V) (bytes 
   pub spent : SpendsOnEntry r old.left bytes f new.left
 
 -- no tag of number n and of wire type LengthDelimited begins the bytes, and f is why; what is left follows the tag that is
--- there, or the varint that is no tag, or the first ten bytes where none is there
+-- there, or the varint that is no tag, or the first ten bytes where no varint is there
 abbrev pub RefusesTag : ℕ → List ℕ → List ℕ → DecodeError → Type 0
 RefusesTag n bytes tail f =
     (TagFault bytes f × (tail ≡ past_no_tag bytes))

@@ -14,13 +14,14 @@ use Rattle.buffa_map.specs.EntryReading.{blanks, need_at}
 use Rattle.buffa_map.specs.Pairs.{put}
 use Rattle.buffa_map.specs.declared.map_entry.MapEntry.{MapEntry}
 
--- an entry of a run: its bytes, without the tag and the length in front of them, and what it says
+-- an entry of a run: its bytes, without the tag and the length in front of them; and what it says, which is its key, its value, and
+-- whether its last value field held a declared value (`known`)
 pub record EntryRecord (K V : Type 0) : Type 0 where
   pub bytes : List ℕ
   pub parts : MapEntry K V
 
 -- the bytes of the entries that are undeclared, in order: those whose last value field has a number that its closed enum doesn't
--- declare
+-- declare, and which so aren't known
 abbrev pub undeclared : {K V : Type 0} → List (EntryRecord K V) → List (List ℕ)
 undeclared [] = []
 undeclared (x ∷ xs) = if x.parts.known then undeclared xs else (x.bytes ∷ undeclared xs)

@@ -95,8 +95,8 @@ pub fn read_map_field<
         (state (C.pairs map.old) (records_before unknown.entry) ctx.entry.budget.now) (B.unread buf.old)
         (state (C.pairs map.new) (records_after unknown.exit) (budget_left ctx.exit)) (B.unread buf.new)) }
     // Refused: the records in front were read as above, and the refused one puts and keeps nothing. The error is its first fault,
-    // or memory ran out where merging it takes memory. `RefusesEntry` says what is left open of the error and of what is spent,
-    // all of it in messages or where memory ran out.
+    // or memory ran out where merging it takes memory. `RefusesEntry` says what is left open of the error, of what is spent and of
+    // what is unread: all of it in messages, or where memory ran out.
     ensures err { IfErr result (RefusesRun
         (rules (KC.reading, KC.COST) (VC.reading, VC.COST) (C.equal, C.keeps_order) ctx.entry.depth number (is_some unknown.entry))
         (state (C.pairs map.old) (records_before unknown.entry) ctx.entry.budget.now) (B.unread buf.old)
