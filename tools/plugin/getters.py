@@ -1,4 +1,6 @@
 """A getter for each member with a declared default: what the member holds, or the default where nothing is there."""
+import struct
+
 from google.protobuf.descriptor_pb2 import FieldDescriptorProto as Field
 
 import knots
@@ -6,6 +8,7 @@ from files import clean
 
 ESCAPES = {"n": 10, "r": 13, "t": 9, '"': 34, "'": 39, "\\": 92}
 TEXTS = (Field.TYPE_STRING, Field.TYPE_BYTES)
+REALS = (Field.TYPE_FLOAT, Field.TYPE_DOUBLE)
 
 
 def unescaped(text):
@@ -60,6 +63,17 @@ def scalar(member):
     return str(number), f"({word} {number if number >= 0 else -number - 1})", {word}
 
 
+def bits(member):
+    """The default of a real number as its bits, as protoc has it: the nearest double, and for a float the nearest float to that."""
+    number = float(member.it.default_value)
+    if member.it.type == Field.TYPE_DOUBLE:
+        return struct.unpack("<Q", struct.pack("<d", number))[0]
+    try:
+        return struct.unpack("<I", struct.pack("<f", number))[0]
+    except OverflowError:
+        return 0x7F800000 if number > 0 else 0xFF800000
+
+
 def variant(member, enums):
     """The default of an enum: its type, and the value."""
     full = member.it.type_name.lstrip(".")
@@ -98,6 +112,8 @@ def words(message, enums):
         if member.it.type in TEXTS:
             found |= in_contract(codes_of(member))[1] | (set() if message.holds_itself else {"option_map"})
             found |= {"string_bytes"} if is_text(member) and not message.holds_itself else set()
+        elif member.it.type in REALS:
+            found |= set() if message.holds_itself else {"option_map"}
         elif member.it.type == Field.TYPE_ENUM and message.holds_itself:
             found |= {"pos" if number_of(member, enums) >= 0 else "negsuc"}
         elif member.it.type != Field.TYPE_ENUM:
@@ -124,13 +140,23 @@ def text_getter(member, held):
     return "&str" if is_string else "&[u8]", clause, body
 
 
+def real_getter(member, held):
+    """A getter of a real number: its type, its clause, and the lines of its body."""
+    rust, number = member.rust[len("Option<") : -1], bits(member)
+    # As rt fmt lays it out: on one line up to 18 letters between the braces.
+    held_bits = f"bits: {number}"
+    default = [f"    None => {rust} {{ {held_bits} }},"] if len(held_bits) <= 18 else [f"    None => {rust} {{", f"        {held_bits},", "    },"]
+    body = [f"match &self.{member.name} {{", "    Some(it) => *it,", *default, "}"]
+    return rust, f"result.bits ≡ unwrap_or {held} {number}", body
+
+
 def held_by(message, member, at):
     """What a message, which contracts call `at`, has for a member."""
     if message.holds_itself:
         return f"(rest_of {at}){knots.at(message, member)}"
     held = f"{at}.{member.in_contract}"
-    part = "string_bytes" if is_text(member) else "(λ it. it.items)"
-    return f"(option_map {part} {held})" if member.it.type in TEXTS else held
+    part = "(λ it. it.bits)" if member.it.type in REALS else "string_bytes" if is_text(member) else "(λ it. it.items)"
+    return f"(option_map {part} {held})" if member.it.type in (*TEXTS, *REALS) else held
 
 
 def getter(message, member, at, enums):
@@ -138,6 +164,8 @@ def getter(message, member, at, enums):
     name, held = member.name, held_by(message, member, at)
     if member.it.type in TEXTS:
         rust, clause, body = text_getter(member, held)
+    elif member.it.type in REALS:
+        rust, clause, body = real_getter(member, held)
     else:
         rust = member.rust[len("Option<") : -1]
         if member.it.type == Field.TYPE_ENUM:

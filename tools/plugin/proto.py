@@ -105,8 +105,7 @@ class Member:
             self.field.refuse("the clause of its default cites the crate that it stands in", "say crate=NAME")
         if "implicit" in self.told and said not in ("0", "false", ""):
             self.field.refuse(f"its default isn't that of its type ({self.default()})", "take implicit= away")
-        is_plain = self.it.type not in REALS and not self.rust.startswith("Option<EnumValue<")
-        has = is_plain and not self.is_case and "implicit" not in self.told and "shared" not in self.told
+        has = not self.rust.startswith("Option<EnumValue<") and not self.is_case and "implicit" not in self.told and "shared" not in self.told
         if not has and "implicit" not in self.told:
             self.world.tell(f"{self.field.at()}: it has no getter for its default ({self.default()})")
         return has

@@ -12,7 +12,7 @@ use Rattle.buffa_map.specs.Run.{EntryRecord}
 use Rattle.buffa_map.specs.declared.rewrite.RewriteError.{RewriteError}
 use Rattle.buffa_map.specs.declared.rewrite.RewriteError.TheVariants as rewriting
 use Rattle.sample_types.specs.Passed.{IsRun, KeepsRun, MeansRun, NotRewritten, Proxy, ReadsRewrite, RunTo, Stopped}
-use Rattle.sample_types.specs.RoundTrip.{FitsTrip, InWalkOrder, RefusesTrip}
+use Rattle.sample_types.specs.RoundTrip.{FitsTrip, RefusesTrip}
 use Rattle.sample_types.specs.declared.round_trip.TripFault.{TripFault}
 use Rattle.sample_types.specs.declared.round_trip.TripFault.TheVariants.{Decode, Encode}
 
@@ -27,7 +27,7 @@ module _ {K V : Type 0} (key : Writing K) (val : Writing V) (cost : ℕ) (eq : K
     (m : List (K × V)) (Walk : List (K × V) → Type 0) where
   pub record TripIsPinned : Type 0 where
     pub same : (a b : List (K × V)) → SamePairs eq m a → SamePairs eq m b → SamePairs eq a b
-    pub order : (a b : List (K × V)) → InWalkOrder keeps Walk a → InWalkOrder keeps Walk b → InOrder keeps a b
+    pub order : (a b : List (K × V)) → ((l : List (K × V)) × Walk l × InOrder keeps l a) → ((l : List (K × V)) × Walk l × InOrder keeps l b) → InOrder keeps a b
     pub refused : (f : TripFault) → FitsTrip key val cost eq m Walk → RefusesTrip key val cost eq m Walk f → IsFull f
     pub faults : (f g : TripFault) → RefusesTrip key val cost eq m Walk f → RefusesTrip key val cost eq m Walk g → (IsFull f → ⊥) → (IsFull g → ⊥) → f ≡ g
 

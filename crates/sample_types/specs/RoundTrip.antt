@@ -1,24 +1,15 @@
 -- Why the pairs of a map may not come back from their bytes.
-use Rattle.std.specs.Prelude.{◌≡◌, ◌≢◌, ◌≤◌, ◌<◌, ◌*◌, ◌^◌, ℕ, Bool, false, List, [], ◌∷◌, ◌++◌, length}
-use Rattle.std.specs.Int.{from_bool}
-use Rattle.buffa_bytes.specs.Scalars.{bool_of}
-use Rattle.buffa_bytes.specs.declared.wire_type.WireType.TheVariants.{Varint}
+use Rattle.std.specs.Prelude.{◌≡◌, ◌≢◌, ◌≤◌, ◌<◌, ◌*◌, ◌^◌, ℕ, Bool, List, [], ◌∷◌, ◌++◌, length}
 use Rattle.buffa_bytes.specs.declared.error.DecodeError.TheVariants as decode
 use Rattle.buffa_bytes.specs.declared.error.EncodeError.TheVariants as encode
 use Rattle.buffa_map.specs.Codec.{Writing}
-use Rattle.buffa_map.specs.Scalars.{number_reading, text_reading, varint_writing}
-use Rattle.buffa_map.specs.Pairs.{InOrder, ListsOnce}
+use Rattle.buffa_map.specs.Pairs.{ListsOnce}
 use Rattle.buffa_map.specs.Merge.{Rules, RefusesRun, state}
 use Rattle.buffa_map.specs.Encoding.{HasEncoding, entry_encoding, field_encoding}
 use Rattle.buffa_bytes.specs.declared.error.DecodeError.{DecodeError}
 use Rattle.buffa_wire.specs.BudgetLeft.{BudgetLeft, units}
-use Rattle.sample_types.specs.Letters.{same_letters}
 use Rattle.sample_types.specs.declared.round_trip.TripFault.{TripFault}
 use Rattle.sample_types.specs.declared.round_trip.TripFault.TheVariants.{Decode, Encode}
-
--- P holds of the pairs of each walk
-abbrev pub EachWalk : {X : Type 0} → (List X → Type 0) → (List X → Type 0) → Type 0
-EachWalk {X} Walk P = (l : List X) → Walk l → P l
 
 module _ {K V : Type 0} (key : Writing K) (val : Writing V) (cost : ℕ) where
   -- The entry of a pair is too long for its length to be a varint; or none is, and the pairs, each of which costs so many
@@ -62,23 +53,3 @@ StopsInField {K} {V} r key val Walk left pairs f =
 -- the same, where the map was written, from the units that a budget starts with
 abbrev pub StopsTrip : {K V : Type 0} → Rules K V → Writing K → Writing V → (List (K × V) → Type 0) → List (K × V) → TripFault → Type 0
 StopsTrip r key val Walk pairs f = IfNotReadBack f (StopsInField r key val Walk (units 268435456) pairs)
-
--- where the order is kept, these are the pairs of some walk, in its order
-abbrev pub InWalkOrder : {X : Type 0} → Bool → (List X → Type 0) → List X → Type 0
-InWalkOrder {X} keeps Walk pairs = (l : List X) × Walk l × InOrder keeps l pairs
-
--- words as keys of flags, in a map whose order is open: how both are read in field 1, and how each is written
-abbrev pub word_rules : Rules (List ℕ) Bool
-word_rules = record {
-  key = text_reading;
-  val = number_reading Varint false bool_of;
-  same = same_letters;
-  keeps_order = false;
-  depth = 0;
-  number = 1;
-  cost = 25;
-  keeps_undeclared = false;
-}
-
-abbrev pub flag_writing : Writing Bool
-flag_writing = varint_writing from_bool

@@ -1,18 +1,19 @@
 //! A map through its bytes and back: whatever the codecs, the storage and the order of its walk.
 
-ghost use Rattle.std.specs.Prelude.{◌≡◌, ◌+◌, [], IfErr, OnOk, IsPermutation, false};
+ghost use Rattle.std.specs.Prelude.{◌≡◌, ◌+◌, [], List, IfErr, OnOk, IsPermutation, false};
 ghost use Rattle.buffa_bytes.specs.Number.{IsNumber};
 ghost use Rattle.buffa_map.specs.Merge.{rules};
-ghost use Rattle.buffa_map.specs.Pairs.{SamePairs};
+ghost use Rattle.buffa_map.specs.Pairs.{InOrder, SamePairs};
 ghost use Rattle.buffa_map.specs.Encoding.{AllHold};
 ghost use Rattle.sample_types.specs.Letters.{same_letters, spelled};
-ghost use Rattle.sample_types.specs.RoundTrip.{EachWalk, FitsTrip, IfUnwritten, InWalkOrder, RefusesTrip, StopsTrip, flag_writing, word_rules};
+ghost use Rattle.sample_types.specs.RoundTrip.{FitsTrip, IfUnwritten, RefusesTrip, StopsTrip};
 ghost use Rattle.buffa_map.specs.Scalars.{text_writing};
 
 use crate::word::Word;
 use buffa_map::laws::{one_reading, plain_entries_need_units, written_is_read};
 use buffa_map::map_codec::{
-    Bool, MapCodec, MapStorage, MapWalk, ProtoStringMap, read_map_field, write_field,
+    Bool, MapCodec, MapStorage, MapValueDecode, MapWalk, ProtoStringMap, read_map_field,
+    write_field,
 };
 use buffa_wire::{Budget, DEFAULT_ELEMENT_MEMORY_LIMIT, DecodeContext, DecodeError, EncodeError};
 use std::alloc::Global;
@@ -54,9 +55,10 @@ where
     VC::Value: 'a,
     requires number { IsNumber number }
     requires empty { C.pairs copy.old ≡ [] }
-    requires normal { EachWalk (C.walks map.now) (AllHold KC.normal VC.normal) }
+    requires normal { (l : List (KC.Value.Meaning × VC.Value.Meaning)) → C.walks map.now l → AllHold KC.normal VC.normal l }
     ensures ok { OnOk result (SamePairs C.equal (C.pairs map.now) (C.pairs copy.new)) }
-    ensures order { OnOk result (InWalkOrder C.keeps_order (C.walks map.now) (C.pairs copy.new)) }
+    ensures order { OnOk result ((l : List (KC.Value.Meaning × VC.Value.Meaning)) × C.walks map.now l
+        × InOrder C.keeps_order l (C.pairs copy.new)) }
     ensures fits { OnOk result (FitsTrip KC.writing VC.writing (KC.COST + VC.COST) C.equal (C.pairs map.now)
         (C.walks map.now)) }
     ensures err { IfErr result (RefusesTrip KC.writing VC.writing (KC.COST + VC.COST) C.equal (C.pairs map.now)
@@ -98,12 +100,13 @@ pub fn words_through_bytes(
 ) -> Result<(), TripFault>
     requires { copy.old.entries ≡ [] }
     ensures ok { OnOk result (SamePairs same_letters (spelled words.now.entries) (spelled copy.new.entries)) }
-    ensures fits { OnOk result (FitsTrip text_writing flag_writing 25 same_letters (spelled words.now.entries)
+    ensures fits { OnOk result (FitsTrip text_writing ⟦<Bool as MapCodec>⟧.writing 25 same_letters (spelled words.now.entries)
         (IsPermutation (spelled words.now.entries))) }
-    ensures err { IfErr result (RefusesTrip text_writing flag_writing 25 same_letters (spelled words.now.entries)
+    ensures err { IfErr result (RefusesTrip text_writing ⟦<Bool as MapCodec>⟧.writing 25 same_letters (spelled words.now.entries)
         (IsPermutation (spelled words.now.entries))) }
     ensures unchanged { IfErr result (λ fault. IfUnwritten fault (copy.new ≡ copy.old)) }
-    ensures stops { IfErr result (StopsTrip word_rules text_writing flag_writing
+    ensures stops { IfErr result (StopsTrip (rules (⟦<ProtoStringMap<Word> as MapValueDecode>⟧.reading, 24)
+        (⟦<Bool as MapValueDecode>⟧.reading, 1) (same_letters, false) 0 1 false) text_writing ⟦<Bool as MapCodec>⟧.writing
         (IsPermutation (spelled words.now.entries)) (spelled copy.new.entries)) }
 {
     through_bytes::<ProtoStringMap<Word>, Bool, HashMap<Word, bool>>(alloc, 1, words, copy)

@@ -8,6 +8,8 @@ mod failure;
 #[cfg(test)]
 mod held;
 #[cfg(test)]
+mod measure;
+#[cfg(test)]
 mod outline;
 #[cfg(test)]
 mod palette;

@@ -1,0 +1,199 @@
+//! buffa.sample.Measure, made of measure.proto by protoc-gen-buffa.
+
+ghost use Rattle.std.proofs.Common.{lit<, refl};
+ghost use Rattle.std.specs.Prelude.{codes, is_some, option_map, string_bytes, unwrap_or, ◌&&◌, ◌≡◌};
+ghost use Rattle.buffa.specs.Members.{field, field_kept, keep};
+
+use crate::spot::Spot;
+use crate::unit::Unit;
+use buffa::fields::{
+    And, And10, Fields, Formed, Keeping, KeptFields, Listed, Listing, MapOf, Member, Nested,
+    Optional, Packed, Repeated, RepeatedNested, Required, Visitor, kept,
+};
+use buffa::map_codec::{ClosedEnum, Double, Float, Int32, Map, Str};
+use buffa::{Blank, DecodeContext, DecodeError, DoubleBits, FloatBits, Tag, UnknownFields};
+use std::alloc::Global;
+use std::string::String;
+
+/// What was measured there.
+///
+/// message Measure {
+///     required string station = 1;
+///     optional double value = 2 [default = 0.25];
+///     optional Unit unit = 3 [default = METRE];
+///     repeated float gusts = 4 [packed = true];
+///     repeated double levels = 5;
+///     map<int32, double> tides = 6;
+///     optional Spot spot = 7;
+///     repeated Spot nearby = 8;
+///     optional string note = 9 [default = "calm"];
+/// }
+///
+/// Read where it isn't there, too, and `is_initialized` says whether it is: station = 1.
+///
+/// `is_initialized` looks into the messages of these: spot = 7, nearby = 8.
+#[derive(Drop)]
+pub struct Measure {
+    pub station: Option<String>,
+    pub value: Option<DoubleBits>,
+    pub unit: Option<Unit>,
+    pub gusts: Vec<FloatBits>,
+    pub levels: Vec<DoubleBits>,
+    pub tides: Map<i32, DoubleBits>,
+    pub spot: Option<Spot>,
+    pub nearby: Vec<Spot>,
+    pub note: Option<String>,
+    /// The fields that aren't declared, in order.
+    pub rest: UnknownFields,
+}
+
+impl Fields for Measure {
+    type Meaning = And10<
+        Option<[u8; 0]>,
+        Option<u64>,
+        Option<i32>,
+        [u32; 0],
+        [u64; 0],
+        [And<i32, u64>; 0],
+        Option<<Spot as Blank>::Meaning>,
+        [<Spot as Blank>::Meaning; 0],
+        Option<[u8; 0]>,
+        KeptFields,
+    >;
+
+    const COST: usize = 384;
+
+    ghost COST = { 384 };
+
+    ghost positive = { lit< tt };
+
+    ghost layout = { field 1 (λ m. m.station) ⟦<Optional<Str> as Member>⟧.shape (
+        field 2 (λ m. m.value) ⟦<Optional<Double> as Member>⟧.shape (
+        field_kept 3 (λ m. m.unit) ⟦<Optional<ClosedEnum<Unit>> as Member>⟧.shape
+        ⟦<Optional<ClosedEnum<Unit>> as Keeping>⟧.aside (
+        field 4 (λ m. m.gusts) ⟦<Packed<Float> as Member>⟧.shape (
+        field 5 (λ m. m.levels) ⟦<Repeated<Double> as Member>⟧.shape (
+        field 6 (λ m. m.tides) ⟦<MapOf<Int32, Double> as Member>⟧.shape (
+        field 7 (λ m. m.spot) ⟦<Nested<Spot> as Member>⟧.shape (
+        field 8 (λ m. m.nearby) ⟦<RepeatedNested<Spot> as Member>⟧.shape (
+        field 9 (λ m. m.note) ⟦<Optional<Str> as Member>⟧.shape (
+        keep (λ m. m.rest.records)))))))))) };
+
+    ghost sound = { refl };
+
+    fn visit<V: Visitor>(&self, visitor: &mut V) {
+        visitor.visit::<Optional<Str>>(1, &self.station);
+        visitor.visit::<Optional<Double>>(2, &self.value);
+        visitor.visit_keeping::<Optional<ClosedEnum<Unit>>>(3, &self.unit);
+        visitor.visit::<Packed<Float>>(4, &self.gusts);
+        visitor.visit::<Repeated<Double>>(5, &self.levels);
+        visitor.visit::<MapOf<Int32, Double>>(6, &self.tides);
+        visitor.visit::<Nested<Spot>>(7, &self.spot);
+        visitor.visit::<RepeatedNested<Spot>>(8, &self.nearby);
+        visitor.visit::<Optional<Str>>(9, &self.note);
+        visitor.visit_kept(&self.rest);
+    }
+
+    fn take(
+        &mut self,
+        alloc: Global,
+        tag: Tag,
+        buf: &mut &[u8],
+        ctx: DecodeContext<'_>,
+    ) -> Result<(), DecodeError> {
+        match tag.field_number() {
+            1 => Optional::<Str>::merge(&mut self.station, alloc, tag, buf, ctx),
+            2 => Optional::<Double>::merge(&mut self.value, alloc, tag, buf, ctx),
+            3 => Optional::<ClosedEnum<Unit>>::merge_kept(
+                &mut self.unit,
+                &mut self.rest,
+                alloc,
+                tag,
+                buf,
+                ctx,
+            ),
+            4 => Packed::<Float>::merge(&mut self.gusts, alloc, tag, buf, ctx),
+            5 => Repeated::<Double>::merge(&mut self.levels, alloc, tag, buf, ctx),
+            6 => MapOf::<Int32, Double>::merge(&mut self.tides, alloc, tag, buf, ctx),
+            7 => Nested::<Spot>::merge(&mut self.spot, alloc, tag, buf, ctx),
+            8 => RepeatedNested::<Spot>::merge(&mut self.nearby, alloc, tag, buf, ctx),
+            9 => Optional::<Str>::merge(&mut self.note, alloc, tag, buf, ctx),
+            _ => kept::keep(alloc, &mut self.rest, tag, buf, ctx),
+        }
+    }
+}
+
+impl Blank for Measure {
+    type Meaning = <Measure as Fields>::Meaning;
+
+    ghost meaning = { ⟦<Measure as Fields>⟧.layout.meaning };
+
+    ghost blank_is = { ⟦<Measure as Fields>⟧.layout.blank };
+
+    fn blank(alloc: Global) -> Measure {
+        Measure {
+            station: None,
+            value: None,
+            unit: None,
+            gusts: Vec::new(alloc),
+            levels: Vec::new(alloc),
+            tides: Map::new(alloc),
+            spot: None,
+            nearby: Vec::new(alloc),
+            note: None,
+            rest: UnknownFields::new(alloc),
+        }
+    }
+}
+
+impl Listing for Measure {
+    ghost means = { λ m. refl };
+
+    ghost starts = { refl };
+}
+
+impl Formed for Measure {
+    type Form = Listed;
+}
+
+impl Required for Measure {
+    ghost initialized = { λ m. is_some m.station && ⟦<Option<Spot> as Required>⟧.initialized m.spot &&
+        ⟦<Vec<Spot> as Required>⟧.initialized m.nearby };
+
+    fn is_initialized(&self) -> bool {
+        self.station.is_some() & self.spot.is_initialized() & self.nearby.is_initialized()
+    }
+}
+
+impl Measure {
+    ghost use Rattle.sample_measure.specs.declared.unit.Unit.TheVariants.{Metre};
+
+    /// `value`, or its default where it isn't there: 0.25.
+    pub fn value(&self) -> DoubleBits
+        ensures is { result.bits ≡ unwrap_or (option_map (λ it. it.bits) self.now.value) 4598175219545276416 }
+    {
+        match &self.value {
+            Some(it) => *it,
+            None => DoubleBits {
+                bits: 4598175219545276416,
+            },
+        }
+    }
+
+    /// `unit`, or its default where it isn't there: METRE.
+    pub fn unit(&self) -> Unit
+        ensures is { result ≡ unwrap_or self.now.unit Metre }
+    {
+        self.unit.unwrap_or(Unit::Metre)
+    }
+
+    /// `note`, or its default where it isn't there: "calm".
+    pub fn note(&self) -> &str
+        ensures is { result.now ≡ unwrap_or (option_map string_bytes self.now.note) (codes "calm") }
+    {
+        match &self.note {
+            Some(it) => it.as_str(),
+            None => "calm",
+        }
+    }
+}

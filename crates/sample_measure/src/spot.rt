@@ -1,0 +1,116 @@
+//! buffa.sample.Spot, made of measure.proto by protoc-gen-buffa.
+
+ghost use Rattle.std.proofs.Common.{lit<, refl};
+ghost use Rattle.std.specs.Prelude.{is_some, option_map, unwrap_or, ◌&&◌, ◌≡◌};
+ghost use Rattle.buffa.specs.Members.{field, keep};
+
+use buffa::fields::{
+    And4, Fields, Formed, KeptFields, Listed, Listing, Member, Optional, Required, Visitor, kept,
+};
+use buffa::map_codec::Float;
+use buffa::{Blank, DecodeContext, DecodeError, FloatBits, Tag, UnknownFields};
+use std::alloc::Global;
+
+/// Where a station stands.
+///
+/// message Spot {
+///     required float latitude = 1;
+///     required float longitude = 2;
+///     optional float height = 3 [default = -1.5];
+/// }
+///
+/// Read where it isn't there, too, and `is_initialized` says whether it is: latitude = 1, longitude = 2.
+#[derive(Drop)]
+pub struct Spot {
+    pub latitude: Option<FloatBits>,
+    pub longitude: Option<FloatBits>,
+    pub height: Option<FloatBits>,
+    /// The fields that aren't declared, in order.
+    pub rest: UnknownFields,
+}
+
+impl Fields for Spot {
+    type Meaning = And4<Option<u32>, Option<u32>, Option<u32>, KeptFields>;
+
+    const COST: usize = 72;
+
+    ghost COST = { 72 };
+
+    ghost positive = { lit< tt };
+
+    ghost layout = { field 1 (λ m. m.latitude) ⟦<Optional<Float> as Member>⟧.shape (
+        field 2 (λ m. m.longitude) ⟦<Optional<Float> as Member>⟧.shape (
+        field 3 (λ m. m.height) ⟦<Optional<Float> as Member>⟧.shape (
+        keep (λ m. m.rest.records)))) };
+
+    ghost sound = { refl };
+
+    fn visit<V: Visitor>(&self, visitor: &mut V) {
+        visitor.visit::<Optional<Float>>(1, &self.latitude);
+        visitor.visit::<Optional<Float>>(2, &self.longitude);
+        visitor.visit::<Optional<Float>>(3, &self.height);
+        visitor.visit_kept(&self.rest);
+    }
+
+    fn take(
+        &mut self,
+        alloc: Global,
+        tag: Tag,
+        buf: &mut &[u8],
+        ctx: DecodeContext<'_>,
+    ) -> Result<(), DecodeError> {
+        match tag.field_number() {
+            1 => Optional::<Float>::merge(&mut self.latitude, alloc, tag, buf, ctx),
+            2 => Optional::<Float>::merge(&mut self.longitude, alloc, tag, buf, ctx),
+            3 => Optional::<Float>::merge(&mut self.height, alloc, tag, buf, ctx),
+            _ => kept::keep(alloc, &mut self.rest, tag, buf, ctx),
+        }
+    }
+}
+
+impl Blank for Spot {
+    type Meaning = <Spot as Fields>::Meaning;
+
+    ghost meaning = { ⟦<Spot as Fields>⟧.layout.meaning };
+
+    ghost blank_is = { ⟦<Spot as Fields>⟧.layout.blank };
+
+    fn blank(alloc: Global) -> Spot {
+        Spot {
+            latitude: None,
+            longitude: None,
+            height: None,
+            rest: UnknownFields::new(alloc),
+        }
+    }
+}
+
+impl Listing for Spot {
+    ghost means = { λ m. refl };
+
+    ghost starts = { refl };
+}
+
+impl Formed for Spot {
+    type Form = Listed;
+}
+
+impl Required for Spot {
+    ghost initialized = { λ m. is_some m.latitude && is_some m.longitude };
+
+    fn is_initialized(&self) -> bool {
+        self.latitude.is_some() & self.longitude.is_some()
+    }
+}
+
+impl Spot {
+    /// `height`, or its default where it isn't there: -1.5.
+    pub fn height(&self) -> FloatBits
+        ensures is { result.bits ≡ unwrap_or (option_map (λ it. it.bits) self.now.height) 3217031168 }
+    {
+        match &self.height {
+            Some(it) => *it,
+            None => FloatBits { bits: 3217031168 },
+        }
+    }
+}
