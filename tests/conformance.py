@@ -37,8 +37,8 @@ PROGRAMS = {
 }
 MESSAGES = "flat two count keep tree".split()
 MEMBERS = (
-    "assorted branch depot explicit failure implicit inventory joined ledger load order palette pallet parcel separate settings "
-    "store swatch train wagon"
+    "assorted branch depot explicit failure implicit inventory joined ledger load order palette pallet parcel payment separate "
+    "settings store swatch train transfer wagon"
 ).split()
 
 

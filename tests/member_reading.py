@@ -2,8 +2,10 @@
 
 Written from the encoding guide and from the table of member types in docs/BY_HAND.md: a plain member is written unless it is the
 default, an optional one where it is there; elements of a list come one in a field, or packed; a message that stands is
-merged into, an element of a list and a value of a map is new; a group is its fields and its end tag. Of a closed enum what isn't
-declared goes behind what the message keeps: a number as a field of its own, of a packed list too, an entry of a map as it came.
+merged into, an element of a list and a value of a map is new; a group is its fields and its end tag. A field of a case of a
+oneof sets that case and clears the others; a message is merged into the one that stands, if that is of its case, else into a
+new one; the case that is there is written, also where it is the default. Of a closed enum what isn't declared goes behind what
+the message keeps: a number as a field of its own, of a packed list too, an entry of a map as it came.
 `second_reading.py` judges rows on them by it.
 """
 from rules import (
@@ -21,7 +23,7 @@ NUMBERS = (
 CLOSED = ("old", "new")
 
 # The defaults of members that start out as no value of their kind.
-STARTS = (("optional group", lambda _: None), ("repeated packed groups", lambda _: ()), ("map ordered", lambda _: {}))
+STARTS = (("optional group case", lambda _: None), ("repeated packed groups", lambda _: ()), ("map ordered", lambda _: {}))
 
 # A map keeps the order in which its keys came; an ordered one is walked in the order of its keys.
 MAPS = ("map", "ordered")
@@ -54,7 +56,7 @@ def sifted(kind, number, buf, budget, kept):
 
 class ByMembers:
     """A type of messages: its members by their numbers, each with how it stands and of which kind it is. They are written in
-    this order."""
+    this order. Members that are each a `case` are those of one oneof, of which one is there at most."""
 
     def __init__(self, members, keeps=False):
         self.members, self.keeps = members, keeps
@@ -73,11 +75,15 @@ class ByMembers:
                 return *parts, kept + aside
             if own == number:
                 parts[at] = self.part(how, kind, parts[at], buf, number, wire, depth, budget)
-                return *parts, kept
+                return *(self.alone(at, parts) if how == "case" else parts), kept
         if self.keeps:
             return *parts, kept + kept_field(buf, number, wire, depth, budget)
         skip(buf, number, wire, depth)
         return message
+
+    def alone(self, at, parts):
+        """The parts where the case at a place has been read, which clears the others."""
+        return [None if how == "case" and it != at else parts[it] for it, (_, how, _) in enumerate(self.members)]
 
     def closed_part(self, how, kind, old, buf, number, wire, depth, budget):
         """A member of a closed enum, and what is kept of its field; what is refused spends no unknown field."""
@@ -118,7 +124,7 @@ class ByMembers:
             budget.take_units(KINDS[kind][1])
         if depth == 0:
             raise Fault("RecursionLimitExceeded")
-        found = old if how in ("optional", "group") and old is not None else blank(kind)
+        found = old if how in ("optional", "group", "case") and old is not None else blank(kind)
         if own == DELIMITED:
             found = merge(kind, found, buf.take(buf.varint()), depth - 1, budget)
         else:
@@ -134,7 +140,7 @@ class ByMembers:
             if how == "packed":
                 yield tag_encoding(number, DELIMITED) + delimited(b"".join(payload(kind, it) for it in part)) if part else b""
                 continue
-            there = [part] * (part is not None and (how in ("optional", "group") or part != blank(kind)))
+            there = [part] * (part is not None and (how in ("optional", "group", "case") or part != blank(kind)))
             for one in part if how in ("repeated", "groups") else there:
                 if how in ("group", "groups"):
                     yield tag_encoding(number, START) + message_text(kind, one) + tag_encoding(number, END)
@@ -217,3 +223,7 @@ declare("palette", 256, [
 declare("branch", 96, [(1, "plain", "string"), (2, "repeated", "int32"), (3, "repeated", "branch")], True)
 declare("settings", 96, [(1, "plain", "string"), (2, "ordered", ("string", "settings")), (3, "repeated", "int32")], True)
 declare("failure", 80, [(1, "plain", "string"), (2, "optional", "failure"), (3, "repeated", "int32")], True)
+declare("transfer", 56, [(1, "plain", "string"), (2, "plain", "int32")], True)
+declare("payment", 128, [
+    (1, "plain", "int32"), (2, "case", "string"), (3, "case", "int32"), (4, "case", "transfer"), (5, "plain", "string"),
+], True)
