@@ -3,11 +3,13 @@
 mod branches;
 mod failures;
 mod lists;
+mod payments;
 mod settings;
 mod words;
 
 use crate::members::branches::Branches;
 use crate::members::failures::Failures;
+use crate::members::payments::Payments;
 use crate::members::settings::Sections;
 use conformance_calls::messages::parted;
 use conformance_rows::calls::StorageName;
@@ -30,6 +32,8 @@ use sample_inventory::train::Train;
 use sample_inventory::wagon::Wagon;
 use sample_palette::palette::Palette;
 use sample_palette::swatch::Swatch;
+use sample_payment::payment::Payment;
+use sample_payment::transfer::Transfer;
 use sample_settings::settings::Settings;
 use std::alloc::Global;
 
@@ -56,10 +60,12 @@ pub fn on_members(
         "palette" => parted::<Members, Palette>(alloc, case, storage, mark, bytes),
         "pallet" => parted::<Members, Pallet>(alloc, case, storage, mark, bytes),
         "parcel" => parted::<Members, Parcel>(alloc, case, storage, mark, bytes),
+        "payment" => parted::<Payments<()>, Payment>(alloc, case, storage, mark, bytes),
         "settings" => parted::<Sections<()>, Settings>(alloc, case, storage, mark, bytes),
         "store" => parted::<Members, Store>(alloc, case, storage, mark, bytes),
         "swatch" => parted::<Members, Swatch>(alloc, case, storage, mark, bytes),
         "train" => parted::<Members, Train>(alloc, case, storage, mark, bytes),
+        "transfer" => parted::<Payments<()>, Transfer>(alloc, case, storage, mark, bytes),
         "wagon" => parted::<Members, Wagon>(alloc, case, storage, mark, bytes),
         _ => Err(Fault::Form),
     }
