@@ -22,7 +22,7 @@ using google::protobuf::Message;
 
 static const std::set<std::string> KEEPING = {"Assorted", "Beam", "Branch", "Explicit", "Failure", "Frame",
                                               "Inventory", "Joined", "Ledger", "Load", "Palette", "Patch",
-                                              "Settings", "Swatch", "Wagon"};
+                                              "Payment", "Settings", "Swatch", "Transfer", "Wagon"};
 static const std::set<std::string> IN_ORDER = {"axles", "balances", "berths", "ordered", "pages", "seals", "sections"};
 
 static std::string bytes_of(const std::string& hex) {

@@ -21,8 +21,9 @@ STRICT, *LOOSE = ((HERE / name).read_text(encoding="ascii") for name in PROTOS)
 TEXT = "".join([STRICT, *LOOSE])
 GROUP = re.compile(r"group (\w+) = (\d+) {(.*?)}", re.DOTALL)
 GROUPS = {name: body for name, _, body in GROUP.findall(TEXT)}
-# The messages; a group in one is a member of its own type.
-MESSAGES = dict(re.findall(r"message (\w+) {(.*?)}", GROUP.sub(r"\1 it = \2;", TEXT), re.DOTALL))
+ONEOF = re.compile(r"oneof \w+ {(.*?)}", re.DOTALL)
+# The messages; a group in one is a member of its own type, and so is each case of a oneof.
+MESSAGES = dict(re.findall(r"message (\w+) {(.*?)}", ONEOF.sub(r"\1", GROUP.sub(r"\1 it = \2;", TEXT)), re.DOTALL))
 MEMBER = re.compile(r"(?:(optional|repeated) )?(?:map<(\w+), (\w+)>|(\w+)) \w+ = (\d+)(?: \[(?:packed|(default)) = \w+\])?;")
 # The types, of each its members: how often one stands, the kind of a key, the kind of a value, the number. One with a
 # default is there or isn't, but is asked of no field that is its default.
@@ -52,8 +53,12 @@ KNOWN = Types(
 # Types with maps that are written in the order of their keys.
 IN_ORDER = {"Ledger", "Wagon", "Palette", "Settings"}
 
-# Types that hold themselves. They are drawn last, in this order, so that what is drawn of the others stays.
-LAST = ["Branch", "Settings", "Failure"]
+# Types with a oneof.
+WITH_CASES = {"Payment"}
+
+# Types that hold themselves, and then the one with a oneof, behind the type of one of its cases. They are drawn last, in this
+# order, so that what is drawn of the others stays.
+LAST = ["Branch", "Settings", "Failure", "Transfer", "Payment"]
 
 
 def wire(kind):
@@ -144,11 +149,21 @@ def many_entries(kind):
         yield b"".join(fields)
 
 
+def many_cases(kind):
+    """Messages with some fields of the cases of a oneof, between others, and beginnings of them."""
+    for _ in range(16):
+        text = b"".join(one_field(kind, 1) for _ in range(DRAW.randrange(4, 9)))
+        yield text
+        yield text[: DRAW.randrange(len(text))]
+
+
 def inputs(kind):
     members = [b"", *all_members(kind)]
     if kind in IN_ORDER:
         members += many_entries(kind)
     members += at_random(20 if kind in ("Wagon", *LAST) else 9, lambda: one_field(kind, 4 if kind in LAST else 2))
+    if kind in WITH_CASES:
+        members += many_cases(kind)
     return [(kind.lower(), it.hex()) for it in members]
 
 
