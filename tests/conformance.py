@@ -37,8 +37,8 @@ PROGRAMS = {
 }
 MESSAGES = "flat two count keep tree".split()
 MEMBERS = (
-    "assorted branch depot explicit failure implicit inventory joined ledger load order palette pallet parcel payment separate "
-    "settings store swatch train transfer wagon"
+    "assorted branch depot explicit failure implicit inventory joined ledger load measure order palette pallet parcel payment "
+    "separate settings spot store swatch train transfer wagon"
 ).split()
 
 

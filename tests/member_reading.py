@@ -6,21 +6,18 @@ merged into, an element of a list and a value of a map is new; a group is its fi
 oneof sets that case and clears the others; a message is merged into the one that stands, if that is of its case, else into a
 new one; the case that is there is written, also where it is the default. Of a closed enum what isn't declared goes behind what
 the message keeps: a number as a field of its own, of a packed list too, an entry of a map as it came.
+A required member is read as an optional one: its message is whole where it is there, in the messages of its members too.
 `second_reading.py` judges rows on them by it.
 """
 from rules import (
-    BLANKS, BY_MEMBERS, DECLARED, DELIMITED, END, KINDS, MESSAGES, START, VARINT, Bytes, Fault, blank, delimited, field_encoding,
-    kept_field, merge, merge_entry, merge_field, message_text, mismatch, payload, signed, skip, tag_encoding, value,
+    BLANKS, BY_MEMBERS, CLOSED, DECLARED, DELIMITED, END, KINDS, MESSAGES, START, VARINT, Bytes, Fault, blank, delimited,
+    field_encoding, kept_field, merge, merge_entry, merge_field, message_text, mismatch, payload, signed, skip, tag_encoding, value,
     varint_encoding, word,
 )
 
 NUMBERS = (
     "int32", "int64", "uint32", "uint64", "sint32", "sint64", "bool", "fixed32", "fixed64", "sfixed32", "sfixed64",
 )
-
-
-# Closed enums.
-CLOSED = ("old", "new")
 
 # The defaults of members that start out as no value of their kind.
 STARTS = (("optional group case", lambda _: None), ("repeated packed groups", lambda _: ()), ("map ordered", lambda _: {}))
@@ -56,10 +53,11 @@ def sifted(kind, number, buf, budget, kept):
 
 class ByMembers:
     """A type of messages: its members by their numbers, each with how it stands and of which kind it is. They are written in
-    this order. Members that are each a `case` are those of one oneof, of which one is there at most."""
+    this order. Members that are each a `case` are those of one oneof, of which one is there at most. Some numbers may be required,
+    and some have defaults, which a call says where the member isn't there."""
 
-    def __init__(self, members, keeps=False):
-        self.members, self.keeps = members, keeps
+    def __init__(self, members, keeps=False, required=(), defaults=None):
+        self.members, self.keeps, self.required, self.defaults = members, keeps, required, defaults or {}
 
     def blank(self):
         """The members' defaults, then what is kept."""
@@ -151,16 +149,32 @@ class ByMembers:
     def text(self, message):
         return b"".join(self.texts(message)) + message[-1]
 
-    def slots(self, message):
-        """The slots of the messages in a message: of each the length of its encoding, then its own slots."""
-        found = []
+    def held(self, message):
+        """The messages in a message, each behind its type."""
         for (_, how, kind), part in zip(self.members, message):
             inner = kind[1] if how in MAPS else kind
             if inner in MESSAGES:
                 whole = [it for _, it in walked(how, part)] if how in MAPS else part
-                held = whole if how in (*MAPS, "repeated", "groups") else [part] * (part is not None)
-                found += [it for one in held for it in [len(message_text(inner, one)), *BY_MEMBERS[inner].slots(one)]]
+                for one in whole if how in (*MAPS, "repeated", "groups") else [part] * (part is not None):
+                    yield inner, one
+
+    def slots(self, message):
+        """The slots of the messages in a message: of each the length of its encoding, then its own slots."""
+        found = []
+        for inner, one in self.held(message):
+            found += [len(message_text(inner, one)), *BY_MEMBERS[inner].slots(one)]
         return found
+
+    def is_whole(self, message):
+        """Whether all that is required is there, in the messages of the members too."""
+        lacking = [number for (number, _, _), part in zip(self.members, message) if number in self.required and part is None]
+        return not lacking and all(BY_MEMBERS[inner].is_whole(one) for inner, one in self.held(message))
+
+    def said(self, message):
+        """What the calls of the members with defaults say."""
+        for (number, _, kind), part in zip(self.members, message):
+            if number in self.defaults:
+                yield word(kind, self.defaults[number] if part is None else part)
 
     def word(self, message):
         words = []
@@ -171,12 +185,14 @@ class ByMembers:
                 words.append("[" + ",".join(word(kind, it) for it in part) + "]")
             else:
                 words.append("none" if part is None else word(kind, part))
-        return "(" + "|".join(words + [message[-1].hex()] * self.keeps) + ")"
+        words += [message[-1].hex()] * self.keeps + [*self.said(message)]
+        words += ["whole" if self.is_whole(message) else "lacks"] * bool(self.required)
+        return "(" + "|".join(words) + ")"
 
 
-def declare(kind, cost, members, keeps=False):
+def declare(kind, cost, members, keeps=False, required=(), defaults=None):
     """Declares a type, and what one of its messages costs in units where it is an element."""
-    BY_MEMBERS[kind] = ByMembers(members, keeps)
+    BY_MEMBERS[kind] = ByMembers(members, keeps, required, defaults)
     KINDS[kind] = (DELIMITED, cost)
     MESSAGES.add(kind)
     BLANKS[kind] = BY_MEMBERS[kind].blank()
@@ -227,3 +243,14 @@ declare("transfer", 56, [(1, "plain", "string"), (2, "plain", "int32")], True)
 declare("payment", 128, [
     (1, "plain", "int32"), (2, "case", "string"), (3, "case", "int32"), (4, "case", "transfer"), (5, "plain", "string"),
 ], True)
+
+# The defaults of real numbers are their bits: those of -1.5, and of 0.25.
+declare(
+    "spot", 72, [(1, "optional", "float"), (2, "optional", "float"), (3, "optional", "float")], True,
+    required={1, 2}, defaults={3: 0xBFC00000},
+)
+declare("measure", 384, [
+    (1, "optional", "string"), (2, "optional", "double"), (3, "optional", "unit"), (4, "packed", "float"),
+    (5, "repeated", "double"), (6, "map", ("int32", "double")), (7, "optional", "spot"), (8, "repeated", "spot"),
+    (9, "optional", "string"),
+], True, required={1}, defaults={2: 0x3FD0000000000000, 3: 2, 9: b"calm"})

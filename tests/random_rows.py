@@ -283,7 +283,7 @@ class Maker:
             before, text = self.pick("-", STANDING.get(types, "-")), self.message(types, 3)
             text = self.mutated(self.varint(len(text)) + text if call == "merge-delimited" else text)
         elif call == "payload":
-            types, settings = self.any.choice(sorted(set(KINDS) - set(BY_MEMBERS))), self.settings()
+            types, settings = self.any.choice(sorted(set(KINDS) - set(BY_MEMBERS) - {"unit"})), self.settings()
             before = "-" if types in MESSAGES else '"q"' if types in STRINGS else VALUES.get(types, "6")
             text = self.mutated(self.payload(types) + self.pick(b"", b"", b"\xff"))
         elif call in ("decode", "tag", "equal"):

@@ -14,17 +14,19 @@ KINDS = {
     "string": (DELIMITED, 24), "own-string": (DELIMITED, 24), "word": (DELIMITED, 24), "bytes": (DELIMITED, 24),
     "own-bytes": (DELIMITED, 24), "shared-bytes": (DELIMITED, 32), "flat": (DELIMITED, 4), "two": (DELIMITED, 32),
     "keep": (DELIMITED, 24), "tree": (DELIMITED, 32), "count": (DELIMITED, 8), "node": (DELIMITED, 96),
-    "set": (DELIMITED, 24),
+    "set": (DELIMITED, 24), "unit": (VARINT, 4),
 }
 STRINGS = {"string", "own-string", "word"}
 BYTES = {"bytes", "own-bytes", "shared-bytes"}
 BLANKS = {
     "flat": 0, "two": (0, 0), "keep": b"", "tree": (0, {}), "count": 0, "bool": False, "node": ({}, {}, {}, b""), "set": (),
+    "unit": 1,
 }
 MESSAGES = {"flat", "two", "keep", "tree", "count", "node", "set"}
 # Types of messages that are made of a list of their members, by `member_reading.py`.
 BY_MEMBERS = {}
-DECLARED = {"old": (0, 1), "open": (0, 1), "new": (0, 1, 2)}
+DECLARED = {"old": (0, 1), "open": (0, 1), "new": (0, 1, 2), "unit": (1, 2)}
+CLOSED = ("old", "new", "unit")
 # The map fields of a node; shades are declared as the values of the kind `old` are.
 NODE_MAPS = {1: ("string", "int32"), 2: ("int32", "node"), 3: ("int32", "old")}
 MOST_UNKNOWN, MOST_UNITS, MOST_BYTES, MOST_LEVELS = 1_000_000, 268_435_456, 2**31 - 1, 100
@@ -186,10 +188,10 @@ def value(kind, buf, old):
         number %= 2**32
     if kind[0] == "s":
         return (number >> 1) ^ -(number & 1), True
-    if kind[0] == "u":
+    if kind in ("uint32", "uint64"):
         return number, True
     number = signed(number, 64 if kind == "int64" else 32)
-    is_declared = kind not in ("old", "new") or number in DECLARED[kind]
+    is_declared = kind not in CLOSED or number in DECLARED[kind]
     return number if is_declared else old, is_declared
 
 
