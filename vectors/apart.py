@@ -4,7 +4,10 @@ The makers beside this file ask it of every input. It walks a message as C++ cla
 pass over what ours refuse; a walk ends where no reader goes on.
 """
 VARINT, EIGHT, DELIMITED, START, END, FOUR = range(6)
-WIRES = {"fixed64": EIGHT, "sfixed64": EIGHT, "fixed32": FOUR, "sfixed32": FOUR, "string": DELIMITED, "bytes": DELIMITED}
+WIRES = {
+    "fixed64": EIGHT, "sfixed64": EIGHT, "fixed32": FOUR, "sfixed32": FOUR, "string": DELIMITED, "bytes": DELIMITED,
+    "float": FOUR, "double": EIGHT,
+}
 REASONS = {
     "number": "a type id is cut to 32 bits, and isn't refused",
     "first": "the first type id of an Item counts, and its first message alone",

@@ -1,16 +1,20 @@
-// Reads lines `TYPE HEX`, by the C++ classes that protoc generates of members.proto, wagons.proto and palettes.proto,
-// and prints what the message of the type holds, what it is written as in deterministic order, and whether a map in it
-// has more than one pair, but for those that our types write in that order too; or `refused`. The types that keep no
-// other field are written without these.
+// Reads lines `TYPE HEX`, by the C++ classes that protoc generates of members.proto, wagons.proto, palettes.proto and
+// measures.proto, and prints what the message of the type holds, what it is written as in deterministic order, and
+// whether a map in it has more than one pair, but for those that our types write in that order too; or `refused`. The
+// types that keep no other field are written without these. Of types with required fields it is told at last what the
+// calls of members with defaults say, and whether all is there that is required.
 #include <algorithm>
 #include <cctype>
+#include <cstdint>
 #include <cstdio>
+#include <cstring>
 #include <iostream>
 #include <memory>
 #include <set>
 #include <string>
 #include <vector>
 
+#include "measures.pb.h"
 #include "members.pb.h"
 #include "palettes.pb.h"
 #include "wagons.pb.h"
@@ -22,7 +26,10 @@ using google::protobuf::Message;
 
 static const std::set<std::string> KEEPING = {"Assorted", "Beam", "Branch", "Explicit", "Failure", "Frame",
                                               "Inventory", "Joined", "Ledger", "Load", "Palette", "Patch",
-                                              "Payment", "Settings", "Swatch", "Transfer", "Wagon"};
+                                              "Payment", "Settings", "Swatch", "Transfer", "Wagon",
+                                              "Measure", "Spot"};
+// Types with required fields.
+static const std::set<std::string> REQUIRING = {"Measure", "Spot"};
 static const std::set<std::string> IN_ORDER = {"axles", "balances", "berths", "ordered", "pages", "seals", "sections"};
 
 static std::string bytes_of(const std::string& hex) {
@@ -48,12 +55,14 @@ static std::string text_of(const Message& message) {
     google::protobuf::io::StringOutputStream stream(&text);
     google::protobuf::io::CodedOutputStream coded(&stream);
     coded.SetSerializationDeterministic(true);
-    message.SerializeToCodedStream(&coded);
+    message.SerializePartialToCodedStream(&coded);
   }
   return text.empty() ? "-" : hex_of(text);
 }
 
 static bool is_keeping(const Message& message) { return KEEPING.count(message.GetDescriptor()->name()) > 0; }
+
+static bool is_requiring(const Message& message) { return REQUIRING.count(message.GetDescriptor()->name()) > 0; }
 
 static std::vector<const FieldDescriptor*> members_of(const Message& message) {
   std::vector<const FieldDescriptor*> members;
@@ -73,6 +82,19 @@ static std::string enum_word(const FieldDescriptor* member, int number) {
   return (is_declared ? "" : "?") + std::to_string(number);
 }
 
+// A real number as the number of its bits.
+static std::string bits_word(float number) {
+  std::uint32_t bits;
+  std::memcpy(&bits, &number, sizeof bits);
+  return std::to_string(bits);
+}
+
+static std::string bits_word(double number) {
+  std::uint64_t bits;
+  std::memcpy(&bits, &number, sizeof bits);
+  return std::to_string(bits);
+}
+
 static std::string message_word(const Message& message);
 
 // The word of a value, by the calls that read it.
@@ -82,6 +104,8 @@ static std::string message_word(const Message& message);
     case FieldDescriptor::CPPTYPE_INT64: return std::to_string(GET(Int64));                             \
     case FieldDescriptor::CPPTYPE_UINT32: return std::to_string(GET(UInt32));                           \
     case FieldDescriptor::CPPTYPE_UINT64: return std::to_string(GET(UInt64));                           \
+    case FieldDescriptor::CPPTYPE_FLOAT: return bits_word(GET(Float));                                  \
+    case FieldDescriptor::CPPTYPE_DOUBLE: return bits_word(GET(Double));                                \
     case FieldDescriptor::CPPTYPE_BOOL: return GET(Bool) ? "true" : "false";                            \
     case FieldDescriptor::CPPTYPE_ENUM: return enum_word(member, GET(EnumValue));                       \
     case FieldDescriptor::CPPTYPE_MESSAGE: return message_word(GET(Message));                           \
@@ -123,7 +147,7 @@ static std::string list_word(const Message& message, const FieldDescriptor* memb
 
 static std::string member_word(const Message& message, const FieldDescriptor* member) {
   if (member->is_repeated()) return list_word(message, member);
-  const bool may_be_none = member->has_presence() && !member->has_default_value();
+  const bool may_be_none = member->has_presence() && (!member->has_default_value() || is_requiring(message));
   if (may_be_none && !message.GetReflection()->HasField(message, member)) return "none";
   return value_word(message, member);
 }
@@ -135,6 +159,11 @@ static std::string message_word(const Message& message) {
     std::string rest;
     message.GetReflection()->GetUnknownFields(message).SerializeToString(&rest);
     words.push_back(hex_of(rest));
+  }
+  if (is_requiring(message)) {
+    for (const auto* member : members_of(message))
+      if (member->has_default_value()) words.push_back(value_word(message, member));
+    words.push_back(message.IsInitialized() ? "whole" : "lacks");
   }
   return "(" + joined(words, "|") + ")";
 }
@@ -183,7 +212,7 @@ static std::string answer(const std::string& type, const std::string& bytes) {
   const auto* made_of = google::protobuf::DescriptorPool::generated_pool()->FindMessageTypeByName("vectors." + type);
   const std::unique_ptr<Message> message(
       google::protobuf::MessageFactory::generated_factory()->GetPrototype(made_of)->New());
-  if (!message->ParseFromString(bytes)) return "refused";
+  if (!message->ParsePartialFromString(bytes)) return "refused";
   forget(message.get());
   return message_word(*message) + "\t" + text_of(*message) + "\t" + (has_many(*message) ? "many" : "one");
 }

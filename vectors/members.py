@@ -1,10 +1,10 @@
 """Writes vectors/members.tsv by Google's protobuf; rows.py in vectors/google makes rows of it.
 
 It needs protoc, g++ and libprotobuf-dev (3.21.12 was used): python3 vectors/members.py, at the top. A seed may be given
-as an argument. Asked are messages of each type of members.proto, wagons.proto and palettes.proto, which are drawn by
-its kinds of fields: values of each kind, many entries of a map, fields at random, beginnings of them, and bytes that no reader takes;
-and the bytes of the rows of vectors/cases/members.tsv, but for those on limits. Where Google's answer may be another one
-stands in the table, with why, as `apart.py` finds it in the bytes.
+as an argument. Asked are messages of each type of members.proto, wagons.proto, palettes.proto and measures.proto, which are
+drawn by its kinds of fields: values of each kind, many entries of a map, fields at random, beginnings of them, and bytes that
+no reader takes; and the bytes of the rows of vectors/cases/members.tsv, but for those on limits. Where Google's answer may be
+another one stands in the table, with why, as `apart.py` finds it in the bytes.
 """
 import re
 import subprocess
@@ -16,7 +16,7 @@ from enums import varint
 from nodes import DRAW, at_random
 
 HERE = Path(__file__).resolve().parent
-PROTOS = ["members.proto", "wagons.proto", "palettes.proto"]
+PROTOS = ["members.proto", "wagons.proto", "palettes.proto", "measures.proto"]
 STRICT, *LOOSE = ((HERE / name).read_text(encoding="ascii") for name in PROTOS)
 TEXT = "".join([STRICT, *LOOSE])
 GROUP = re.compile(r"group (\w+) = (\d+) {(.*?)}", re.DOTALL)
@@ -24,29 +24,40 @@ GROUPS = {name: body for name, _, body in GROUP.findall(TEXT)}
 ONEOF = re.compile(r"oneof \w+ {(.*?)}", re.DOTALL)
 # The messages; a group in one is a member of its own type, and so is each case of a oneof.
 MESSAGES = dict(re.findall(r"message (\w+) {(.*?)}", ONEOF.sub(r"\1", GROUP.sub(r"\1 it = \2;", TEXT)), re.DOTALL))
-MEMBER = re.compile(r"(?:(optional|repeated) )?(?:map<(\w+), (\w+)>|(\w+)) \w+ = (\d+)(?: \[(?:packed|(default)) = \w+\])?;")
+MEMBER = re.compile(
+    r"(?:(optional|required|repeated) )?(?:map<(\w+), (\w+)>|(\w+)) \w+ = (\d+)"
+    r"(?: \[(?:(default) = 0|(?:packed|default) = [^\]]+)\])?;"
+)
 # The types, of each its members: how often one stands, the kind of a key, the kind of a value, the number. One with a
-# default is there or isn't, but is asked of no field that is its default.
+# default of 0 is told as that where it isn't there, and is asked of no field that is its default; one with another default is as
+# any optional one.
 TYPES = {
     name: [(default or often, key, value or kind, int(number)) for often, key, value, kind, number, default in MEMBER.findall(body)]
     for name, body in (MESSAGES | GROUPS).items()
 }
 VARINT, EIGHT, DELIMITED, START, END, FOUR = range(6)
-WIRES = {"fixed64": EIGHT, "sfixed64": EIGHT, "fixed32": FOUR, "sfixed32": FOUR, "string": DELIMITED, "bytes": DELIMITED}
+WIRES = {
+    "fixed64": EIGHT, "sfixed64": EIGHT, "fixed32": FOUR, "sfixed32": FOUR, "string": DELIMITED, "bytes": DELIMITED,
+    "float": FOUR, "double": EIGHT,
+}
 # The numbers that are spelled for a value; of varints some that have more bits than a number of 32.
 NUMBERS = {
     VARINT: [0, 1, 2**64 - 1, 2**31 - 1, 2**31, 2**32 - 1, 2**32 + 5, 2**63 - 1, 2**63],
     FOUR: [0, 1, 2**31 - 1, 2**31, 2**32 - 1],
     EIGHT: [0, 1, 2**63 - 1, 2**63, 2**64 - 1],
 }
-# Closed enums: one that is an open one of ours is asked of the values that it declares, the other of any.
+# Closed enums: one that is an open one of ours is asked of the values that it declares, the others of any.
 DECLARED = [0, 1]
-CLOSED = {"Closed": DECLARED * 5, "Tone": [0, 1, 2, 1, 2**64 - 5, 0, 2**32 + 1, 99, 2**32 + 7]}
+CLOSED = {
+    "Closed": DECLARED * 5, "Tone": [0, 1, 2, 1, 2**64 - 5, 0, 2**32 + 1, 99, 2**32 + 7],
+    "Unit": [1, 2, 0, 1, 2**64 - 5, 2, 2**32 + 1, 99, 2**32 + 7],
+}
 TEXTS = ["", "a", "b", "ab", "Z", "\u00e9", "a b", "x" * 130]
 
 # The same, as `apart` takes them.
 KNOWN = Types(
-    {name: {it[3]: it[:3] for it in members} for name, members in TYPES.items()}, GROUPS, dict.fromkeys(CLOSED, DECLARED), {"Closed"},
+    {name: {it[3]: it[:3] for it in members} for name, members in TYPES.items()}, GROUPS,
+    dict.fromkeys(CLOSED, DECLARED) | {"Unit": [1, 2]}, {"Closed"},
     strict=set(re.findall(r"message (\w+)", STRICT)),
 )
 
@@ -56,9 +67,9 @@ IN_ORDER = {"Ledger", "Wagon", "Palette", "Settings"}
 # Types with a oneof.
 WITH_CASES = {"Payment"}
 
-# Types that hold themselves, and then the one with a oneof, behind the type of one of its cases. They are drawn last, in this
-# order, so that what is drawn of the others stays.
-LAST = ["Branch", "Settings", "Failure", "Transfer", "Payment"]
+# Types that hold themselves; then the one with a oneof, behind the type of one of its cases; and those of measures.proto. They are
+# drawn last, in this order, so that what is drawn of the others stays.
+LAST = ["Branch", "Settings", "Failure", "Transfer", "Payment", "Measure", "Spot"]
 
 
 def wire(kind):
@@ -202,8 +213,9 @@ def mark_of(told, why, rows):
 
 
 HEAD = """\
-# Messages of members.proto, wagons.proto and palettes.proto as C++ classes of protobuf 3.21.12 read and write them, in deterministic order;
-# those that keep no other field are written without these.
+# Messages of members.proto, wagons.proto, palettes.proto and measures.proto as C++ classes of protobuf 3.21.12 read and write them,
+# in deterministic order; those that keep no other field are written without these. Those with required fields say at last what the
+# calls of members with defaults do, and whether all is there that is required.
 # type, bytes in hex (- for none), a mark, what the message then holds, what it is written as. Marks: same; many, a map in it
 # that ours writes in no order has more than one pair, and they are in the order of their keys; refused; own and why:
 """

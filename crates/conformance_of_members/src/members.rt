@@ -3,6 +3,7 @@
 mod branches;
 mod failures;
 mod lists;
+mod measures;
 mod payments;
 mod settings;
 mod words;
@@ -30,6 +31,8 @@ use sample_inventory::parcel::Parcel;
 use sample_inventory::store::Store;
 use sample_inventory::train::Train;
 use sample_inventory::wagon::Wagon;
+use sample_measure::measure::Measure;
+use sample_measure::spot::Spot;
 use sample_palette::palette::Palette;
 use sample_palette::swatch::Swatch;
 use sample_payment::payment::Payment;
@@ -56,12 +59,14 @@ pub fn on_members(
         "inventory" => parted::<Members, Inventory>(alloc, case, storage, mark, bytes),
         "ledger" => parted::<Members, Ledger>(alloc, case, storage, mark, bytes),
         "load" => parted::<Members, Load>(alloc, case, storage, mark, bytes),
+        "measure" => parted::<Members, Measure>(alloc, case, storage, mark, bytes),
         "order" => parted::<Members, Order>(alloc, case, storage, mark, bytes),
         "palette" => parted::<Members, Palette>(alloc, case, storage, mark, bytes),
         "pallet" => parted::<Members, Pallet>(alloc, case, storage, mark, bytes),
         "parcel" => parted::<Members, Parcel>(alloc, case, storage, mark, bytes),
         "payment" => parted::<Payments<()>, Payment>(alloc, case, storage, mark, bytes),
         "settings" => parted::<Sections<()>, Settings>(alloc, case, storage, mark, bytes),
+        "spot" => parted::<Members, Spot>(alloc, case, storage, mark, bytes),
         "store" => parted::<Members, Store>(alloc, case, storage, mark, bytes),
         "swatch" => parted::<Members, Swatch>(alloc, case, storage, mark, bytes),
         "train" => parted::<Members, Train>(alloc, case, storage, mark, bytes),
