@@ -1,8 +1,9 @@
 """How deep what a message means is, and which messages have a meaning with a name of its own, so that it doesn't get too deep."""
 
-# The checker takes types that are some 60 deep. A meaning that is deeper than this, or has more types of messages in it, gets a name.
+# The checker takes types that are some 60 deep, and a message that holds another one only where this has some 30 messages in it,
+# each counted wherever it stands. A meaning that is deeper than this, or has more messages in it, gets a name.
 DEEPEST = 40
-MOST_TYPES = 24
+MOST_MESSAGES = 24
 
 
 def own_depth(means):
@@ -24,21 +25,21 @@ def depth(message, depths):
 
 def name_meanings(messages):
     """Gives those a meaning with a name that are too deep, from the innermost outwards. A message that holds itself means itself."""
-    depths, types = {}, {}
+    depths, counts = {}, {}
 
     def see(message):
         full = message.name.full
         if full in depths:
             return
-        depths[full], types[full] = 0, set()
+        depths[full], counts[full] = 0, 1
         inside = [messages[it] for k in message.members for it in k.inside if it in messages]
         for inner in inside:
             see(inner)
-        below = set().union({full}, *(types[it.name.full] for it in inside))
+        count = 1 + sum(counts[it.name.full] for it in inside)
         deep = depth(message, depths)
-        message.is_opaque = not message.holds_itself and (deep > DEEPEST or len(below) > MOST_TYPES)
+        message.is_opaque = not message.holds_itself and (deep > DEEPEST or count > MOST_MESSAGES)
         has_name = message.holds_itself or message.is_opaque
-        depths[full], types[full] = (1, {full}) if has_name else (deep, below)
+        depths[full], counts[full] = (1, 1) if has_name else (deep, count)
 
     for message in messages.values():
         see(message)
