@@ -74,7 +74,7 @@ REFUSED = (
     "write_item(number, number, &mut text)?;",
     "let number = counts.decode_varint(&mut rest)?;",
     "let mut message: Stock = Blank::blank(alloc);",
-    "use buffa::map_codec::{Int32, Integer};",
+    "use buffa_fields::map_codec::{Int32, Integer};",
 )
 # Blocks that are wrong: a line is left out, or two functions are joined.
 REFUSED_BLOCKS = (

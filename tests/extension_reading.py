@@ -1,4 +1,4 @@
-"""What extensions and their codecs answer, by the rules of `rules.py`: the calls of `crates/conformance_calls`.
+"""What extensions and their codecs answer, by the rules of `rules.py`: the calls of `crates/conformance_extensions`.
 
 Each function is given a row, as `second_reading.py` reads it, and finds its answer and what stands after.
 """

@@ -13,7 +13,8 @@ A wrong body is an edit, tests/wrong/CRATE/FUNCTION-what_is_wrong.edit: a line '
 the plain name of the function that must not be proved then, or TYPE.FUNCTION. Those that `rt ci` tries too stand in
 crates/CRATE/must-fail. Edits of a crate that lie in different functions are applied together, to a copy of the
 repository, and checked in one go. An edit outside of functions, or of a crate below (a line 'file: ../CRATE/src/x.rt'),
-is tried alone, and only its function, a law, is checked then. A function may be reported for another one's sake (it
+is tried alone, and only its function, a law, is checked then: one that changes a crate below, in a copy of that crate which has the
+law besides, where it needs no crate between (tests/wrong_joined.py says how). A function may be reported for another one's sake (it
 calls one that is not proved, or the crate isn't read at all): then it is tried once more, alone.
 
 An edit passes where the goal that it names is not proved. One that names none passes where any goal of its function is open; it is
@@ -38,10 +39,12 @@ import shutil
 import subprocess
 import sys
 import tempfile
+import threading
 import time
 from concurrent.futures import ThreadPoolExecutor
 
 from wrong_edits import TOP, Edit, below, functions, law_at, listed, module_of, paths_of, read
+from wrong_joined import Joined, lower_of, write_all
 from wrong_look import look
 
 # what the checker says of a name in a proof file that isn't there
@@ -105,6 +108,8 @@ def path_of(function):
     if function.holder:
         rest, own = without_params(function.holder)
         trait, _, of = rest.partition(" where ")[0].rpartition(" for ")
+        # a trait may name those above it
+        of = re.split(r":(?!:)", of)[0] if re.match(r"(pub(\(\w+\))? )?trait\b", function.holder) else of
         at.append(type_name(of, own) + re.sub(r"<.*", "", trait).strip().rpartition("::")[2])
     return "::".join([*at, function.name])
 
@@ -141,19 +146,19 @@ class Report:
         own = [it for it in self.said if it.startswith(f"{crate}::")]
         return [it for it in own if (is_named(edit.target, crate, it) if edit.target else it.split("::")[-1] == edit.name)]
 
-    def is_of_law(self, edit, crate):
+    def is_of_law(self, edit, folder):
         """Whether each error of the text stands in the law of that name, in a file that the edit leaves as it is."""
         edited = {file for file, _, _ in edit.pairs}
         errors = {(file, int(line)) for file, line in SOURCE_ERROR.findall(self.text)}
         return bool(errors) and all(
             file not in edited
-            and any(it.name == edit.name and it.start < line <= it.end + 1 for it in functions(file, read(f"{TOP}/crates/{crate}/{file}")))
+            and any(it.name == edit.name and it.start < line <= it.end + 1 for it in functions(file, read(f"{folder}/{file}")))
             for file, line in errors
         )
 
-    def verdict(self, edit, crate, texts, is_alone):
+    def verdict(self, edit, crate, texts, is_alone, folder):
         """passed, failed or again, and what to say."""
-        if not self.was_judged and not edit.target and self.is_of_law(edit, crate):
+        if not self.was_judged and not edit.target and self.is_of_law(edit, folder):
             return at_goal(edit, ["text"])
         if not self.was_judged:
             return "again", "the crate isn't read: " + next((it for it in self.text.split("\n") if ": error" in it), self.text[-200:])[:200]
@@ -253,6 +258,13 @@ def copy_to(room, crate, edits):
                 shutil.copytree(f"{TOP}/crates/{it}/{part}", f"{room}/crates/{it}/{part}")
 
 
+def set_line(room, line):
+    """Writes a crate's line in the room's crates.txt."""
+    lines = [it for it in read(f"{room}/crates.txt").split("\n") if it and it.partition(":")[0] != line.partition(":")[0]]
+    with open(f"{room}/crates.txt", "w", encoding="utf-8") as it:
+        it.write("\n".join([*lines, line, ""]))
+
+
 def take_libraries(room):
     """Has `rt check` take the libraries that `rt ci` has just built. It leaves them without a sum of their text, since they
     fit those of the same run alone: so all are taken, or none, and none that is older than its text."""
@@ -282,6 +294,7 @@ class Tries:
 
     def __init__(self, crate, paths, options):
         self.crate, self.options, self.edits, self.passed, self.failed = crate, options, [], 0, []
+        self.saying = threading.Lock()
         for path in paths:
             edit = Edit(path)
             edit.alone, edit.found = False, None
@@ -297,12 +310,19 @@ class Tries:
         line = f"wrong: {self.crate}/{edit.title}: {text}"
         print(line, flush=True)
         if verdict == "passed":
-            self.passed += 1
+            with self.saying:
+                self.passed += 1
             if self.options.name and not edit.goal and edit.found:
                 with open(edit.path, "a", encoding="utf-8") as it:
                     it.write(f"goal: {edit.found}\n")
         else:
             self.failed.append(line)
+
+    def keep(self, batch, report, begun):
+        """Writes what a check said of these edits into the folder that was named for that."""
+        if self.options.keep:
+            with open(f"{self.options.keep}/{self.crate}-{int(begun)}-{batch[0].title}.log", "w", encoding="utf-8") as it:
+                it.write("\n".join(edit.title for edit in batch) + "\n" + report.text)
 
     def is_proved(self):
         """Whether the crate is proved as it stands, in its own folder."""
@@ -333,12 +353,10 @@ class Tries:
         if paths and any(it.target and len(report.names(it, self.crate)) != 1 for it in batch):
             report = Report(check(f"{room}/crates/{self.crate}", self.options))
         print(f"wrong: {self.crate}: {len(batch)} edits in one check, {time.time() - begun:.0f} s", flush=True)
-        if self.options.keep:
-            with open(f"{self.options.keep}/{self.crate}-{int(begun)}.log", "w", encoding="utf-8") as it:
-                it.write("\n".join(edit.title for edit in batch) + "\n" + report.text)
+        self.keep(batch, report, begun)
         unread = None if report.was_judged else guilty(report, batch, texts)
         for edit in batch:
-            verdict, text = report.verdict(edit, self.crate, texts, len(batch) == 1)
+            verdict, text = report.verdict(edit, self.crate, texts, len(batch) == 1, f"{room}/crates/{self.crate}")
             if verdict == "again" and (edit is unread or len(batch) == 1):
                 self.say(edit, "failed", f"UNCLEAR: {text}")
             elif verdict == "again":
@@ -351,16 +369,80 @@ class Tries:
             shutil.copy(f"{TOP}/crates/{self.crate}/{file}", f"{room}/crates/{self.crate}/{file}")
 
 
+    def proved_joined(self, joined, folder):
+        """The laws that are proved as they stand, in a copy of a crate below."""
+        begun = time.time()
+        report = Report(check(folder, self.options, [joined.path_of(it) for it in joined.laws]))
+        front = f"{joined.lower}::{joined.upper}::"
+        proved = {name.split("::")[-1] for name, said in report.said.items() if name.startswith(front) and said == "proved"} & {*joined.laws}
+        print(f"wrong: {self.crate}: {len(proved)} laws are proved in {joined.lower}, {time.time() - begun:.0f} s", flush=True)
+        for it in sorted({*joined.laws} - proved):
+            print(f"wrong: {self.crate}: {it} isn't proved in {joined.lower}, so its edits are tried in {self.crate}", flush=True)
+        if not report.was_judged:
+            print(report.text[-3000:])
+        return proved
+
+    def try_joined(self, lower, edits):
+        """Tries edits of a crate below, each with its law in a copy of that crate."""
+        joined = Joined(self.crate, lower, edits)
+        with tempfile.TemporaryDirectory(prefix="wrong-") as room:
+            copy_to(room, lower, edits)
+            set_line(room, joined.libraries())
+            folder = f"{room}/crates/{lower}"
+            write_all(joined.files(), folder)
+            if self.options.built:
+                take_libraries(room)
+            proved = self.proved_joined(joined, folder)
+            self.edits += [it for it in edits if it.name not in proved]
+            # an edit of a crate that is lower still leaves another library of it
+            for edit in sorted(edits, key=lambda it: len({file.split("/")[1] for file, _, _ in it.pairs})):
+                if edit.name in proved:
+                    self.try_one_joined(joined, edit, folder)
+
+    def try_one_joined(self, joined, edit, folder):
+        """Tries an edit with its law in a copy of a crate below."""
+        begun, there, texts = time.time(), joined.of_edit(edit), {}
+        for file, old, new in there.pairs:
+            texts.setdefault(file, read(f"{folder}/{file}"))
+            if texts[file].count(old) != 1:
+                self.say(edit, "failed", f"UNCLEAR: an old text is in {file} {texts[file].count(old)} times with the law in {joined.lower}")
+                return
+            texts[file] = texts[file].replace(old, new)
+        before = {file: read(f"{folder}/{file}") for file in texts}
+        write_all(texts, folder)
+        report = Report(check(folder, self.options, [joined.path_of(edit.name)]))
+        print(f"wrong: {self.crate}: an edit with its law in {joined.lower}, {time.time() - begun:.0f} s", flush=True)
+        self.keep([edit], report, begun)
+        verdict, text = report.verdict(there, f"{joined.lower}::{joined.upper}", texts, True, folder)
+        edit.found = there.found
+        self.say(edit, "failed" if verdict == "again" else verdict, f"UNCLEAR: {text}" if verdict == "again" else text)
+        write_all(before, folder)
+
+    def try_all(self):
+        """Tries each edit: one of a crate below with its law there, where that can be, and the others in the crate itself."""
+        places = [(it, lower_of(self.crate, it)) for it in self.edits]
+        self.edits = [it for it, lower in places if not lower]
+        for lower in sorted({it for _, it in places if it}):
+            edits = sorted((it for it, at in places if at == lower), key=lambda it: it.title)
+            copies = min(self.options.copies, len(edits))
+            parts = [edits[len(edits) * at // copies : len(edits) * (at + 1) // copies] for at in range(copies)]
+            with ThreadPoolExecutor(copies) as pool:
+                list(pool.map(lambda part, lower=lower: self.try_joined(lower, part), parts))
+        if not self.edits:
+            return
+        with tempfile.TemporaryDirectory(prefix="wrong-") as room:
+            copy_to(room, self.crate, self.edits)
+            if self.options.built:
+                take_libraries(room)
+            while self.edits:
+                self.try_batch(room)
+
+
 def try_crate(crate, paths, options):
     """How many of the crate's edits passed, and what was said of those that failed."""
     tries = Tries(crate, paths, options)
     if options.built or tries.is_proved():
-        with tempfile.TemporaryDirectory(prefix="wrong-") as room:
-            copy_to(room, crate, tries.edits)
-            if options.built:
-                take_libraries(room)
-            while tries.edits:
-                tries.try_batch(room)
+        tries.try_all()
     return tries.passed, tries.failed
 
 
@@ -431,7 +513,7 @@ def main():
     words = argparse.ArgumentParser(description=__doc__, formatter_class=argparse.RawDescriptionHelpFormatter)
     words.add_argument("crate", nargs="*", help="the crates to try, in place of all; or look, today, or gate and a file")
     words.add_argument("--jobs", type=int, help="jobs of one check, in place of what rt chooses")
-    words.add_argument("--lanes", type=int, default=len(os.sched_getaffinity(0)), help="crates, or copies, side by side")
+    words.add_argument("--lanes", type=int, help="crates, or copies, side by side; else a crate for each processor, and copies of one under today alone")
     words.add_argument("--rt", default="rt", help="the command in place of rt")
     words.add_argument("--edit", action="append", metavar="WORD", help="only the edits whose path has this word (may be repeated)")
     words.add_argument("--name", action="store_true", help="write the goal of each edit that is tried and names none")
@@ -443,14 +525,18 @@ def main():
     crates = [it for it in options.crate if it not in modes and "gate" not in modes] or [it for it in listed() if paths_of(it)]
     options.today = options.day.toordinal() if "today" in modes else 0
     options.built |= "today" in modes
+    has_copies = options.lanes or "today" in modes
+    options.copies, options.lanes = 1, options.lanes or len(os.sched_getaffinity(0))
     if "gate" in modes:
         options.built = True
         counts = [gate(options.crate[-1], options)]
     elif "look" in modes:
         counts = [look(crates, options.lanes)]
     else:
+        edits = chosen(crates, options)
+        options.copies = max(1, options.lanes // max(1, len(edits))) if has_copies else 1
         with ThreadPoolExecutor(options.lanes) as pool:
-            counts = list(pool.map(lambda it: try_crate(*it, options), chosen(crates, options).items()))
+            counts = list(pool.map(lambda it: try_crate(*it, options), edits.items()))
     passed, failed = sum(it[0] for it in counts), [line for it in counts for line in it[1]]
     for line in failed:
         print(f"failed: {line}")

@@ -108,14 +108,20 @@ def module_of(path):
     return [it for it in re.sub(r"(^src/|/?(\b(lib|main|mod))?\.rt$)", "", path).split("/") if it]
 
 
-def law_at(crate, name):
-    """The path of a law, by its name, as the checker takes it."""
+def law_file(crate, name):
+    """The file of src/ in which a law stands, by its name."""
     for at, _, names in os.walk(f"{TOP}/crates/{crate}/src"):
         for file in names:
             path = os.path.relpath(f"{at}/{file}", f"{TOP}/crates/{crate}")
             if any(it.name == name and not it.holder for it in functions(path, read(f"{at}/{file}"))):
-                return "::".join([*module_of(path), name])
-    return name
+                return path
+    return None
+
+
+def law_at(crate, name):
+    """The path of a law, by its name, as the checker takes it."""
+    file = law_file(crate, name)
+    return "::".join([*module_of(file), name]) if file else name
 
 
 def paths_of(crate):

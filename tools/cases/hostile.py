@@ -121,8 +121,19 @@ def why_bad(plugin, plant, text):
     return None
 
 
+def unknown_syntaxes(plugin):
+    """The syntaxes that aren't known, and aren't refused by name."""
+    for syntax in ("editions", "proto4", "proto2\n"):
+        it = request()
+        it.proto_file[0].syntax = syntax
+        made, _ = plugin.answer(it)
+        if made.file or not made.error.startswith(f"x.proto: its syntax is {syntax.strip()}"):
+            yield f"tools/cases/hostile.py: the syntax {syntax!r}: {made.error!r}"
+
+
 def main(file):
     bad, plugin = [], loaded(file)
+    bad += unknown_syntaxes(plugin)
     ways = {**WAYS, "the name of a file": name_of_file, "a parameter": parameter}
     for way, plant in ways.items():
         for end in ENDS:

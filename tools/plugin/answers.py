@@ -1,7 +1,7 @@
 """The answers where the checker finds no proof by itself: of `visit` behind a message and of many members, and of `take` of a oneof's numbers
 and messages."""
 from blocks import Block, blocks, holds_messages, lends, pieces
-from names import snake
+from names import TERMS, snake
 from oneof import OneOf
 
 # Of as many members and blocks it is proved without an answer that they were visited in turn.
@@ -54,9 +54,8 @@ def answers_of_blocks(world, message):
 
 def answers_of_block(world, message, block):
     """Sizes that come next come in turn; and once all members were visited, those behind the block do."""
-    facts = "buffa.specs.Members" if world.over == "buffa" else "buffa_fields.specs.facts.BlockFacts"
     head = ".".join(it for it in ("Rattle", world.crate, "proofs", world.module, snake(message.rust)) if it)
-    made = [f"use Rattle.{facts}.{{both_waited, first_comes, second_comes}}"]
+    made = [f"use {TERMS}.{{both_waited, first_comes, second_comes}}"]
     made += [f"use {head}.{block.name}MemberBlock.visit.Goals as goal"]
     order, last, comes = calls(block.members), len(block.members) - 1, "c.requires"
     waits = [f"c.{numbered(word, count)}.ensures.waits" for word, count in order]
@@ -128,10 +127,7 @@ def answers_of_cases(world, one, cases, holder, call):
     common = "rules, refl, sym, ap, ◌∙◌, ◌==◌" if is_behind else "rules, sym, ◌∙◌"
     made = [f"use Rattle.std.proofs.Common.{{{common}}}"]
     made += ["use Rattle.std.proofs.lemmas.Result.{err_from_is_err_and}"] * bool(messages)
-    if world.over == "buffa":
-        made.append(f"use Rattle.buffa.specs.Members.{{chosen{', not_here' * is_behind}}}")
-    else:
-        made += ["use Rattle.buffa_fields.specs.facts.LayoutFacts.{chosen}"] + ["use Rattle.buffa_fields.specs.facts.BlockFacts.{not_here}"] * is_behind
+    made += [f"use {TERMS}.{{chosen{', not_here' * is_behind}}}"]
     made += [f"use {goals} as goal"]
     for at in numbers:
         branch = f"in_ok-it-in-{cases[at].number}"
@@ -164,8 +160,7 @@ def answer_of_case(case, branch, term, more=()):
 def answers_of_groups(world, one):
     """Of each group that its function took the field, and none before it did."""
     goals, file = home_of(world, one, f"{one.enum}OneOf", "take")
-    facts = "buffa.specs.Members" if world.over == "buffa" else "buffa_fields.specs.facts.BlockFacts"
-    made = [f"use Rattle.{facts}.{{here, not_here}}", f"use {goals} as goal"]
+    made = [f"use {TERMS}.{{here, not_here}}", f"use {goals} as goal"]
     last = len(one.groups()) - 1
     for at in range(last + 1):
         name = "returns" if at == last else f"returns-then-has_{at + 1}"
@@ -185,8 +180,7 @@ def answers_of_take(world, message):
     if not found:
         return None
     names = [it for it in (world.module, snake(message.rust)) if it]
-    facts = "buffa.specs.Members" if world.over == "buffa" else "buffa_fields.specs.facts.BlockFacts"
-    made = ["use Rattle.std.proofs.Common.{refl}", f"use Rattle.{facts}.{{here, not_here}}"]
+    made = ["use Rattle.std.proofs.Common.{refl}", f"use {TERMS}.{{here, not_here}}"]
     made.append(f"use {'.'.join(['Rattle', world.crate, 'proofs', *names])}.{message.rust}Fields.take.Goals as goal")
     for at in range(len(found) + 1):
         is_last = at == len(found)

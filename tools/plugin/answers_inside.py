@@ -1,5 +1,5 @@
 """The answers of messages that hold themselves: of `visit`, that what comes next waits, and of `take`, which member took a field."""
-from names import ordered, snake
+from names import TERMS, ordered, snake
 from oneof import OneOf
 
 
@@ -107,12 +107,7 @@ def take(world, message):
     facts = {it for it in ("chosen", "not_chosen") if any(f"{it} _" in made.replace("not_chosen" * (it == "chosen"), "") for made in terms)}
     looked = {unfolded(k) for k in message.members} - {""}
     made = [f"use Rattle.std.proofs.Common.{{{', '.join(ordered(words))}}}"]
-    if world.over == "buffa":
-        made.append(f"use Rattle.buffa.specs.Members.{{{', '.join(ordered(facts | looked))}}}")
-    else:
-        places = (("Aside", looked & {"TookBeside"}), ("Layout", looked & {"Took"}), ("facts.LayoutFacts", facts))
-        made += [f"use Rattle.buffa_fields.specs.{module}.{{{', '.join(ordered(its))}}}" for module, its in places if its]
-    made.append(goals)
+    made += [f"use {TERMS}.{{{', '.join(ordered(facts | looked))}}}", goals]
     for (number, at, _), proof in zip(arms(message), terms):
         name, member = f"returns-in-{number}-clause-taken", message.members[at]
         made += ["", f"pub {name} : goal.{name}"] + [f"unfolding {unfolded(member)}"] * bool(unfolded(member))

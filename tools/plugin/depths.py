@@ -1,9 +1,17 @@
-"""How deep what a message means is, and which messages have a meaning with a name of its own, so that it doesn't get too deep."""
+"""How deep what a message means is, and which messages have a meaning with a name of its own, so that it doesn't get too deep; and how deep
+its struct is."""
 
 # The checker takes types that are some 60 deep, and a message that holds another one only where this has some 30 messages in it,
 # each counted wherever it stands. A meaning that is deeper than this, or has more messages in it, gets a name.
 DEEPEST = 40
 MOST_MESSAGES = 24
+
+# The checker takes structs, enums and references one in the other so deep. What is in a Box, a Vec or a map is behind a pointer, and
+# doesn't count. What isn't named is a number, or a closed enum, which is 1 deep.
+DEEPEST_STRUCT = 64
+STRUCTS = {"BTreeMap": 5, "Box": 3, "Bytes": 3, "DoubleBits": 1, "EnumValue": 2, "FloatBits": 1, "Map": 5, "String": 4, "Vec": 3}
+# The fields that are kept are so deep.
+KEPT = 4
 
 
 def own_depth(means):
@@ -21,6 +29,52 @@ def depth(message, depths):
 
     inside = [k.own_depth + max([depths.get(it, 0) for it in k.inside], default=0) for k in pieces(message)]
     return max((at + 1 + it for at, it in enumerate(inside)), default=0) + message.is_keeping
+
+
+def struct_depth(rust, inner):
+    """How deep a type is, where the message in it, if one is, is so deep."""
+    if rust.startswith("Option<Box<"):
+        return STRUCTS["Box"] + 1
+    if rust.startswith("Option<"):
+        return 1 + struct_depth(rust[7:-1], inner)
+    return STRUCTS.get(rust.split("<")[0], inner)
+
+
+def member_depth(member, depths):
+    """How deep a member's type is: its cases stand in an enum in an Option."""
+    if hasattr(member, "cases"):
+        return 2 + max(struct_depth(k.value, in_field(k, depths)) for k in member.cases)
+    return struct_depth(member.rust, in_field(member, depths))
+
+
+def in_field(member, depths):
+    """How deep the message, or the closed enum, of a field is."""
+    return max([depths.get(it, 1) for it in member.inside], default=0)
+
+
+def see_structs(world, messages):
+    """Refuses messages whose structs are too deep, from the innermost outwards, each as if those in it had been mended."""
+    depths = {}
+
+    def see(message):
+        if message.name.full in depths:
+            return
+        depths[message.name.full] = 1
+        for inner in [messages[it] for k in message.members for it in k.inside if it in messages]:
+            see(inner)
+        found = {k: member_depth(k, depths) for k in message.members}
+        deep = 1 + max([*found.values(), (KEPT + bool(message.rest)) * message.is_keeping])
+        if deep <= DEEPEST_STRUCT:
+            depths[message.name.full] = deep
+            return
+        most = max(found, key=found.get)
+        fields = getattr(most, "cases", [most])
+        field = max(fields, key=lambda k: in_field(k, depths))
+        depths[message.name.full] = 1 + KEPT
+        world.tries(message.see_depth, deep, field)
+
+    for message in messages.values():
+        see(message)
 
 
 def name_meanings(messages):

@@ -75,6 +75,11 @@ class File:
         self.others += [Name(self, (6, at), base + e.name, e) for at, e in enumerate(it.service)]
         self.others += [Name(self, (7, at), base + e.name, e) for at, e in enumerate(it.extension)]
 
+    def see_syntax(self):
+        """Refuses a file of a syntax that isn't known, which would be read as one of proto2."""
+        if self.it.syntax not in ("", "proto2", "proto3"):
+            raise Refused(f"{self.shown}: its syntax is {clean(self.it.syntax)}, and proto2 and proto3 alone are known: write one of these")
+
     def add(self, path, base, it, outer):
         """Adds a message and what is inside it; a message that protoc makes of a map field is an entry."""
         if it.options.map_entry:

@@ -1,7 +1,7 @@
 """The text of a message that holds itself: what contracts see of it, its members, and its calls."""
 import re
 
-from names import ordered
+from names import TERMS, TERMS_INSIDE, ordered
 from oneof import OneOf
 
 LONGEST = 120
@@ -92,14 +92,10 @@ def uses_of_model(message, kinds):
     views = {view(k).split()[0] for k in message.members} | {"has_kept" if message.is_keeping else "has_none"}
     views |= {made.split()[0] for made, _ in types if made.startswith(("MeaningOf", "CaseMeaningOf"))}
     cases = {"coded_or"} if any(isinstance(k, OneOf) for k in message.members) else set()
-    made = [("std.specs.Coded", {"codes"}), ("std.specs.Option", {"option_map"} if "one" in kinds else set())]
-    made += [("std.specs.Prelude", prelude), ("std.proofs.Common", {"arith"})]
-    if message.world.over == "buffa":
-        made += [("buffa.specs.Knots", {"coded_datum"} | wire | knots | maps | views | cases)]
-    else:
-        made += [("buffa_wire.specs.Code", {"coded_datum"}), ("buffa_wire.specs.Records", wire)]
-        made += [(f"buffa_fields.specs.{it}", words) for it, words in (("Knots", knots), ("OrCode", cases), ("Pairs", maps), ("Viewed", views))]
-    return [f"    ghost use Rattle.{module}.{{{', '.join(ordered(words))}}};" for module, words in made if words]
+    made = [("Rattle.std.specs.Coded", {"codes"}), ("Rattle.std.specs.Option", {"option_map"} if "one" in kinds else set())]
+    made += [("Rattle.std.specs.Prelude", prelude), ("Rattle.std.proofs.Common", {"arith"})]
+    made += [(TERMS, {"coded_datum"} | wire | cases), (TERMS_INSIDE, knots | maps | views)]
+    return [f"    ghost use {module}.{{{', '.join(ordered(words))}}};" for module, words in made if words]
 
 
 def nested(head, parts, last):
@@ -149,10 +145,7 @@ def layers(message):
 def head(message):
     """What the file of a message cites besides: its members, and what it has of its own where a clause reads that."""
     reads = {"rest_of"} if message.asked or any(k.has_getter for k in message.members) else set()
-    if message.world.over == "buffa":
-        return [f"ghost use Rattle.buffa.specs.Knots.{{{', '.join(ordered(layers(message) | reads))}}};"]
-    made = [f"ghost use Rattle.buffa_fields.specs.Open.{{{', '.join(ordered(layers(message)))}}};"]
-    return made + ["ghost use Rattle.buffa_fields.specs.Knots.{rest_of};"] * bool(reads)
+    return [f"ghost use {TERMS_INSIDE}.{{{', '.join(ordered(layers(message) | reads))}}};"]
 
 
 def laid(message, cost):

@@ -14,68 +14,40 @@ ESCAPED = set(
 # Words that can't name an enum's value, beside an upper-case letter: of Rust, of contracts, and those that its file imports.
 VALUES = set("None Some Self Type".split())
 # Modules that a crate reads as its own libraries, or that contracts have.
-MODULES = set("std core buffa bytes anyhow hex indexmap thiserror lib prim".split())
+MODULES = set("std core buffa buffa_ext buffa_fields buffa_recursive bytes anyhow hex indexmap thiserror lib prim".split())
 CODECS = set(
     "Bool BytesBuf BytesVec ClosedEnum Double Fixed32 Fixed64 Float Int32 Int64 Map OpenEnum Sfixed32 Sfixed64 Sint32 Sint64 Str Uint32 Uint64".split()
 )
 
-# The module of each name, over the facade.
-FACADE = {
-    **{it: "buffa::map_codec" for it in CODECS},
-    **{it: "buffa::fields" for it in ["And"] + [f"And{n}" for n in range(3, 17)]},
-    **{it: "buffa::fields" for it in "Fields Formed Group Keeping KeptFields Listed Listing MapOf MapOfNested Member Nested".split()},
-    **{it: "buffa::fields" for it in "Optional OrderedMapOf OrderedMapOfNested Packed Plain Repeated RepeatedGroup".split()},
-    **{it: "buffa::fields" for it in "RepeatedNested Required Visitor kept".split()},
-    **{it: "buffa::fields" for it in "ByKey Keyed Laid SelfFields SelfListed SelfListing SelfMerger SelfVisitor".split()},
-    **{it: "buffa::fields" for it in "take_list take_map take_one take_one_of".split()},
-    **{it: "buffa::fields" for it in "Case OneOf Or Set case_reads_back visit_one_of".split()},
-    **{it: "buffa" for it in "Blank DoubleBits FloatBits DecodeContext DecodeError EnumValue Enumeration ExtensionSet Tag UnknownFields".split()},
-    "MemberBlock": "buffa::fields",
-    "Bytes": "bytes",
-    "Global": "std::alloc",
-    "BTreeMap": "std::collections",
-    "Model": "std::marker",
-    "String": "std::string",
-}
-# Where the crates below have them.
-BELOW = {
-    **{it: "buffa_map::map_codec" for it in CODECS},
-    **{it: "buffa_fields::meaning" for it in ["And"] + [f"And{n}" for n in range(3, 17)]},
-    **{it: "buffa_wire" for it in "Blank DoubleBits FloatBits DecodeContext DecodeError EnumValue Enumeration Formed Tag UnknownFields".split()},
-    **{it: f"buffa_fields::{it.lower()}" for it in "Fields Group Keeping Member Nested Optional Packed Plain Repeated Visitor".split()},
-    **{it: "buffa_fields::one_of" for it in ("OneOf", "visit_one_of")},
-    **{it: "buffa_fields::case" for it in ("Case", "Set", "case_reads_back")},
-    "MemberBlock": "buffa_fields::member_block",
-    "Or": "buffa_fields::meaning",
+# What a member is called that has a name without letters and digits.
+UNNAMED = "unnamed"
+# As many letters the name of a file has, but for its ending: a file system takes 255, and folders of answers have longer names.
+LONGEST_FILE = 200
+
+# The module of each name.
+MODULE = {
+    **{it: "buffa_fields::map_codec" for it in CODECS},
+    **{it: "buffa_fields" for it in ["And"] + [f"And{n}" for n in range(3, 17)]},
+    **{it: "buffa_fields" for it in "Blank Case DecodeContext DecodeError DoubleBits EnumValue Enumeration Fields FloatBits Formed".split()},
+    **{it: "buffa_fields" for it in "Group Keeping KeptFields Listed Listing MapOf MapOfNested Member MemberBlock Nested OneOf".split()},
+    **{it: "buffa_fields" for it in "Optional Or OrderedMapOf OrderedMapOfNested Packed Plain Repeated RepeatedGroup".split()},
+    **{it: "buffa_fields" for it in "RepeatedNested Required Set Tag UnknownFields Visitor case_reads_back kept visit_one_of".split()},
+    **{it: "buffa_recursive" for it in "ByKey Keyed Laid SelfFields SelfListed SelfListing SelfMerger SelfVisitor".split()},
+    **{it: "buffa_recursive" for it in "take_list take_map take_one take_one_of".split()},
     "ExtensionSet": "buffa_ext",
-    "KeptFields": "buffa_fields::kept",
-    "Listed": "buffa_fields::message",
-    "Listing": "buffa_fields::message",
-    "MapOf": "buffa_fields::map_member",
-    "MapOfNested": "buffa_fields::map_nested",
-    "OrderedMapOf": "buffa_fields::ordered_map",
-    "OrderedMapOfNested": "buffa_fields::ordered_nested",
-    "RepeatedGroup": "buffa_fields::repeated_group",
-    "RepeatedNested": "buffa_fields::repeated_nested",
-    "Required": "buffa_fields::required",
     "Bytes": "bytes",
     "Global": "std::alloc",
     "BTreeMap": "std::collections",
-    **{it: "buffa_fields::keyed" for it in ("ByKey", "Keyed")},
-    **{it: "buffa_fields::self_listing" for it in ("SelfListed", "SelfListing")},
-    **{it: "buffa_fields::inside_takes" for it in ("take_list", "take_one")},
-    "Laid": "buffa_fields::laid",
-    "SelfFields": "buffa_fields::self_fields",
-    "SelfMerger": "buffa_fields::self_merger",
-    "SelfVisitor": "buffa_fields::self_visitor",
-    "take_map": "buffa_fields::inside_maps",
-    "take_one_of": "buffa_fields::self_one_of",
     "Model": "std::marker",
     "String": "std::string",
-    "kept": "buffa_fields::kept",
 }
+# The words of contracts are imported from here: those of all messages, and those of messages that hold themselves.
+TERMS = "Rattle.buffa_fields.specs.Terms"
+TERMS_INSIDE = "Rattle.buffa_recursive.specs.Terms"
+# Which of two the case of a oneof is. A crate hands no variants of its own types on, so they are imported from where they stand.
+EITHER = "Rattle.buffa_fields.specs.declared.meaning.Or.TheVariants"
 # Names that a type of one's own can't have beside those.
-TAKEN = set(FACADE) | set("Option Result Vec Some None Ok Err Box Self TheLinks I V".split())
+TAKEN = set(MODULE) | set("Option Result Vec Some None Ok Err Box Self TheLinks I V".split())
 
 
 def snake(name):
@@ -113,6 +85,8 @@ def is_variant(name, type_name):
 
 def member(name):
     """The name of a member: with `_` behind it where it is a word of the language, or that of the fields that are kept."""
+    if not name.strip("_"):
+        return UNNAMED
     return name + "_" if name in KEYWORDS | {"rest"} else name
 
 

@@ -2,7 +2,7 @@
 import math
 
 from depths import own_depth
-from names import TAKEN, variant
+from names import EITHER, TAKEN, TERMS, variant
 
 # As many cases of one oneof are written.
 MOST_CASES = 40
@@ -82,22 +82,15 @@ def uses_of_enum(one):
     return needs | ({"Blank"} if any(" as Blank>" in k.said for k in one.cases) else set())
 
 
-def head(one, crate, module, over):
-    """What contracts cite, by the facade or by the crates below it."""
+def head(one, crate, module):
+    """What contracts cite."""
     variants = [k.variant if k.in_elim == k.variant else f"{k.variant} as {k.in_elim}" for k in one.cases]
     path = ".".join(["Rattle", crate, "specs.declared", *module, one.enum, "TheVariants"])
     in_groups = len(one.groups()) > 1
-    found = ["other_of", "this_of"] * in_groups
-    words = sorted(["case", "enum_of", "no_case", *["some_cases"] * in_groups, *found])
-    if over == "buffa":
-        made = [f"ghost use Rattle.buffa.specs.Members.{{{', '.join(['Other', 'This', *words])}}};"]
-    else:
-        made = [f"ghost use Rattle.buffa_fields.specs.OneOfParts.{{{', '.join(it for it in words if it not in found)}}};"]
-        made += [f"ghost use Rattle.buffa_fields.specs.Cases.{{{', '.join(found)}}};"] * in_groups
-        made += ["ghost use Rattle.buffa_fields.specs.declared.meaning.Or.TheVariants.{Other, This};"]
+    words = sorted(["case", "enum_of", "no_case", *["budget_left", "other_of", "some_cases", "this_of"] * in_groups])
+    made = [f"ghost use {TERMS}.{{{', '.join(words)}}};", f"ghost use {EITHER}.{{Other, This}};"]
     if in_groups:
-        home = "buffa.specs.Wire" if over == "buffa" else "buffa_wire.specs.BudgetLeft"
-        more = ["std.specs.Prelude.{◌≡◌, ◌==◌, ◌||◌, false}", "std.specs.Option.{option_map}", f"{home}.{{budget_left}}"]
+        more = ["std.specs.Prelude.{◌≡◌, ◌==◌, ◌||◌, false}", "std.specs.Option.{option_map}"]
         made = [f"ghost use Rattle.{it};" for it in more] + made
     return made + [f"ghost use {path}.{{{', '.join(sorted(variants))}}};", ""]
 

@@ -5,7 +5,7 @@ from google.protobuf.descriptor_pb2 import DescriptorProto as Descriptor
 from google.protobuf.descriptor_pb2 import FieldDescriptorProto as Field
 
 from blocks import blocks
-from depths import own_depth
+from depths import DEEPEST_STRUCT, own_depth
 from files import Name, Refused, clean, quoted
 from names import ESCAPED, TAKEN, is_variant, member, snake, variant
 from oneof import MOST_CASES, OneOf
@@ -49,6 +49,7 @@ class Member:
         self.name = world.renamed.get(field.full) or member(self.it.name)
         if member(self.name) != self.name:
             field.refuse(f"no member can be called {self.name}", "write another name behind its rename=")
+        tell_unnamed(world, field, self.name)
         self.in_contract = f"«{self.name}»" if self.name in ESCAPED else self.name
         self.keeps, self.needs, self.inside, self.world = False, set(), [], world
         # Of a member that holds the message's own type: its kind, and the codec and the type of the keys of a map.
@@ -287,6 +288,12 @@ class Member:
         return f"{label}{type_name(self.it)} {self.it.name} = {self.number}{said};"
 
 
+def tell_unnamed(world, field, name):
+    """Says how a member is called, where a .proto gives it a name that none can have."""
+    if not field.it.name.strip("_"):
+        world.tell(f"{field.at()}: it is called {name}, since no member can be called {field.it.name}")
+
+
 def is_case(field):
     """Whether a field is in a oneof, which that of an optional field of proto3 isn't."""
     return field.HasField("oneof_index") and not field.proto3_optional
@@ -318,12 +325,13 @@ class Message:
         cases = [k for k in self.listed if k.field.full in field.cases]
         if not cases:
             return None
-        leave = [k.field.full for k in cases]
-        way = "leave out its cases by --buffa_opt=" + ",".join(f"leave={it}" for it in leave)
-        if len(cases) > MOST_CASES:
+        leave = [k.field.full for k in cases[MOST_CASES:]]
+        way = f"leave out those behind the {MOST_CASES}th, by --buffa_opt=" + ",".join(f"leave={it}" for it in leave)
+        if leave:
             raise Refused(f"{field.at()}: it has {len(cases)} cases, of which {MOST_CASES} are written: {way}", leave)
         if not self.world.crate and not self.world.is_mapped(self.name.full):
             field.refuse("the file of its enum cites the crate that it stands in", "say crate=NAME")
+        tell_unnamed(self.world, field, member(field.it.name))
         return OneOf(self.world, field, member(field.it.name), cases, [k for k in self.listed if k not in cases])
 
     def see_names(self):
@@ -367,6 +375,14 @@ class Message:
         for block in blocks(self):
             if block.name in set(self.world.types.values()) | TAKEN:
                 self.name.refuse(f"a block of its members is to be called {block.name}, as another type is", way)
+
+    def see_depth(self, deep, field):
+        """Refuses a struct that is too deep by what is in a field, which can be held as an encoding, but in a group."""
+        why = f"its struct nests {deep} deep, with those of the messages in it, of which the checker takes {DEEPEST_STRUCT}"
+        name = field.field.full
+        if field.is_group():
+            raise Refused(f"{self.name.at()}: {why}: leave a member out by --buffa_opt=leave={name}", (name,))
+        self.name.refuse(why, f"hold what is in one of its members as an encoding, by --buffa_opt=encoded={name}")
 
     def see_kept(self):
         """Refuses what would drop more than fields that aren't declared."""

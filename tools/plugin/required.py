@@ -1,4 +1,6 @@
 """What a message requires: the call that says whether it is there, in the messages inside too."""
+from google.protobuf.descriptor_pb2 import FieldDescriptorProto as Field
+
 import knots
 from oneof import OneOf
 
@@ -7,7 +9,7 @@ LONGEST = 120
 
 
 class Asked:
-    """Of one message the members that have to be there, those whose messages are looked into, and those whose messages aren't."""
+    """Of one message the members that have to be there, and those whose messages are looked into."""
 
     def __init__(self, message, messages, needing):
         for one in message.oneofs:
@@ -15,9 +17,11 @@ class Asked:
         inner = [k for k in message.members if "optional" not in k.told and needing & set(k.inside) and not message.holds_itself]
         self.there = [k for k in message.members if k.is_required and k.rust.startswith("Option<") and not k.itself]
         self.looked = [k for k in inner if (k.asked if isinstance(k, OneOf) else not is_held(k, messages))]
-        self.passed = [k for k in message.fields if k.is_encoded or needing & set(k.inside) and is_held(k, messages)]
-        self.passed += [k for k in message.members if k.itself or message.holds_itself and needing & set(k.inside)]
         self.of = {k: f"(rest_of m){knots.at(message, k)}" if message.holds_itself else f"m.{k.in_contract}" for k in self.there}
+
+    def looked_fields(self):
+        """The fields whose messages are looked into."""
+        return [it for k in self.looked for it in (k.asked if isinstance(k, OneOf) else [k])]
 
     def parts(self):
         """What is asked, one after the other: of each part its term in contracts, and its call."""
@@ -29,6 +33,28 @@ class Asked:
 def is_held(member, messages):
     """Whether a member has messages that hold themselves, of which the call asks for their own members alone."""
     return any(messages[it].holds_itself for it in member.inside if it in messages)
+
+
+def requiring(world):
+    """The messages in which something is required, of them or of messages in them at any depth, by their full names."""
+    inside, found = {}, set()
+    for full, name in world.found.items():
+        fields = [it for it in getattr(name.it, "field", []) if f"{full}.{it.name}" not in world.left | world.fields["optional"]]
+        inside[full] = {world.target(it) for it in fields}
+        found |= {full} if any(it.label == Field.LABEL_REQUIRED for it in fields) else set()
+    more = found
+    while more:
+        more = {full for full, targets in inside.items() if targets & more} - found
+        found |= more
+    return found
+
+
+def find_passed(world, messages):
+    """Gives each message the fields in whose messages something is required, and that no call looks into."""
+    found = requiring(world)
+    for message in messages.values():
+        looked = message.asked.looked_fields() if message.asked else []
+        message.passed = [k for k in message.fields if k not in looked and "optional" not in k.told and world.target(k.it) in found]
 
 
 def find_required(messages):

@@ -6,7 +6,7 @@ import knots
 import oneof
 import required
 from getters import declared, getters, variants_used, words
-from names import BELOW, FACADE, ordered, place, snake
+from names import MODULE, TERMS, TERMS_INSIDE, ordered, place, snake
 
 WIDTH = 100
 CALL_WIDTH = 60
@@ -18,22 +18,17 @@ def uses(world, names, own):
     """The use lines of names and of types of the .proto's, which are given by their full names."""
     by_module = {}
     for name in names:
-        by_module.setdefault((FACADE if world.over == "buffa" else BELOW)[name], set()).add(name)
-    if "kept" in names and world.over != "buffa":
-        by_module["buffa_fields::kept"] |= {"self"}
-        by_module["buffa_fields::kept"].discard("kept")
+        by_module.setdefault(MODULE[name], set()).add(name)
     for full in own:
         by_module.setdefault(world.module_of(full), set()).add(world.types[full])
     modules = sorted(by_module, key=lambda m: (not m.startswith("crate::"), [(1, place(p)) for p in m.split("::")] + [(9, [])]))
     made = []
     for module in modules:
-        made += use_line(module, ["self"] * ("self" in by_module[module]) + ordered(by_module[module] - {"self"}))
+        made += use_line(module, ordered(by_module[module]))
     return made
 
 
 def use_line(module, names):
-    if names == ["self"]:
-        return [f"use {module};"]
     if len(names) == 1:
         return [f"use {module}::{names[0]};"]
     line = f"use {module}::{{{', '.join(names)}}};"
@@ -110,9 +105,9 @@ def remarks(message):
     yield "Read where it isn't there, too", [k.it for k in message.fields if k.is_required and k not in there]
     yield "Read where it isn't there, too, and `is_initialized` says whether it is", [k.it for k in there]
     if message.asked:
-        looked = [it for k in message.asked.looked for it in (k.asked if isinstance(k, oneof.OneOf) else [k])]
-        yield "`is_initialized` looks into the messages of these", [k.it for k in looked]
-        yield "`is_initialized` doesn't look into these", [k.it for k in message.asked.passed]
+        yield "`is_initialized` looks into the messages of these", [k.it for k in message.asked.looked_fields()]
+    passed = "`is_initialized` doesn't look into these" if message.asked else "Something is required in these, and no call says whether it is there"
+    yield passed, [k.it for k in message.passed]
     held = [k for k in message.fields if k.is_encoded and not k.is_case]
     yield "Held as the encodings of its messages, which merge_from_slice reads", [k.it for k in held if k.is_list]
     one = "Held as the encodings of its records, which merge_from_slice reads one after the other into one message"
@@ -271,16 +266,12 @@ def head_of_message(world, message, enums):
 def layers(message, fields):
     """The words of its members in contracts."""
     pieces, made = blocks.pieces(message), blocks.blocks(message)
-    over, has_one = message.world.over, any(isinstance(k, oneof.OneOf) for k in pieces)
     fields = [k for k in fields if k in pieces]
     found = ["field"] * any(not k.keeps for k in fields) + ["field_kept"] * any(k.keeps for k in fields)
-    more = sorted(set().union(*[blocks.words(it) for it in made]))
-    found += more if over == "buffa" else []
+    found += sorted(set().union(*[blocks.words(it) for it in made]))
     found += ["keep"] if message.is_keeping else ["skip"]
-    found += ["one_of"] * (has_one and over == "buffa")
-    made = [f"ghost use Rattle.{over}.specs.Members.{{{', '.join(found)}}};"]
-    made += [f"ghost use Rattle.buffa_fields.specs.Blocks.{{{', '.join(more)}}};"] * (bool(more) and over != "buffa")
-    return made + ["ghost use Rattle.buffa_fields.specs.OneOf.{one_of};"] * (has_one and over != "buffa")
+    found += ["one_of"] * any(isinstance(k, oneof.OneOf) for k in pieces)
+    return [f"ghost use {TERMS}.{{{', '.join(found)}}};"]
 
 
 def struct(message):
@@ -342,15 +333,10 @@ def codes_of(message, messages):
 
 
 def codes_used(message, codes):
-    """What a meaning of its own cites, by the facade or by the crates below it."""
-    datum = ["Datum"] * message.is_keeping
-    if message.world.over == "buffa":
-        made = [f"    ghost use Rattle.buffa.specs.Wire.{{{', '.join(datum + ['coded_datum'])}}};"]
-        return made + [f"    ghost use Rattle.buffa.specs.Knots.{{{', '.join(codes)}}};"] * bool(codes) + [""]
-    made = ["    ghost use Rattle.buffa_wire.specs.Code.{coded_datum};"]
-    made += ["    ghost use Rattle.buffa_wire.specs.Records.{Datum};"] * message.is_keeping
-    homes = {"coded_knot": "Knots", "coded_or": "OrCode"}
-    return made + [f"    ghost use Rattle.buffa_fields.specs.{homes[it]}.{{{it}}};" for it in codes] + [""]
+    """What a meaning of its own cites."""
+    found = ["Datum"] * message.is_keeping + ["coded_datum"] + [it for it in codes if it == "coded_or"]
+    made = [f"    ghost use {TERMS}.{{{', '.join(found)}}};"]
+    return made + [f"    ghost use {TERMS_INSIDE}.{{coded_knot}};"] * ("coded_knot" in codes) + [""]
 
 
 def opaque_meaning(message, messages):
@@ -435,7 +421,7 @@ def write_oneof(world, one, message):
     """The file of a oneof's enum."""
     module = [it for it in (world.module, snake(one.enum)) if it]
     made = [f"//! The oneof {one.field.full}, made of {message.name.file.shown} by protoc-gen-buffa.", ""]
-    made += required.head_of_enum(one) + oneof.head(one, world.crate, module, world.over)
+    made += required.head_of_enum(one) + oneof.head(one, world.crate, module)
     needs = oneof.uses_of_enum(one) | ({"Required"} if one.asked else set())
     made += uses(world, needs, {i for k in one.cases for i in k.imports}) + [""] + oneof.enum(one, docs)
     made += [f"impl OneOf for {one.enum} {{"] + oneof.meaning(one) + [""] + oneof.cases(one) + oneof.visit(one)

@@ -5,7 +5,7 @@ import re
 from google.protobuf.descriptor_pb2 import FieldDescriptorProto as Field
 
 from files import File, Name, Refused, clean
-from names import camel, is_free_type, snake
+from names import LONGEST_FILE, camel, is_free_type, snake
 
 # Parameters that are of a field.
 FIELD_KEYS = ("bytes", "delimited", "encoded", "implicit", "optional", "ordered", "shared")
@@ -31,6 +31,10 @@ class World:
         if self.refused:
             raise all_of(self.refused)
         self.order = self.reached()
+        for file in {it.name: it for it in [*self.asked, *(it.file for it in self.order)]}.values():
+            self.tries(file.see_syntax)
+        if self.refused:
+            raise all_of(self.refused)
 
     def add_oneofs(self, message):
         """Notes the oneofs of a message, but those that protoc makes of optional fields of proto3."""
@@ -55,7 +59,7 @@ class World:
         self.notes.append(f"protoc-gen-buffa: {line}\n")
 
     def read_parameters(self, text):
-        self.crate, self.module, self.over, self.maps, self.strings = folder_name(), "messages", "buffa", "", ""
+        self.crate, self.module, self.maps, self.strings = folder_name(), "messages", "", ""
         self.left, self.dropping, self.costs, self.renamed, self.mapped = set(), set(), {}, {}, {}
         self.fields = {key: set() for key in FIELD_KEYS}
         for word in filter(None, text.split(",")):
@@ -77,7 +81,7 @@ class World:
             self.mapped[file] = path
         elif key in ("crate", "module") and re.fullmatch(r"[a-z_][a-z0-9_]*", value) or word == "module=":
             setattr(self, key, value)
-        elif (key, value) in (("over", "buffa"), ("over", "buffa_fields"), ("maps", "ordered"), ("strings", "bytes")):
+        elif (key, value) in (("maps", "ordered"), ("strings", "bytes")):
             setattr(self, key, value)
         else:
             raise Refused(f"no parameter is {clean(word)}: PLUGIN --help lists them all")
@@ -144,7 +148,9 @@ class World:
         if it.full not in self.renamed:
             is_one = hasattr(it, "cases")
             name = is_free_type(name, "Enum" if hasattr(it.it, "value") else "OneOf" if is_one else "Message")
-            name += "OneOf" * (is_one and snake(name) in files)
+            if is_one and snake(name) in files:
+                other, name = files[snake(name)], name + "OneOf"
+                self.tell(f"{it.at()}: its enum is called {name}, since {other.full} has the shorter name")
             if snake(name) in files and files[snake(name)].file.it.package != it.file.it.package:
                 other, name = files[snake(name)], camel(it.file.it.package.replace(".", "_")) + name
                 self.tell(f"{it.at()}: it is called {name}, since {other.full} has the shorter name")
@@ -152,6 +158,8 @@ class World:
             it.refuse(f"no type of one's own can be called {name}", "write another name behind its rename=, one in upper camel case")
         if not self.module and snake(name) in ("lib", "main"):
             it.refuse("its file would be the crate's root", f"say module=NAME, or {way}")
+        if len(snake(name)) > LONGEST_FILE:
+            it.refuse(f"its file would have a name of {len(snake(name))} letters, of which {LONGEST_FILE} are written", way)
         other = files.setdefault(snake(name), it)
         if other is not it:
             it.refuse(f"the name of its file is that of {other.full}, too", way)
@@ -170,6 +178,13 @@ class World:
         if self.is_mapped(full):
             return f"{self.mapped[self.found[full].file.name]}::{file}"
         return "::".join(it for it in ("crate", self.module, file) if it)
+
+    def tell_empty(self):
+        """Says of which files nothing is written, and which files have what they hand on."""
+        for file in (it for it in self.asked if not it.messages and not it.enums):
+            others = ", ".join(clean(file.it.dependency[at]) for at in file.it.public_dependency)
+            hint = f": it hands on what others have; name these in the call: {others}" if others else ""
+            self.tell(f"{file.shown}: it has no message and no enum, so nothing is written of it{hint}")
 
     def tell_passed(self):
         """Says which services and extensions are passed over, but those that are left out by a parameter."""

@@ -4,10 +4,11 @@
 ghost use Rattle.std.specs.Prelude.{◌≡◌, ◌≢◌, ◌↔◌, [], ◌∷◌, ℕ, List, ℤ, Bool, Option, Some, map};
 ghost use Rattle.buffa_wire.specs.Enums.{open_number};
 ghost use Rattle.buffa_codec.specs.Decoded.{LaterReadingsWin, ReadAlike, ReadingsJoin};
-ghost use Rattle.buffa_codec.specs.Through.{ListsThrough, ReadsThrough, WritesThrough};
+ghost use Rattle.buffa_ext_laws.specs.Through.{ListsThrough, ReadsThrough, WritesThrough};
 ghost use Rattle.buffa_ext.specs.Steps.{ClearsAreOne, IsExactlySet, KeepsTheRest, LeavesOthers, SecondCounts};
 ghost use Rattle.buffa_ext.specs.Steps.{StandsLast, TakesOut, TakesThePlace};
-ghost use Rattle.buffa_map.specs.Laws.{RewriteMeans, RunsJoin, SizeIsLength};
+ghost use Rattle.buffa_map.specs.Laws.{SizeIsLength};
+ghost use Rattle.buffa_map_laws.specs.Laws.{RewriteMeans, RunsJoin};
 ghost use Rattle.buffa_map.specs.Scalars.{delimited_writing};
 ghost use Rattle.buffa_message_set.specs.Item.{NoOtherFront, WrittenIsItem, body_encoding, item_encoding};
 ghost use Rattle.buffa.specs.Keys.{KeepsStoredKeys};
@@ -28,29 +29,29 @@ use std::hash::{BuildHasher, Hash};
 /// Laws of the names of this crate: limits, codecs, and the usual map.
 pub use crate::name_laws as names;
 /// Laws of bytes: varints, tags, fields, scalars and texts.
-pub use buffa_wire::laws::wire;
+pub use buffa_wire_laws::wire;
 /// Laws of codecs of extensions: scalars, texts, enums and lists.
-pub use buffa_codec::laws as extension_codecs;
+pub use buffa_ext_laws::codecs as extension_codecs;
 /// Laws of sets and clears of extensions, and of messages in them.
-pub use buffa_ext::laws as extensions;
+pub use buffa_ext_laws::extensions;
 /// Laws of messages that are lists of their members, and of member types.
-pub use buffa_fields::laws as fields;
+pub use buffa_fields_laws::members as fields;
 /// Laws of members that hold messages of the message's own type, and of such messages.
-pub use buffa_fields::inside_laws as inside;
+pub use buffa_fields_laws::recursive_members as inside;
 /// Laws of messages that hold themselves, in members of any kind.
-pub use buffa_fields::self_laws as selves;
+pub use buffa_fields_laws::recursive_messages as selves;
 /// Laws of the words by which a message that holds itself names its members.
-pub use buffa_fields::open_laws as open_members;
+pub use buffa_fields_laws::member_list as open_members;
 /// Laws of oneofs and of their cases.
-pub use buffa_fields::one_of_laws as oneofs;
+pub use buffa_fields_laws::oneofs;
 /// Laws of what groups, maps of messages and numbers that are put aside cost, and what a refusal of them leaves.
-pub use buffa_fields::spending_laws as spending;
+pub use buffa_fields_laws::spending;
 /// Laws of blocks of members, which messages of many members have.
-pub use buffa_fields::block_laws as blocks;
+pub use buffa_fields_laws::blocks;
 /// Laws of map fields: codecs, entries, runs, sizes, encodings and rewrites.
-pub use buffa_map::laws as map_fields;
+pub use buffa_map_laws::map_fields;
 /// Laws of Items of a MessageSet.
-pub use buffa_message_set::laws::{
+pub use buffa_ext_laws::items::{
     faults_of_items_are_these, item_tags, item_words_are_these, items_are_groups, items_are_pinned,
     items_are_read, items_are_read_in_order, items_are_these, items_take_memory_so,
     no_item_begins_another, written_items_are_pinned,
@@ -60,13 +61,13 @@ pub use sample_node::laws as nodes;
 /// Laws of the sample that is a MessageSet.
 pub use sample_set_msg::laws as sets;
 /// Laws of records of unknown fields.
-pub use buffa_wire::laws::records;
+pub use buffa_wire_laws::records;
 /// What the words of the grammar mean: varints, tags, payloads, fields, records.
-pub use buffa_wire::laws::grammar;
+pub use buffa_wire_laws::grammar;
 /// What the words of values mean: scalars, encodings, enums, records, texts of errors.
-pub use buffa_wire::laws::values;
+pub use buffa_wire_laws::values;
 /// What the words of answers mean: what a call gave, wrote, spent and left.
-pub use buffa_wire::laws::answers;
+pub use buffa_wire_laws::answers;
 
 /// Two runs of a map field, one after the other, are a run of the entries of both.
 ///
@@ -79,7 +80,7 @@ pub fn law_1<
 >()
     ensures { RunsJoin KC.reading VC.reading C.equal }
 {
-    buffa_map::laws::runs_join::<KC, VC, C>();
+    buffa_map_laws::map_fields::runs_join::<KC, VC, C>();
 }
 
 /// Of the records of an extension of one value later ones win, if one of them is read at all.
@@ -89,7 +90,7 @@ pub fn law_1<
 pub fn law_2<C: LastWins>()
     ensures { LaterReadingsWin ⟦<C as ExtensionCodec>⟧.reads }
 {
-    buffa_codec::laws::later_readings_win::<C>();
+    buffa_ext_laws::codecs::later_readings_win::<C>();
 }
 
 /// The values of joined records of a repeated extension are the joined values.
@@ -98,14 +99,14 @@ pub fn law_2<C: LastWins>()
 pub fn law_3<C: LastWins>()
     ensures { ReadingsJoin ⟦<Repeated<C> as ExtensionCodec>⟧.reads }
 {
-    buffa_codec::laws::lists_join::<C>();
+    buffa_ext_laws::codecs::lists_join::<C>();
 }
 
 /// A repeated extension is read alike by the packed codec and by the one that isn't, whatever its records.
 pub fn law_4<C: PackableCodec>()
     ensures { ReadAlike ⟦<Repeated<C> as ExtensionCodec>⟧.reads ⟦<PackedRepeated<C> as ExtensionCodec>⟧.reads }
 {
-    buffa_codec::laws::lists_read_alike::<C>();
+    buffa_ext_laws::codecs::lists_read_alike::<C>();
 }
 
 /// A set of a number leaves the records of every other number, and the new records come last.
@@ -118,8 +119,8 @@ pub fn law_5()
     ensures rest { KeepsTheRest }
     ensures exactly { IsExactlySet }
 {
-    buffa_ext::laws::sets_leave_others();
-    buffa_ext::laws::sets_take_the_place();
+    buffa_ext_laws::extensions::sets_leave_others();
+    buffa_ext_laws::extensions::sets_take_the_place();
 }
 
 /// Two sets of a number are the second one, and two clears are one.
@@ -130,8 +131,8 @@ pub fn law_6()
     ensures clears { ClearsAreOne }
     ensures out { TakesOut }
 {
-    buffa_ext::laws::last_set_counts();
-    buffa_ext::laws::clears_take_out();
+    buffa_ext_laws::extensions::last_set_counts();
+    buffa_ext_laws::extensions::clears_take_out();
 }
 
 /// A value of a codec of one value has a record, and an empty list has none.
@@ -185,7 +186,7 @@ pub fn law_11()
     ensures item { WrittenIsItem }
     ensures only { NoOtherFront }
 {
-    buffa_message_set::laws::written_items_are_items();
+    buffa_ext_laws::items::written_items_are_items();
 }
 
 /// A rewrite of a run by an older reader means to a newer one what the run means, if the run is ordered.
@@ -195,7 +196,7 @@ pub fn law_11()
 pub fn law_12<KC: MapCodec>()
     ensures { RewriteMeans KC.reading KC.writing KC.fits }
 {
-    buffa_map::laws::rewrite_means::<KC>();
+    buffa_map_laws::map_fields::rewrite_means::<KC>();
 }
 
 /// An extension of an enum is read and written as `int32` is, each number as the value that it means.
@@ -222,5 +223,5 @@ pub fn law_13<E: Enumeration>()
     ensures packed_holds { (vs os : List (Bool × ℤ)) → ⟦<PackedRepeated<EnumCodec<E>> as ExtensionCodec>⟧.holds vs os
         ↔ (os ≡ map (λ v. open_number E.of_number v.1) vs) }
 {
-    buffa_codec::laws::enums_are_read_as_numbers::<E>();
+    buffa_ext_laws::codecs::enums_are_read_as_numbers::<E>();
 }

@@ -20,7 +20,7 @@ ghost use Rattle.buffa_fields.specs.MapFields.{pair_taken};
 ghost use Rattle.buffa_fields.specs.MemberRecords.{optional_records, plain_records};
 ghost use Rattle.buffa_fields.specs.Nested.{message_merged, message_records};
 ghost use Rattle.buffa_fields.specs.RepeatedNested.{messages_records};
-ghost use Rattle.buffa_fields.specs.Told.{told};
+ghost use Rattle.buffa_recursive.specs.Fixpoint.{told};
 ghost use Rattle.buffa_map.specs.Enums.{closed_reading, open_reading};
 ghost use Rattle.buffa_map.specs.Message.{message_reading};
 ghost use Rattle.buffa_map.specs.Pairs.{put};
@@ -40,7 +40,7 @@ use crate::{
     FloatBits, Limited, MAX_FIELD_NUMBER, MAX_MESSAGE_BYTES, Map, MapKey, Message, MessageSpec,
     Pieces, RECURSION_LIMIT, fields, laws, map_codec, samples,
 };
-use buffa_codec::laws::{numbers_are_read, the_last_record_is_read};
+use buffa_ext_laws::codecs::{numbers_are_read, the_last_record_is_read};
 use buffa_wire::MessageMeaning;
 use bytes::Bytes;
 use std::hash::Hash;

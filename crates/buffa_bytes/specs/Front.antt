@@ -1,5 +1,6 @@
--- What is read at the front of bytes: what stands there and the bytes that follow, or the first fault. Before that comes how the
--- answer of a call is said by a reading.
+-- Readings of the wire: each `.._at` says what stands at the front of some bytes, a varint, a tag, a length and so many bytes, a payload or a
+-- group, and which bytes follow, or which fault comes first. `Gives`, `GivesUnlessFull` and `FullOnlyIf` say in a contract that a call
+-- answered so.
 use Rattle.std.specs.Prelude.{ℕ, Bool, true, false, None, Some, if◌then◌else◌, ◌≡◌, ◌≢◌, Result, Ok, Err, IfErr, zero, suc, ◌+◌, ◌*◌, ◌/◌, ◌%◌, ◌^◌, ◌==◌, nat_lt, List, [], ◌∷◌, length, take, drop}
 use Rattle.buffa_bytes.specs.declared.wire_type.WireType.{WireType}
 use Rattle.buffa_bytes.specs.declared.wire_type.WireType.TheVariants.{Varint, Fixed64, LengthDelimited, StartGroup, EndGroup, Fixed32}

@@ -1,4 +1,5 @@
--- What a buffer shows of the bytes that are left, and what readers leave unread of bytes that they refuse.
+-- Bytes that a buffer has left: which of them a chunk shows (`IsChunkOf`, `IsFrontOf`), and how far a call moved in them (`IsTailOf`,
+-- `bytes_read`). Then where a reader of a varint, a tag, a length or a payload stops in bytes that it refuses (`past_..`).
 use Rattle.std.specs.Prelude.{◌≡◌, ℕ, ◌<◌, ◌≤◌, ◌-◌, List, ◌++◌, length, take, drop, Result, MatchResult, ◌≢◌, nat_lt, Ok, Err, IfErr, if◌then◌else◌}
 use Rattle.buffa_bytes.specs.declared.error.DecodeError.{DecodeError}
 use Rattle.buffa_bytes.specs.declared.error.DecodeError.TheVariants.{OutOfMemory}

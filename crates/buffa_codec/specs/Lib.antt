@@ -4,9 +4,5 @@ pub mod Packed
 pub mod Decoded
 pub mod CodecFacts
 pub mod PackedFacts
-pub mod Costs
-pub mod Through
-pub mod PackedGrammar
-pub mod Pinned
 pub mod Strict
 pub mod StrictFacts

@@ -9,12 +9,10 @@ pub mod codec;
 pub mod delimited;
 pub mod enums;
 pub mod last;
-pub mod laws;
 pub mod number;
 pub mod packed;
 pub mod repeated;
 pub mod strict;
-pub mod word_laws;
 
 pub use codec::{ExtensionCodec, PackableCodec, SingularCodec};
 pub use delimited::{BytesCodec, StringCodec};

@@ -3,7 +3,5 @@ pub mod Steps
 pub mod Defaults
 pub mod Messages
 pub mod MessageFacts
-pub mod Pinned
-pub mod Names
 pub mod Strict
 pub mod StrictFacts

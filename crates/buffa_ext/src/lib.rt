@@ -2,19 +2,14 @@
 #![tactic(auto)]
 
 pub mod back;
-pub mod codec_laws;
 pub mod codecs;
 pub mod descriptor;
-pub mod laws;
-pub mod merge_laws;
 pub mod message;
 pub mod record;
 pub mod set;
 pub mod stage;
 pub mod steps;
 pub mod strict;
-pub mod strict_laws;
-pub mod word_laws;
 
 pub use back::set_then_read;
 pub use buffa_codec::{

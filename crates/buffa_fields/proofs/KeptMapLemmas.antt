@@ -45,10 +45,10 @@ module _ {K V : Type 0} (key : Reading K) (val : Reading V) (same : K → K → 
 
   -- ---- where it takes memory
   pub kept_full : (left : BudgetLeft) → check_wire n LengthDelimited w ≡ Ok tt → EntryTakesMemory by left bs → KeptPairTakesMemory key val cost left.unknown d n w bs
-  kept_full left checked (e, rest, is, inl copied) = (checked_same n LengthDelimited w checked, e, rest, delimited_taken bs e rest is, inl (copied.1, copied.2))
-  kept_full left checked (e, rest, is, inr (enough, inl field)) = (checked_same n LengthDelimited w checked, e, rest, delimited_taken bs e rest is, inr (inl field))
-  kept_full left checked (e, rest, is, inr (enough, inr (s, entry, inl known))) = (checked_same n LengthDelimited w checked, e, rest, delimited_taken bs e rest is, inr (inr (s, entry, inl known)))
-  kept_full left checked (e, rest, is, inr (enough, inr (s, entry, inr kept))) = (checked_same n LengthDelimited w checked, e, rest, delimited_taken bs e rest is, inr (inr (s, entry, inr (omega (arith, kept.1)))))
+  kept_full left checked (e, rest, is, enough, inl copied) = (checked_same n LengthDelimited w checked, e, rest, delimited_taken bs e rest is, inl (copied.1, copied.2))
+  kept_full left checked (e, rest, is, enough, inr (inl field)) = (checked_same n LengthDelimited w checked, e, rest, delimited_taken bs e rest is, inr (inl field))
+  kept_full left checked (e, rest, is, enough, inr (inr (s, entry, inl known))) = (checked_same n LengthDelimited w checked, e, rest, delimited_taken bs e rest is, inr (inr (s, entry, inl known)))
+  kept_full left checked (e, rest, is, enough, inr (inr (s, entry, inr kept))) = (checked_same n LengthDelimited w checked, e, rest, delimited_taken bs e rest is, inr (inr (s, entry, inr (omega (arith, kept.1)))))
 
   -- ---- what is told of a refused one
   pub kept_other : (ps : List (K × V)) (left : BudgetLeft) (f e : DecodeError) → check_wire n LengthDelimited w ≡ Err f → f ≡ e → RefusesKeptPair key val cost d ps n w bs left e ps

@@ -11,19 +11,6 @@ pub mod ListLemmas
 pub mod EntriesLemmas
 pub mod MapLemmas
 pub mod NestedMapLemmas
-mod OneOfLawLemmas
 pub mod OrderedLemmas
 pub mod PackedLemmas
 pub mod KeptMapLemmas
-pub mod KeptLawLemmas
-pub mod LevelLemmas
-pub mod RecordLawLemmas
-pub mod InsideListLemmas
-pub mod InsideOneLemmas
-pub mod InsideKidLemmas
-pub mod InsideTookLemmas
-pub mod InsidePassLemmas
-pub mod InsideMergeLemmas
-pub mod InsideLawLemmas
-mod BlockLemmas
-mod SpendingLawLemmas

@@ -44,10 +44,10 @@ module _ {K V : Type 0} (key : Reading K) (val : Reading V) (cost : ℕ) where
 module _ {K V : Type 0} (key : Reading K) (val : Reading V) (same : K → K → Bool) (keeps : Bool) (puts : List (K × V) → K → V → List (K × V)) (cost : ℕ) where
   -- ---- where it takes memory
   pub map_full : (d n : ℕ) (w : WireType) (bs : List ℕ) (left : BudgetLeft) → check_wire n LengthDelimited w ≡ Ok tt → EntryTakesMemory (dropping key val same keeps d 0 cost) left bs → PairTakesMemory key val d n w bs
-  map_full d n w bs left checked (e, rest, is, inl copied) = let no = copied.0 in cc
-  map_full d n w bs left checked (e, rest, is, inr (enough, inl field)) = (checked_same n LengthDelimited w checked, e, rest, delimited_taken bs e rest is, inl field)
-  map_full d n w bs left checked (e, rest, is, inr (enough, inr (s, entry, inl known))) = (checked_same n LengthDelimited w checked, e, rest, delimited_taken bs e rest is, inr (s, entry, known))
-  map_full d n w bs left checked (e, rest, is, inr (enough, inr (s, entry, inr kept))) = let no = kept.0 in cc
+  map_full d n w bs left checked (e, rest, is, enough, inl copied) = let no = copied.0 in cc
+  map_full d n w bs left checked (e, rest, is, enough, inr (inl field)) = (checked_same n LengthDelimited w checked, e, rest, delimited_taken bs e rest is, inl field)
+  map_full d n w bs left checked (e, rest, is, enough, inr (inr (s, entry, inl known))) = (checked_same n LengthDelimited w checked, e, rest, delimited_taken bs e rest is, inr (s, entry, known))
+  map_full d n w bs left checked (e, rest, is, enough, inr (inr (s, entry, inr kept))) = let no = kept.0 in cc
 
   -- it isn't put, where it is of another wire type
   pub other_refused : (d : ℕ) (ps : List (K × V)) (n : ℕ) (w : WireType) (bs : List ℕ) (left : BudgetLeft) (f e : DecodeError) → check_wire n LengthDelimited w ≡ Err f → f ≡ e → RefusesPair key val cost d ps n w bs left e ps

@@ -30,7 +30,7 @@ abbrev pub one : {P A : Type 0} → ℕ → Shape P A → Block false P A
 one k s = record {
   part = member_part k (λ p. p) s;
   laws = member_laws k (λ p. p) s;
-  leaves = record { others = λ S E a b h. h };
+  leaves = record { others = λ S E a b h. h; only = λ S E a b h. h };
   alone = λ _. record { none = λ kept beside. beside };
 }
 
@@ -39,7 +39,7 @@ abbrev pub one_kept : {P A : Type 0} → ℕ → Shape P A → Aside A → Block
 one_kept k s a = record {
   part = keeping_part k (λ p. p) s a;
   laws = keeping_laws k (λ p. p) s a;
-  leaves = record { others = λ S E a b h. h };
+  leaves = record { others = λ S E a b h. h; only = λ S E a b h. h };
   alone = λ is. keeps_none (keeping_part k (λ p. p) s a) is;
 }
 
@@ -48,7 +48,7 @@ abbrev pub one_case : {O X : Type 0} → OneOf O X → Block false (Option O) (O
 one_case e = record {
   part = one_of_part (λ o. o) e;
   laws = one_of_laws (λ o. o) e;
-  leaves = record { others = λ S E a b h. h };
+  leaves = record { others = λ S E a b h. h; only = λ S E a b h. h };
   alone = λ _. record { none = λ kept beside. beside };
 }
 
@@ -66,7 +66,7 @@ abbrev pub aloof : {P A : Type 0} → Block false P A → Block true P A
 aloof b = record {
   part = aloof_part b.part;
   laws = aloof_laws b.part b.laws b.leaves (b.alone refl);
-  leaves = record { others = λ S E a b h. h };
+  leaves = record { others = λ S E a b h. h; only = λ S E a b h. h };
   alone = λ is. keeps_none (aloof_part b.part) is;
 }
 

@@ -1,5 +1,5 @@
 -- A message as a list of its members, as a value. Source: the protobuf encoding guide, "Message Structure".
-use Rattle.std.specs.Prelude.{◌≡◌, ◌≢◌, ℕ, ◌==◌, ◌<◌, ◌≤◌, ◌&&◌, Bool, true, false, nat_lt, List, [], ◌∷◌, ◌++◌, Some, Result, Err, IsOk, MatchResult, OnErr, if◌then◌else◌}
+use Rattle.std.specs.Prelude.{◌≡◌, ◌≢◌, ◌↔◌, ℕ, ◌==◌, ◌<◌, ◌≤◌, ◌&&◌, Bool, true, false, nat_lt, List, [], ◌∷◌, ◌++◌, Some, Result, Err, IsOk, MatchResult, OnErr, if◌then◌else◌}
 use Rattle.std.specs.List.{AllByRecursion}
 use Rattle.std.specs.Option.{option_map}
 use Rattle.buffa_bytes.specs.declared.wire_type.WireType.{WireType}
@@ -187,6 +187,7 @@ pub record Layout (M X : Type 0) : Type 1 where
   -- ---- what holds of these
   pub stays : Stays need
   pub same_is : (a b : M) → Same a b → meaning a ≡ meaning b
+  pub same_kept : (a b : M) → Same a b ↔ (SameBut a b × (kept (meaning b) ≡ kept (meaning a)))
   pub same_but : (a b : M) (rs : List (ℕ × Datum)) → SameBut a b → kept (meaning b) ≡ kept (meaning a) ++ rs → meaning b ≡ adds (meaning a) rs
   -- of a field that is taken
   pub taken_is : (d : ℕ) (old : M) (n : ℕ) (w : WireType) (bs : List ℕ) (before : BudgetLeft) (r : Result (Unit {0}) DecodeError) (new : M) (after : BudgetLeft) (rest : List ℕ) →

@@ -48,6 +48,7 @@ part {A = A} {B = B} p laws l = record {
   seen = λ m z. l.seen m (p.seen m z);
   stays = either_stays p.mine p.need l.need laws.stays l.stays;
   same_is = λ a b h. λ i. (laws.same_is a b h.0 i, l.same_is a b h.1 i);
+  same_kept = λ a b. let both = l.same_kept a b in (λ h. ((h.0, (both.0 h.1).0), (both.0 h.1).1), λ h. (h.0.0, both.1 (h.0.1, h.1)));
   same_but = λ a b rs h is. λ i. (sym (laws.same_is a b h.0) i, l.same_but a b rs h.1 is i);
   taken_is = λ d old n w bs before r new after rest h. part_is_taken p laws l d old n w bs before r new after rest h;
   asks_is = λ d old n w bs before r new after rest h. part_asks p laws l d old n w bs before r new after rest h;
@@ -121,6 +122,7 @@ keep get = record {
   seen = λ m z. more (get m) [] z;
   stays = keep_stays;
   same_is = λ a b h. sym h;
+  same_kept = λ a b. (λ h. (tt, h), λ h. h.1);
   same_but = λ a b rs h is. is;
   taken_is = λ d old n w bs before r new after rest h. is_kept d (get old) n w bs before r (get new) after rest h;
   asks_is = λ d old n w bs before r new after rest h. kept_asks d (get old) n w bs before r (get new) after rest h;
@@ -168,6 +170,7 @@ skip = record {
   seen = λ m z. z;
   stays = λ d n w p x h. refl;
   same_is = λ a b h. refl;
+  same_kept = λ a b. (λ h. (tt, refl), λ h. tt);
   same_but = λ a b rs h is. refl;
   taken_is = λ d old n w bs before r new after rest h. is_passed d n w bs before r after rest h;
   asks_is = λ d old n w bs before r new after rest h. passed_asks d n w bs before r after rest h;

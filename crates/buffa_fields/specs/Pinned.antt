@@ -35,6 +35,17 @@ KeepingOrOthers k get s a l d old n w bs before r new after rest =
     Choice (n == k) (TookBeside s a d (get old) (l.kept (l.meaning old)) n w bs before r (get new) (l.kept (l.meaning new)) after rest × l.SameBut old new)
     ((get new ≡ get old) × l.Taken d old n w bs before r new after rest)
 
+-- the same of members of which no more is told than what they mean: where the others take a field, such a member means what it did
+abbrev pub MemberMeantOrOthers : {M P A B : Type 0} → ℕ → (M → P) → Shape P A → Layout M B → FieldTaken M
+MemberMeantOrOthers k get s l d old n w bs before r new after rest =
+    Choice (n == k) (Took s d (get old) n w bs before r (get new) after rest × l.Same old new)
+    ((s.meaning (get new) ≡ s.meaning (get old)) × l.Taken d old n w bs before r new after rest)
+
+abbrev pub KeepingMeantOrOthers : {M P A B : Type 0} → ℕ → (M → P) → Shape P A → Aside A → Layout M B → FieldTaken M
+KeepingMeantOrOthers k get s a l d old n w bs before r new after rest =
+    Choice (n == k) (TookBeside s a d (get old) (l.kept (l.meaning old)) n w bs before r (get new) (l.kept (l.meaning new)) after rest × l.SameBut old new)
+    ((s.meaning (get new) ≡ s.meaning (get old)) × l.Taken d old n w bs before r new after rest)
+
 -- a field that is taken costs what it does where nothing is kept, and an unknown field for each record that is put aside
 abbrev pub CostsEach : {P X : Type 0} → Shape P X → Aside X → Type 0
 CostsEach {X = X} s a =

@@ -26,17 +26,7 @@ pub mod GroupFacts
 pub mod KeptMapFacts
 pub mod EntryDepthFacts
 pub mod LevelFacts
-pub mod WrittenFacts
 pub mod LevelKindFacts
 pub mod ValidFacts
 pub mod FramingFacts
-pub mod ApartFacts
-pub mod MapKeyFacts
-pub mod TiedFacts
-pub mod ToldFacts
-pub mod KindFacts
-pub mod MeantFacts
-pub mod OpenFacts
 pub mod VisitFacts
-pub mod ExactFacts
-pub mod MapKindFacts

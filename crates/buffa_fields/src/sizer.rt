@@ -11,10 +11,10 @@ use crate::member::Member;
 use crate::visitor::Visitor;
 use buffa_wire::{EncodeError, SizeCache, UnknownFields};
 
-// Adds the length of a member to a sum, unless memory ran out.
+/// Adds the length of a member to a sum, unless memory ran out.
 #[inline(always)]
 #[tactic(auto, using(crate::specs::facts::LayoutFacts::is_counted, crate::specs::facts::LayoutFacts::counted_err, crate::specs::facts::LayoutFacts::counted_none))]
-pub(crate) fn member_counted<M: Member>(
+pub fn member_counted<M: Member>(
     total: Result<u32, EncodeError>,
     number: u32,
     part: &M::Part,
@@ -29,10 +29,10 @@ pub(crate) fn member_counted<M: Member>(
     Ok(total.saturating_add(len))
 }
 
-// Adds the length of the fields that were kept.
+/// Adds the length of the fields that were kept.
 #[inline(always)]
 #[tactic(auto, using(crate::specs::facts::LayoutFacts::is_counted, crate::specs::facts::LayoutFacts::sized_free, crate::specs::facts::LayoutFacts::counted_none))]
-pub(crate) fn kept_counted(
+pub fn kept_counted(
     total: Result<u32, EncodeError>,
     fields: &UnknownFields,
 ) -> Result<u32, EncodeError>

@@ -10,10 +10,10 @@ use crate::member::Member;
 use crate::visitor::Visitor;
 use buffa_wire::{EncodeError, EncodeSink, SizeCache, UnknownFields};
 
-// Writes a member behind what was written, unless memory ran out.
+/// Writes a member behind what was written, unless memory ran out.
 #[inline(always)]
 #[tactic(auto, using(crate::specs::facts::LayoutFacts::is_put, crate::specs::facts::LayoutFacts::put_none, crate::specs::facts::LayoutFacts::follow_first, crate::specs::facts::LayoutFacts::follow_rest, crate::specs::facts::LayoutFacts::follow_none))]
-pub(crate) fn member_put<M: Member, S: EncodeSink>(
+pub fn member_put<M: Member, S: EncodeSink>(
     written: Result<(), EncodeError>,
     number: u32,
     part: &M::Part,
@@ -31,10 +31,10 @@ pub(crate) fn member_put<M: Member, S: EncodeSink>(
     M::write_to(number, part, cache, sink)
 }
 
-// Writes the fields that were kept.
+/// Writes the fields that were kept.
 #[inline(always)]
 #[tactic(auto, using(crate::specs::facts::LayoutFacts::is_put, crate::specs::facts::LayoutFacts::put_none, buffa_wire::proofs::PassLemmas::written_put, crate::specs::facts::LayoutFacts::follow_rest, crate::specs::facts::LayoutFacts::follow_none))]
-pub(crate) fn kept_put<S: EncodeSink>(
+pub fn kept_put<S: EncodeSink>(
     written: Result<(), EncodeError>,
     fields: &UnknownFields,
     sink: &mut S,

@@ -8,7 +8,6 @@ pub mod MemoryLemmas
 pub mod TailLemmas
 pub mod MessageLemmas
 pub mod RunLemmas
-mod RunLawLemmas
 pub mod SizeLemmas
 pub mod WalkLemmas
 pub mod OrderedLemmas
@@ -20,18 +19,9 @@ pub mod StepLemmas
 pub mod StopLemmas
 pub mod WriteLemmas
 pub mod MessageFieldLemmas
-pub mod FrontLemmas
 pub mod BackLemmas
-pub mod ClassLemmas
-pub mod RewriteLemmas
 pub mod RewriteCallLemmas
-pub mod PlainLemmas
-pub mod PinLemmas
-pub mod PinEncodingLemmas
 pub mod InsertLemmas
 pub mod LowLemmas
 pub mod ReaderRules
-pub mod CodecWordLemmas
-pub mod EntryWordLemmas
-pub mod FieldWordLemmas
 pub mod StayLemmas

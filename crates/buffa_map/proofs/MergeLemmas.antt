@@ -1,23 +1,24 @@
 -- An entry that was merged, or refused, at each place where reading it ends.
-use Rattle.std.specs.Prelude.{IsOk, if◌then◌else◌}
-use Rattle.std.proofs.Common.{arith, ◌≡◌, ◌≢◌, ◌+◌, ◌<◌, ◌≤◌, ◌++◌, ◌∷◌, ◌⊎◌, inl, inr, ℕ, true, false, List, [], Result, Ok, Err, ap, append-nil, length, refl, subst, sym, take, ◌∙◌}
+use Rattle.std.specs.Prelude.{if◌then◌else◌}
+use Rattle.std.proofs.Common.{arith, ◌≡◌, ◌≢◌, ◌+◌, ◌<◌, ◌≤◌, ◌++◌, ◌∷◌, ◌⊎◌, inl, inr, ℕ, true, false, List, [], Ok, Err, ap, append-nil, length, refl, subst, sym, take, drop, ◌∙◌}
 use Rattle.buffa_bytes.specs.declared.error.DecodeError.{DecodeError}
 use Rattle.buffa_bytes.specs.declared.error.DecodeError.TheVariants.{ElementMemoryLimitExceeded, OutOfMemory, UnexpectedEof, UnknownFieldLimitExceeded}
 use Rattle.buffa_bytes.specs.Left.{past_no_delimited, IsTailOf}
-use Rattle.buffa_wire.specs.BudgetLeft.{BudgetLeft, Lacks, need_by}
+use Rattle.buffa_wire.specs.BudgetLeft.{BudgetLeft, Lacks, need_by, plus, units}
+use Rattle.buffa_wire.proofs.SpentLemmas.{same_left}
 use Rattle.buffa_bytes.specs.Front.{delimited_at, taken, varint_at}
-use Rattle.buffa_bytes.proofs.DelimitedLemmas.{taken_sound}
+use Rattle.buffa_bytes.proofs.DelimitedLemmas.{after_length, taken_sound}
 use Rattle.buffa_bytes.proofs.StepLemmas.{agree_ok}
 use Rattle.buffa_wire.specs.Records.{Datum, bytes}
 use Rattle.buffa_map.specs.Entry.{EntryFault, FaultOf, IsEntry, EntryFieldsTakeMemory}
 use Rattle.buffa_map.specs.EntryReading.{blanks, inner_need, need_at, need_of}
-use Rattle.buffa_map.specs.Merge.{EntryTakesMemory, MergesEntry, RefusesEntry, Rules, state, unknown_cost}
+use Rattle.buffa_map.specs.Merge.{EntryTakesMemory, MergesEntry, MergesWhole, RefusesEntry, RefusesWhole, Rules, State, state, unknown_cost}
 use Rattle.buffa_map.specs.Parts.{ReadsParts, RefusesCut, RefusesParts}
 use Rattle.buffa_map.specs.Pairs.{InOrder, SamePairs, put}
 use Rattle.buffa_map.specs.declared.map_entry.MapEntry.{MapEntry}
 use Rattle.buffa_bytes.proofs.LeftLemmas.{past_cut}
-use Rattle.buffa_map.proofs.TailLemmas.{cut_front, cut_short, delimited_tail, delimited_there, none_delimited, one_rest}
-use Rattle.buffa_bytes.proofs.TailLemmas.{tail_whole}
+use Rattle.buffa_map.proofs.TailLemmas.{behind_length, cut_front, cut_short, delimited_tail, delimited_there, one_rest}
+use Rattle.buffa_bytes.proofs.TailLemmas.{tail_more, tail_whole}
 use Rattle.buffa_bytes.specs.Field.{TakesDelimited}
 use Rattle.buffa_map.proofs.RunLemmas.{none_kept}
 use Rattle.buffa_map.proofs.NeedLemmas.{entry_charged, entry_found, entry_refused, entry_short, entry_without, no_length}
@@ -26,40 +27,29 @@ module _ {K V : Type 0} (r : Rules K V) (pairs : List (K × V)) (records : List 
   abbrev fields_need : List ℕ → BudgetLeft
   fields_need e = need_at r.key r.val r.depth (blanks r.key r.val r.depth) e
 
-  pub no_entry : (unread : List ℕ) (f : DecodeError) → IsTailOf unread bs → (f ≢ OutOfMemory → delimited_at bs ≡ Err f) → (f ≡ OutOfMemory → EntryTakesMemory r left bs) → ((e rest : List ℕ) → TakesDelimited bs e rest → IsTailOf rest unread) → ((x : DecodeError) → delimited_at bs ≡ Err x → unread ≡ past_no_delimited bs) →
+  -- no length and so many bytes are there
+  pub no_entry : (unread : List ℕ) (f : DecodeError) → IsTailOf unread bs → delimited_at bs ≡ Err f → (f ≢ OutOfMemory) → unread ≡ past_no_delimited bs →
       RefusesEntry r (state pairs records left) bs (state pairs records left) unread f
-  no_entry unread f tail h full near short = record {
-    fault = λ ne. entry_short r.key r.val r.depth r.cost (unknown_cost r) left bs f (h ne);
-    memory = full;
+  no_entry unread f tail h some past = record {
+    fault = λ ne. entry_short r.key r.val r.depth r.cost (unknown_cost r) left bs f h;
+    memory = λ out. absurd (some out);
     pairs = refl;
     records = refl;
     unread = record {
-      within = near;
-      nothing_there = λ none. let no = none_delimited bs none in short no.0 no.1;
+      within = λ e rest t. no_length r.key r.val r.depth bs f h e rest t;
+      nothing_there = λ none. past;
       tail = tail;
-      past = λ ne e rest t. no_length r.key r.val r.depth bs f (h ne) e rest t;
+      past = λ ne e rest t. no_length r.key r.val r.depth bs f h e rest t;
     };
     spent = record {
       units = inl refl;
-      charged = λ ne e rest t room. no_length r.key r.val r.depth bs f (h ne) e rest t;
+      charged = λ e rest t room. no_length r.key r.val r.depth bs f h e rest t;
       unspent = λ no. refl;
       most = omega arith;
       least = omega arith;
       no_keeping = λ ne. omega arith;
     };
   }
-
-  -- the bytes of an entry are copied, of which there are some
-  copy_takes : (n : ℕ) (mid : List ℕ) (x : Result (List ℕ × List ℕ) DecodeError) → taken n mid ≡ x → (r.keeps_undeclared ≡ true) × (r.val.undeclared ≡ true) → delimited_at bs ≡ taken n mid → IsOk x → (n ≡ 0 → ⊥) → EntryTakesMemory r left bs
-  copy_takes n mid (Ok p) is keeps same ok some =
-      (p.0, p.1, delimited_there bs p.0 p.1 (same ∙ is), inl (keeps.0, keeps.1, λ none. some (sym (agree_ok (taken n mid) p (taken_sound n mid) is).0 ∙ ap length none)))
-  copy_takes n mid (Err x) is keeps same ok some = cc
-
-  pub no_copy : (n : ℕ) (mid unread : List ℕ) (f : DecodeError) → (r.keeps_undeclared ≡ true) × (r.val.undeclared ≡ true) → delimited_at bs ≡ taken n mid → IsTailOf unread bs → (f ≢ OutOfMemory → taken n mid ≡ Err f) → (f ≡ OutOfMemory → IsOk (taken n mid)) → (n ≡ 0 → false ≡ true) →
-      ((e rest : List ℕ) → TakesDelimited bs e rest → IsTailOf rest unread) → ((x : DecodeError) → delimited_at bs ≡ Err x → unread ≡ past_no_delimited bs) →
-      RefusesEntry r (state pairs records left) bs (state pairs records left) unread f
-  no_copy n mid unread f keeps same tail reads full free near short =
-      no_entry unread f tail (λ ne. same ∙ reads ne) (λ out. copy_takes n mid (taken n mid) refl keeps same (full out) (λ z. let k = free z in cc)) near short
 
   module _ (e rest : List ℕ) (is : delimited_at bs ≡ Ok (e, rest)) where
     inner : inner_need r.key r.val r.depth bs ≡ fields_need e
@@ -68,9 +58,33 @@ module _ {K V : Type 0} (r : Rules K V) (pairs : List (K × V)) (records : List 
     there : TakesDelimited bs e rest
     there = delimited_there bs e rest is
 
+    -- the entry's cost was spent, and no memory is left for a copy of its bytes, of which there are some
+    pub no_copy : (unread : List ℕ) (over : BudgetLeft) (f : DecodeError) → (r.keeps_undeclared ≡ true) × (r.val.undeclared ≡ true) → (e ≢ []) → IsTailOf unread bs → IsTailOf rest unread → (f ≢ OutOfMemory → ⊥) →
+        over.memory + r.cost ≡ left.memory → over.unknown ≡ left.unknown → RefusesEntry r (state pairs records left) bs (state pairs records over) unread f
+    no_copy unread over f keeps some tail near full charged slots = record {
+      fault = λ ne. absurd (full ne);
+      memory = λ out. (e, rest, there, omega (arith, charged), inl (keeps.0, keeps.1, some));
+      pairs = refl;
+      records = refl;
+      unread = record {
+        tail = tail;
+        past = λ ne x after t. absurd (full ne);
+        within = λ x after t. subst (λ z. IsTailOf z unread) (one_rest bs e rest x after is t) near;
+        nothing_there = λ none. absurd (none e rest there);
+      };
+      spent = record {
+        units = inr (omega (arith, charged), omega (arith, charged));
+        charged = λ x after t room. omega (arith, charged);
+        unspent = λ none. absurd (none e rest there);
+        most = omega (arith, slots);
+        least = omega (arith, slots);
+        no_keeping = λ ne. omega (arith, slots);
+      };
+    }
+
     parts_memory : (r.cost ≤ left.memory) × (EntryFieldsTakeMemory r.key r.val r.depth e ⊎ ((s : MapEntry K V) × IsEntry r.key r.val r.depth e s × (s.known ≡ true))) → EntryTakesMemory r left bs
-    parts_memory (room, inl field) = (e, rest, there, inr (room, inl field))
-    parts_memory (room, inr (s, h, known)) = (e, rest, there, inr (room, inr (s, h, inl known)))
+    parts_memory (room, inl field) = (e, rest, there, room, inr (inl field))
+    parts_memory (room, inr (s, h, known)) = (e, rest, there, room, inr (inr (s, h, inl known)))
 
     parts_fault : (f : DecodeError) → ((left.memory < r.cost) × (f ≡ ElementMemoryLimitExceeded)) ⊎ ((r.cost ≤ left.memory) × (Lacks left (need_of r.key r.val r.depth r.cost e) ⊎ FaultOf r.key r.val r.depth e f)) →
         EntryFault r.key r.val r.depth r.cost (unknown_cost r) left bs f
@@ -99,7 +113,7 @@ module _ {K V : Type 0} (r : Rules K V) (pairs : List (K × V)) (records : List 
           };
           spent = record {
             units = parts_units over.memory h.units;
-            charged = λ ne e rest t room. h.charged room;
+            charged = λ e rest t room. h.charged room;
             unspent = λ none. absurd (none e rest there);
             most = h.most;
             least = omega (arith, h.least, taken);
@@ -152,7 +166,7 @@ module _ {K V : Type 0} (r : Rules K V) (pairs : List (K × V)) (records : List 
           let taken = ap (λ (z : BudgetLeft). z.unknown) inner in
           record {
             fault = λ ne. entry_without r.key r.val r.depth r.cost (unknown_cost r) left bs e rest s f is (omega (arith, h.pays)) h.entry known (rw (which ne).0 (omega (arith, (which ne).1, h.pays))) (which ne).2;
-            memory = λ out. (e, rest, there, inr (omega (arith, h.pays), inr (s, h.entry, inr ((keeps out).0, omega (arith, (keeps out).1, h.pays)))));
+            memory = λ out. (e, rest, there, omega (arith, h.pays), inr (inr (s, h.entry, inr ((keeps out).0, omega (arith, (keeps out).1, h.pays)))));
             pairs = refl;
             records = same;
             unread = record {
@@ -163,7 +177,7 @@ module _ {K V : Type 0} (r : Rules K V) (pairs : List (K × V)) (records : List 
             };
             spent = record {
               units = inr (omega (arith, h.pays, unit), omega (arith, h.pays, unit, units));
-              charged = λ ne e rest t room. omega (arith, h.pays, unit);
+              charged = λ e rest t room. omega (arith, h.pays, unit);
               unspent = λ none. absurd (none e rest there);
               most = omega (arith, h.pays, most);
               least = omega (arith, h.pays, least, taken);
@@ -172,6 +186,27 @@ module _ {K V : Type 0} (r : Rules K V) (pairs : List (K × V)) (records : List 
           }
 
   -- a cut entry is refused
-  pub bad_cut : (n : ℕ) (mid unread : List ℕ) (over : BudgetLeft) (f : DecodeError) → varint_at bs ≡ Ok (n, mid) → IsTailOf mid bs → RefusesCut r.key r.val r.depth r.cost n mid left over unread f → RefusesEntry r (state pairs records left) bs (state pairs records over) unread f
-  bad_cut n mid unread over f len tail (inl (few, eof, same, kept)) = rw (same, kept, eof) (no_entry mid UnexpectedEof tail (λ ne. cut_short n bs mid len few) (λ out. cc) (λ e rest t. no_length r.key r.val r.depth bs UnexpectedEof (cut_short n bs mid len few) e rest t) (λ x no. past_cut n bs mid len few))
-  bad_cut n mid unread over f len tail (inr (fits, follows, parts)) = bad_parts (take n mid) unread (cut_front n bs mid unread len fits follows) over f parts
+  pub bad_cut : (n : ℕ) (mid unread : List ℕ) (over : BudgetLeft) (f : DecodeError) → varint_at bs ≡ Ok (n, mid) → RefusesCut r.key r.val r.depth r.cost n mid left over unread f → RefusesEntry r (state pairs records left) bs (state pairs records over) unread f
+  bad_cut n mid unread over f len (inl (few, eof, same, kept)) = rw (same, kept, eof) (no_entry mid UnexpectedEof (behind_length n bs mid len) (cut_short n bs mid len few) (λ out. cc) (past_cut n bs mid len few))
+  bad_cut n mid unread over f len (inr (fits, follows, parts)) = bad_parts (take n mid) unread (cut_front n bs mid unread len fits follows) over f parts
+
+  -- no memory is left for a copy of an entry of n bytes
+  pub cut_no_copy : (n : ℕ) (mid unread : List ℕ) (over : BudgetLeft) (f : DecodeError) → varint_at bs ≡ Ok (n, mid) → n ≤ length mid → (r.keeps_undeclared ≡ true) × (r.val.undeclared ≡ true) → (n ≡ 0 → false ≡ true) →
+      IsTailOf unread mid → IsTailOf (drop n mid) unread → (f ≢ OutOfMemory → taken n mid ≡ Err f) → over.memory + r.cost ≡ left.memory → over.unknown ≡ left.unknown → RefusesEntry r (state pairs records left) bs (state pairs records over) unread f
+  cut_no_copy n mid unread over f len fits keeps some tail near reads charged slots =
+      let is = cut_front n bs mid (drop n mid) len fits refl in
+      let there : taken n mid ≡ Ok (take n mid, drop n mid) = sym (after_length n bs mid len) ∙ is in
+      let long = (agree_ok (taken n mid) (take n mid, drop n mid) (taken_sound n mid) there).0 in
+      no_copy (take n mid) (drop n mid) is unread over f keeps (λ none. let no = some (sym long ∙ ap length none) in cc) (tail_more bs mid unread tail (behind_length n bs mid len)) near
+      (λ ne. let no = sym there ∙ reads ne in cc) charged slots
+
+-- an entry is merged, or refused, by what its cost leaves as it is with the cost
+module _ {K V : Type 0} (r : Rules K V) (pairs : List (K × V)) (records : List (ℕ × Datum)) (left over : BudgetLeft) (charged : over.memory + r.cost ≡ left.memory) (slots : over.unknown ≡ left.unknown) where
+  back : plus (units r.cost) over ≡ left
+  back = same_left (plus (units r.cost) over) left (omega (arith, slots)) (omega (arith, charged))
+
+  pub charged_merged : (e : List ℕ) (new : State K V) → MergesWhole r (state pairs records (plus (units r.cost) over)) e new → MergesWhole r (state pairs records left) e new
+  charged_merged e new h = subst (λ z. MergesWhole r (state pairs records z) e new) back h
+
+  pub charged_refused : (e : List ℕ) (new : State K V) (f : DecodeError) → RefusesWhole r (state pairs records (plus (units r.cost) over)) e new f → RefusesWhole r (state pairs records left) e new f
+  charged_refused e new f h = subst (λ z. RefusesWhole r (state pairs records z) e new f) back h

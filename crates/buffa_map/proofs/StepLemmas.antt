@@ -39,7 +39,7 @@ module _ {K V : Type 0} (r : Rules K V) (old : State K V) (bs : List ℕ) where
 
     -- the next record is refused for its tag
     stop_here : (unread : List ℕ) (f : DecodeError) → 0 < length rest → RefusesTag r.number rest unread f → RefusesRun r old bs now unread f
-    stop_here unread f more why = record { front = h.front; rest = rest; split = h.split; some = not_nil rest more; now = now; read = h.read; refused = inl (why, refl) }
+    stop_here unread f more why = record { front = h.front; rest = rest; split = h.split; some = not_nil rest more; between = now; read = h.read; refused = inl (why, refl) }
 
     pub stop_tag : (unread : List ℕ) (f : DecodeError) → unread ≡ past_no_tag rest → 0 < length rest → tag_at rest ≡ Err f → RefusesRun r old bs now unread f
     stop_tag unread f left more is = stop_here unread f more (inl (agree_err (tag_at rest) f (tag_sound rest) is, left))
@@ -57,7 +57,7 @@ module _ {K V : Type 0} (r : Rules K V) (old : State K V) (bs : List ℕ) where
         pub stop_entry : (new : State K V) (unread : List ℕ) (f : DecodeError) → RefusesEntry r now mid new unread f → RefusesRun r old bs new unread f
         stop_entry new unread f k =
             let found = tag_at_as rest mid g r.number w LengthDelimited tag same (checked_same g LengthDelimited w wire) in
-            record { front = h.front; rest = rest; split = h.split; some = not_nil rest more; now = now; read = h.read; refused = inr (mid, tag_there rest mid r.number LengthDelimited found, k) }
+            record { front = h.front; rest = rest; split = h.split; some = not_nil rest more; between = now; read = h.read; refused = inr (mid, tag_there rest mid r.number LengthDelimited found, k) }
 
         pub one_more : IsEquivalence r.same → (new : State K V) (after : List ℕ) → MergesEntry r now mid new after → Reached new after
         one_more laws new after k =

@@ -42,7 +42,7 @@ pub record SpendsOnRecord {K V : Type 0} (r : Rules K V) (left : BudgetLeft) (by
   pub units : (left_after.memory ≡ left.memory)
       ⊎ ((left_after.memory + r.cost ≤ left.memory)
       × (left.memory ≤ left_after.memory + (r.cost + (record_need r.key r.val r.depth bytes).memory)))
-  pub charged : f ≢ OutOfMemory → (mid e after : List ℕ) → tag_at bytes ≡ Ok (r.number, LengthDelimited, mid) → TakesDelimited mid e after → r.cost ≤ left.memory → left_after.memory + r.cost ≤ left.memory
+  pub charged : (mid e after : List ℕ) → tag_at bytes ≡ Ok (r.number, LengthDelimited, mid) → TakesDelimited mid e after → r.cost ≤ left.memory → left_after.memory + r.cost ≤ left.memory
   pub unspent : (HasWholeRecord r.number bytes → ⊥) → left_after ≡ left
   pub most : left_after.unknown ≤ left.unknown
   pub no_keeping : f ≢ OutOfMemory → left.unknown ≤ left_after.unknown + (record_need r.key r.val r.depth bytes).unknown
@@ -107,7 +107,7 @@ module _ {K V : Type 0} (r : Rules K V) (now new : State K V) (rest tail : List 
       subst (λ (z : BudgetLeft). SpendsOnRecord r now.left rest f z) (ap (λ (z : State K V). z.left) (sym same))
       (record {
         units = inl refl;
-        charged = λ ne mid e after k w room. absurd (not_of_field r.number rest tail f t mid k);
+        charged = λ mid e after k w room. absurd (not_of_field r.number rest tail f t mid k);
         unspent = λ no. refl;
         most = omega arith;
         no_keeping = λ ne. omega arith;
@@ -119,7 +119,7 @@ module _ {K V : Type 0} (r : Rules K V) (now new : State K V) (rest tail : List 
       let taken = ap (λ (z : BudgetLeft). z.unknown) need in
       record {
         units = elim k.spent.units [ inl e ↦ inl e | inr e ↦ inr (e.0, omega (arith, e.1, units)) ];
-        charged = λ ne m e after is t room. k.spent.charged ne e after (subst (λ z. TakesDelimited z e after) (one_after rest m mid r.number r.number LengthDelimited LengthDelimited is found) t) room;
+        charged = λ m e after is t room. k.spent.charged e after (subst (λ z. TakesDelimited z e after) (one_after rest m mid r.number r.number LengthDelimited LengthDelimited is found) t) room;
         unspent = λ no. k.spent.unspent (λ e after t. no (mid, found, rw (delimited_taken mid e after t) cc));
         most = k.spent.most;
         no_keeping = λ ne. omega (arith, k.spent.no_keeping ne, taken);
@@ -134,22 +134,22 @@ module _ {K V : Type 0} (r : Rules K V) (now new : State K V) (rest tail : List 
   records_by (inr (mid, found, k)) = k.records
 
 module _ {K V : Type 0} (r : Rules K V) (old : State K V) (bs : List ℕ) (new : State K V) (tail : List ℕ) (f : DecodeError) (h : RefusesRun r old bs new tail f) where
-  pub broken : f ≢ OutOfMemory → RecordFault r.key r.val r.depth r.number r.cost (unknown_cost r) h.now.left h.rest f
-  broken ne = broken_by r h.now new h.rest tail f h.refused ne
+  pub broken : f ≢ OutOfMemory → RecordFault r.key r.val r.depth r.number r.cost (unknown_cost r) h.between.left h.rest f
+  broken ne = broken_by r h.between new h.rest tail f h.refused ne
 
   -- the fault of the run
   pub run_fault : f ≢ OutOfMemory → RunFault r.key r.val r.depth r.number r.cost (unknown_cost r) old.left bs f
-  run_fault ne = (h.read.entries, h.rest, h.now.left, (h.front, h.split, h.read.run, h.read.paid), h.some, broken ne)
+  run_fault ne = (h.read.entries, h.rest, h.between.left, (h.front, h.split, h.read.run, h.read.paid), h.some, broken ne)
 
   pub leaves : LeavesRecord r.number h.rest f tail
-  leaves = leaves_by r h.now new h.rest tail f h.refused
+  leaves = leaves_by r h.between new h.rest tail f h.refused
 
-  pub spends : SpendsOnRecord r h.now.left h.rest f new.left
-  spends = spends_by r h.now new h.rest tail f h.refused
+  pub spends : SpendsOnRecord r h.between.left h.rest f new.left
+  spends = spends_by r h.between new h.rest tail f h.refused
 
   -- what was read stands
-  pub pairs_stand : new.pairs ≡ h.now.pairs
-  pairs_stand = pairs_by r h.now new h.rest tail f h.refused
+  pub pairs_stand : new.pairs ≡ h.between.pairs
+  pairs_stand = pairs_by r h.between new h.rest tail f h.refused
 
-  pub records_stand : new.records ≡ h.now.records
-  records_stand = records_by r h.now new h.rest tail f h.refused
+  pub records_stand : new.records ≡ h.between.records
+  records_stand = records_by r h.between new h.rest tail f h.refused

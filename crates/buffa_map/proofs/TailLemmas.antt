@@ -1,13 +1,14 @@
 -- Where readers leave what is unread.
-use Rattle.std.proofs.Common.{◌≡◌, inl, inr, ℕ, List, ◌++◌, Result, Ok, Err, length, take, drop, ap, append_assoc, refl, subst, sym, ◌∙◌, ◌<◌, ◌≤◌}
+use Rattle.std.proofs.Common.{◌≡◌, inl, inr, ℕ, List, ◌++◌, Ok, Err, length, take, drop, ap, append_assoc, refl, subst, sym, ◌∙◌, ◌<◌, ◌≤◌}
 use Rattle.std.proofs.lemmas.Bool.{lt-ltb}
 use Rattle.std.proofs.Math.Seq.{drop-append_seam}
-use Rattle.buffa_bytes.proofs.DelimitedLemmas.{delimited_sound, delimited_taken, taken_sound}
+use Rattle.buffa_bytes.proofs.DelimitedLemmas.{delimited_sound, delimited_taken}
 use Rattle.buffa_bytes.proofs.FieldLemmas.{ok_same, tag_sound}
-use Rattle.buffa_bytes.proofs.LeftLemmas.{no_number, past_cut}
+use Rattle.buffa_bytes.proofs.LeftLemmas.{no_number}
 use Rattle.buffa_bytes.proofs.LeftLemmas as at_left
-use Rattle.buffa_bytes.proofs.StepLemmas.{agree_err, agree_ok}
+use Rattle.buffa_bytes.proofs.StepLemmas.{agree_ok}
 use Rattle.buffa_bytes.proofs.TailLemmas.{tail_dropped}
+use Rattle.buffa_bytes.proofs.VarintLemmas.{varint_sound}
 use Rattle.buffa_bytes.specs.Left.{past_no_delimited, past_no_tag, past_no_varint, IsTailOf}
 use Rattle.buffa_bytes.specs.declared.error.DecodeError.{DecodeError}
 use Rattle.buffa_bytes.specs.declared.error.DecodeError.TheVariants.{UnexpectedEof}
@@ -23,6 +24,11 @@ pub tag_tail : (bs rest : List ℕ) (n : ℕ) (w : WireType) → tag_at bs ≡ O
 tag_tail bs rest n w h =
     let t = agree_ok (tag_at bs) (n, w, rest) (tag_sound bs) h in
     tail_behind t.0 rest bs t.2
+
+pub behind_length : (n : ℕ) (bs mid : List ℕ) → varint_at bs ≡ Ok (n, mid) → IsTailOf mid bs
+behind_length n bs mid h =
+    let t = agree_ok (varint_at bs) (n, mid) (varint_sound bs) h in
+    tail_behind t.0 mid bs t.2
 
 pub past_tag_tail : (bs : List ℕ) (f : DecodeError) → TagFault bs f → IsTailOf (past_no_tag bs) bs
 past_tag_tail bs f (inl h) = tail_dropped 10 bs (past_no_tag bs) (no_number bs f h).0
@@ -44,12 +50,6 @@ pub past_short : (bs unread : List ℕ) (f : DecodeError) → varint_at bs ≡ E
 unfolding past_no_delimited
 past_short bs unread f v h = h ∙ sym (rw (past_no_delimited, v) refl)
 
--- the same, where so many bytes were to be copied
-pub past_copy : (n : ℕ) (bs mid unread : List ℕ) (x : DecodeError) → varint_at bs ≡ Ok (n, mid) → delimited_at bs ≡ taken n mid → (length mid < n → unread ≡ mid) → delimited_at bs ≡ Err x → unread ≡ past_no_delimited bs
-past_copy n bs mid unread x v same short bad =
-    let few = (agree_err (taken n mid) x (taken_sound n mid) (sym same ∙ bad)).0 in
-    short few ∙ past_cut n bs mid v few
-
 pub delimited_tail : (bs e rest : List ℕ) → delimited_at bs ≡ Ok (e, rest) → IsTailOf rest bs
 delimited_tail bs e rest h =
     let t = agree_ok (delimited_at bs) (e, rest) (delimited_sound bs) h in
@@ -66,23 +66,9 @@ delimited_there bs e rest h = let t = agree_ok (delimited_at bs) (e, rest) (deli
 pub not_delimited : (bs : List ℕ) (x : DecodeError) → delimited_at bs ≡ Err x → (e rest : List ℕ) → TakesDelimited bs e rest → ⊥
 not_delimited bs x h e rest t = let k = sym h ∙ delimited_taken bs e rest t in cc
 
--- and they are refused where none does
-pub none_delimited : (bs : List ℕ) → ((e rest : List ℕ) → TakesDelimited bs e rest → ⊥) → (x : DecodeError) × (delimited_at bs ≡ Err x)
-none_delimited bs none = at (delimited_at bs) refl
-  where
-    at : (r : Result (List ℕ × List ℕ) DecodeError) → delimited_at bs ≡ r → (x : DecodeError) × (delimited_at bs ≡ Err x)
-    at (Ok p) is = absurd (none p.0 p.1 (delimited_there bs p.0 p.1 is))
-    at (Err x) is = (x, is)
-
 -- one rest follows a length and so many bytes
 pub one_rest : (bs e rest x after : List ℕ) → delimited_at bs ≡ Ok (e, rest) → TakesDelimited bs x after → rest ≡ after
 one_rest bs e rest x after h t = ap (λ (p : List ℕ × List ℕ). p.1) (ok_same (sym h ∙ delimited_taken bs x after t))
-
--- what follows so many bytes of what is unread, where a length and so many bytes were there
-pub near_rest : (n : ℕ) (bs mid unread e rest : List ℕ) → delimited_at bs ≡ taken n mid → TakesDelimited bs e rest → IsTailOf (drop n mid) unread → IsTailOf rest unread
-near_rest n bs mid unread e rest same t near =
-    let k = agree_ok (taken n mid) (e, rest) (taken_sound n mid) (sym same ∙ delimited_taken bs e rest t) in
-    subst (λ z. IsTailOf z unread) (ap (λ z. drop z mid) (sym k.0) ∙ ap (drop (length e)) k.1 ∙ drop-append_seam e rest) near
 
 -- one number, one wire type, and one rest follows a tag
 pub one_number : (bs a b : List ℕ) (m n : ℕ) (v w : WireType) → tag_at bs ≡ Ok (m, v, a) → tag_at bs ≡ Ok (n, w, b) → m ≡ n

@@ -63,7 +63,7 @@ HoldsNothing codec d bs = (codec.takes_memory ≡ true) × (level codec.nested d
 abbrev pub value_need : {V : Type 0} → Reading V → ℕ → List ℕ → BudgetLeft
 value_need codec d bs = need_by (content_at codec.wire bs) (λ c. codec.cost d c.0)
 
--- the errors that are returned for a fault: itself, and of one inside a nested payload any that is no limit's
+-- the errors that are returned for a fault: itself, and of one inside a nested payload any but the two of a budget (`IsLimit`)
 abbrev pub Tells : Bool → DecodeError → DecodeError → Type 0
 Tells false x e = e ≡ x
 Tells true x e = (e ≡ x) ⊎ (IsLimit e → ⊥)

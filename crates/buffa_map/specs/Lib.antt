@@ -17,10 +17,4 @@ pub mod Enums
 pub mod Rewrite
 pub mod Calls
 pub mod EnumFacts
-pub mod Plain
 pub mod Laws
-pub mod Pinned
-pub mod PinnedEncodings
-pub mod CodecWords
-pub mod EntryWords
-pub mod FieldWords

@@ -85,17 +85,17 @@ pub record ReadsRun {K V : Type 0} (r : Rules K V) (old : State K V) (bytes : Li
   -- nothing is unread
   pub whole : rest ≡ []
 
--- Memory may run out while an entry is merged only where a length and so many bytes, the entry, are there, and then in one of two
--- cases. One: the entry has bytes, undeclared entries are kept, and the value's codec may give an undeclared value; then the entry
--- may be copied before it is read. Two: its units are left, and besides one of these holds: a field of it takes memory; it is whole,
--- and is put into the map; it is whole, and is kept, for which an unknown field is left beyond what its messages need.
+-- Memory may run out while an entry is merged only where a length and so many bytes, the entry, are there, its units are left, and one
+-- of these holds besides. The entry has bytes, undeclared entries are kept, and the value's codec may give an undeclared value: then it
+-- may be copied before it is read. A field of it takes memory. It is whole, and is put into the map. It is whole, and is kept, for which
+-- an unknown field is left beyond what its messages need.
 abbrev pub EntryTakesMemory : {K V : Type 0} → Rules K V → BudgetLeft → List ℕ → Type 0
 EntryTakesMemory {K} {V} r left bs =
-    (e : List ℕ) × (rest : List ℕ) × TakesDelimited bs e rest
+    (e : List ℕ) × (rest : List ℕ) × TakesDelimited bs e rest × (r.cost ≤ left.memory)
     × (((r.keeps_undeclared ≡ true) × (r.val.undeclared ≡ true) × (e ≢ []))
-    ⊎ ((r.cost ≤ left.memory) × (EntryFieldsTakeMemory r.key r.val r.depth e
+    ⊎ (EntryFieldsTakeMemory r.key r.val r.depth e
     ⊎ ((s : MapEntry K V) × IsEntry r.key r.val r.depth e s
-    × ((s.known ≡ true) ⊎ ((r.keeps_undeclared ≡ true) × ((need_of r.key r.val r.depth r.cost e).unknown < left.unknown)))))))
+    × ((s.known ≡ true) ⊎ ((r.keeps_undeclared ≡ true) × ((need_of r.key r.val r.depth r.cost e).unknown < left.unknown))))))
 
 -- what a refused entry leaves unread
 pub record LeavesEntry (bytes : List ℕ) (f : DecodeError) (unread : List ℕ) : Type 0 where
@@ -114,8 +114,8 @@ pub record SpendsOnEntry {K V : Type 0} (r : Rules K V) (left : BudgetLeft) (byt
   pub units : (left_after.memory ≡ left.memory)
       ⊎ ((left_after.memory + r.cost ≤ left.memory)
       × (left.memory ≤ left_after.memory + (r.cost + (inner_need r.key r.val r.depth bytes).memory)))
-  -- the units at least, where the entry was there, they were left, and memory didn't run out
-  pub charged : f ≢ OutOfMemory → (e rest : List ℕ) → TakesDelimited bytes e rest → r.cost ≤ left.memory → left_after.memory + r.cost ≤ left.memory
+  -- the units at least, where the entry was there and they were left, whatever it was refused for
+  pub charged : (e rest : List ℕ) → TakesDelimited bytes e rest → r.cost ≤ left.memory → left_after.memory + r.cost ≤ left.memory
   -- nothing, where no length and so many bytes were there
   pub unspent : ((e rest : List ℕ) → TakesDelimited bytes e rest → ⊥) → left_after ≡ left
   -- of the unknown fields at most those are left that were
@@ -125,8 +125,9 @@ pub record SpendsOnEntry {K V : Type 0} (r : Rules K V) (left : BudgetLeft) (byt
   -- the one that keeps the entry is gone only where memory ran out
   pub no_keeping : f ≢ OutOfMemory → left.unknown ≤ left_after.unknown + (inner_need r.key r.val r.depth bytes).unknown
 
--- The entry at the front was refused, and f is why. A fault inside a message may be told as any error that is no limit's. Where
--- the entry's units are left, but not what its messages need besides, f may be any error, but `OutOfMemory` only as `memory` says.
+-- The entry at the front was refused, and f is why. A fault inside a message may be told as any error but the two of a budget,
+-- `UnknownFieldLimitExceeded` and `ElementMemoryLimitExceeded`. Where the entry's units are left, but not what its messages need besides,
+-- f may be any error, but `OutOfMemory` only as `memory` says.
 pub record RefusesEntry {K V : Type 0} (r : Rules K V) (old : State K V) (bytes : List ℕ) (new : State K V) (tail : List ℕ) (f : DecodeError) : Type 0 where
   -- it is the entry's first fault
   pub fault : f ≢ OutOfMemory → EntryFault r.key r.val r.depth r.cost (unknown_cost r) old.left bytes f
@@ -155,12 +156,12 @@ pub record RefusesRun {K V : Type 0} (r : Rules K V) (old : State K V) (bytes : 
   -- the bytes are two parts, of which the second has a byte at least
   pub split : bytes ≡ front ++ rest
   pub some : rest ≢ []
-  -- the first was read, and `now` was the state behind it
-  pub now : State K V
-  pub read : ReadsRun r old front now []
+  -- the first was read, and `between` was the state behind it
+  pub between : State K V
+  pub read : ReadsRun r old front between []
   -- no tag of the field begins the second, and the state stands; or one does, and the entry behind it was refused
-  pub refused : (RefusesTag r.number rest tail f × (new ≡ now))
-      ⊎ ((mid : List ℕ) × TakesTag rest r.number LengthDelimited mid × RefusesEntry r now mid new tail f)
+  pub refused : (RefusesTag r.number rest tail f × (new ≡ between))
+      ⊎ ((mid : List ℕ) × TakesTag rest r.number LengthDelimited mid × RefusesEntry r between mid new tail f)
 
 -- ---- a list that may be passed, before a call and after it
 

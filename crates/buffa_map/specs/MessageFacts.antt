@@ -11,7 +11,7 @@ pub meant_known : {V : Type 0} (o : Option V) (new : V) (known : Bool) → meant
 meant_known (Some v) new known h = always_known new known h
 meant_known None new known h = cc
 
--- the fault that stands for any is no limit's
+-- the fault that stands for any is none of the two errors of a budget
 pub meant_no_limit : {V : Type 0} (o : Option V) (x : DecodeError) → meant o ≡ Err x → IsLimit x → ⊥
 meant_no_limit (Some v) x h l = cc
 meant_no_limit None UnexpectedEof h l = l

@@ -1,8 +1,9 @@
 //! One entry of a map field.
 
-ghost use Rattle.std.specs.Prelude.{◌≡◌, ◌+◌, ◌<◌, ◌≤◌, [], IfErr, IfOk, OnErr, OnOk, false, is_some};
+ghost use Rattle.std.specs.Prelude.{◌≡◌, ◌+◌, ◌<◌, ◌≤◌, ℕ, List, Ok, [], IfErr, IfOk, OnErr, OnOk, false, is_some, true};
 ghost use Rattle.buffa_bytes.specs.declared.error.DecodeError.TheVariants.{ElementMemoryLimitExceeded, OutOfMemory};
-ghost use Rattle.buffa_wire.specs.BudgetLeft.{budget_left};
+ghost use Rattle.buffa_bytes.specs.Front.{varint_at};
+ghost use Rattle.buffa_wire.specs.BudgetLeft.{budget_left, plus, units};
 ghost use Rattle.buffa_map.specs.Entry.{meant_entry};
 ghost use Rattle.buffa_map.specs.Merge.{MergesEntry, MergesWhole, RefusesEntry, RefusesWhole, rules, state, records_before, records_after, capacity_before, capacity_after};
 ghost use Rattle.buffa_map.specs.Pairs.{InOrder, SamePairs, put};
@@ -94,7 +95,48 @@ fn put_pair<C: MapStorage>(
     Ok(map.storage_insert(parts.key, parts.value)?)
 }
 
-// Merges an entry, all of the bytes: its pair is put, and one that is undeclared goes to the keeper.
+// Merges an entry, all of the bytes, whose cost was spent before: its pair is put, and one that is undeclared goes to the
+// keeper.
+#[inline(always)]
+fn merge_charged<
+    KC: MapCodec,
+    W: MergeValue,
+    C: MapStorage<Key = KC::Value, Value = W::Value>,
+    L: Keeper,
+>(
+    alloc: Global,
+    map: &mut C,
+    entry: &[u8],
+    ctx: DecodeContext<'_>,
+    number: u32,
+    how: &W,
+    keeper: &mut L,
+) -> Result<(), DecodeError>
+    requires { W.may how.now ctx.depth }
+    ensures ok { OnOk result (MergesWhole
+        (rules (KC.reading, KC.COST) (W.reading, W.COST) (C.equal, C.keeps_order) ctx.entry.depth number L.KEEPS)
+        (state (C.pairs map.old) (L.records keeper.old) (plus (units (KC.COST + W.COST)) ctx.entry.budget.now)) entry.now
+        (state (C.pairs map.new) (L.records keeper.new) (budget_left ctx.exit))) }
+    ensures err { IfErr result (RefusesWhole
+        (rules (KC.reading, KC.COST) (W.reading, W.COST) (C.equal, C.keeps_order) ctx.entry.depth number L.KEEPS)
+        (state (C.pairs map.old) (L.records keeper.old) (plus (units (KC.COST + W.COST)) ctx.entry.budget.now)) entry.now
+        (state (C.pairs map.new) (L.records keeper.new) (budget_left ctx.exit))) }
+    ensures room { L.room keeper.old ≤ L.room keeper.new }
+{
+    let DecodeContext { depth, budget } = ctx;
+    let lent = DecodeContext {
+        depth,
+        budget: &mut *budget,
+    };
+    let mut rest = entry;
+    let parts = merge_fields::<KC, W, &[u8]>(alloc, &mut rest, lent, how)?;
+    if !parts.known {
+        return keeper.keep(alloc, number, entry, budget);
+    }
+    put_pair(map, parts)
+}
+
+// Spends the cost of an entry, all of the bytes, and merges it.
 fn merge_whole<
     KC: MapCodec,
     W: MergeValue,
@@ -121,20 +163,58 @@ fn merge_whole<
     ensures room { L.room keeper.old ≤ L.room keeper.new }
 {
     let DecodeContext { depth, budget } = ctx;
-    let lent = DecodeContext {
-        depth,
-        budget: &mut *budget,
-    };
-    let mut rest = entry;
-    let parts = read_parts::<KC, W, &[u8]>(alloc, &mut rest, lent, how)?;
-    if !parts.known {
-        return keeper.keep(alloc, number, entry, budget);
+    charge(&mut *budget, KC::COST, W::COST)?;
+    let lent = DecodeContext { depth, budget };
+    merge_charged::<KC, W, C, L>(alloc, map, entry, lent, number, how, keeper)
+}
+
+// The same of a cut entry of `len` bytes that may be kept: it is copied, since it is kept as it came, and charged before that, so
+// that the charge stays spent where memory for the copy runs out.
+fn merge_copy<
+    KC: MapCodec,
+    W: MergeValue,
+    C: MapStorage<Key = KC::Value, Value = W::Value>,
+    B: Buf,
+    L: Keeper,
+>(
+    alloc: Global,
+    map: &mut C,
+    buf: &mut B,
+    len: u64,
+    ctx: DecodeContext<'_>,
+    number: u32,
+    how: &W,
+    keeper: &mut L,
+) -> Result<(), DecodeError>
+    requires may { W.may how.now ctx.depth }
+    requires keeps { L.KEEPS ≡ true }
+    requires undeclared { W.MAY_RETURN_UNKNOWN ≡ true }
+    ensures ok { OnOk result ((bytes : List ℕ) → varint_at bytes ≡ Ok (len, B.unread buf.old) → MergesEntry
+        (rules (KC.reading, KC.COST) (W.reading, W.COST) (C.equal, C.keeps_order) ctx.entry.depth number L.KEEPS)
+        (state (C.pairs map.old) (L.records keeper.old) ctx.entry.budget.now) bytes
+        (state (C.pairs map.new) (L.records keeper.new) (budget_left ctx.exit)) (B.unread buf.new)) }
+    ensures err { IfErr result (λ f. (bytes : List ℕ) → varint_at bytes ≡ Ok (len, B.unread buf.old) → RefusesEntry
+        (rules (KC.reading, KC.COST) (W.reading, W.COST) (C.equal, C.keeps_order) ctx.entry.depth number L.KEEPS)
+        (state (C.pairs map.old) (L.records keeper.old) ctx.entry.budget.now) bytes
+        (state (C.pairs map.new) (L.records keeper.new) (budget_left ctx.exit)) (B.unread buf.new) f) }
+    ensures room { L.room keeper.old ≤ L.room keeper.new }
+    ensures kept { B.beyond buf.new ≡ B.beyond buf.old }
+{
+    if len > buf.remaining() as u64 {
+        return Err(DecodeError::UnexpectedEof);
     }
-    put_pair(map, parts)
+    let DecodeContext { depth, budget } = ctx;
+    if let Err(fault) = charge(&mut *budget, KC::COST, W::COST) {
+        buf.advance(len as usize);
+        return Err(fault);
+    }
+    let entry = copy_bytes(alloc, buf, len)?;
+    let lent = DecodeContext { depth, budget };
+    merge_charged::<KC, W, C, L>(alloc, map, &entry, lent, number, how, keeper)
 }
 
 // Merges one entry; one that is undeclared goes to the keeper. It is read where it lies, and copied only
-// where it is cut and may be kept.
+// where it is cut and may be kept. Its cost is spent as soon as the entry is there, before anything is copied or read.
 pub(crate) fn merge_entry_by<
     KC: MapCodec,
     W: MergeValue,
@@ -169,8 +249,7 @@ pub(crate) fn merge_entry_by<
         return merged;
     }
     if L::KEEPS && W::MAY_RETURN_UNKNOWN {
-        let entry = copy_bytes(alloc, buf, len)?;
-        return merge_whole::<KC, W, C, L>(alloc, map, &entry, ctx, number, how, keeper);
+        return merge_copy::<KC, W, C, B, L>(alloc, map, buf, len, ctx, number, how, keeper);
     }
     let parts = read_cut::<KC, W, B>(alloc, buf, len, ctx, how)?;
     if !parts.known {
@@ -190,9 +269,10 @@ pub(crate) fn merge_entry_by<
 /// The first of these, in this order: the faults of the length's varint; [`DecodeError::UnexpectedEof`]
 /// where the length passes what is left; [`DecodeError::ElementMemoryLimitExceeded`] where the units
 /// aren't left; the first fault of the entry's fields. Or [`DecodeError::OutOfMemory`]. A fault inside a
-/// message may be told as another error, but as no limit's; and where the units are left, but not what
-/// the messages in the entry need besides, the error may be any, but out of memory only where merging
-/// takes memory. The map is as it was then; units that were charged stay spent.
+/// message may be told as another error, but not as [`DecodeError::ElementMemoryLimitExceeded`] or
+/// [`DecodeError::UnknownFieldLimitExceeded`]; and where the units are left, but not what the messages in
+/// the entry need besides, the error may be any, but out of memory only where merging takes memory. The
+/// map is as it was then; where the units were left, they stay spent, whatever the error.
 ///
 /// Source: the protobuf encoding guide, "Maps".
 ///

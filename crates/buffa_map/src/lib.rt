@@ -1,8 +1,8 @@
 //! Map fields: storages, codecs, entries, runs, sizes and encodings.
 //!
 //! A map field is a run of records of one number, each of them a length and an entry, a small message of a
-//! key field and a value field. [`map_codec`] has the public surface, and [`laws`] what the definitions say
-//! together.
+//! key field and a value field. [`map_codec`] has the public surface. What the definitions say together is in the crate
+//! `buffa_map_laws`, but for two laws that code above calls, which are in [`laws`].
 //!
 //! Read: records from the buffer (`run`), of each its entry (`entry`), of that its fields (`entry_fields`), by the codecs of
 //! key and value (`codec`, `codecs`, `message`); and the pair is put into a storage (`storage`). Written:
@@ -10,18 +10,15 @@
 #![tactic(auto)]
 
 mod codec;
-mod codec_laws;
 mod codecs;
 mod entry;
 mod entry_fields;
-mod guide_laws;
 mod hashed;
 mod indexed;
 mod keep;
 pub mod laws;
 pub mod map_codec;
 pub mod map_entry;
-mod map_laws;
 mod map_write;
 mod merge_value;
 mod message;
@@ -29,13 +26,9 @@ mod message_merge;
 mod message_size;
 mod message_write;
 mod ordered;
-mod pin_laws;
 mod rewrite;
 mod run;
-mod run_laws;
 mod size;
 mod sized;
 mod storage;
-mod storage_laws;
-mod word_laws;
 mod write;

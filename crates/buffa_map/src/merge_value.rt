@@ -48,8 +48,8 @@ pub trait MergeValue {
     /// Merges the payload at the front into the value, at the depth of the context.
     ///
     /// # Errors
-    /// Those of [`MapValueDecode::merge`]. Of a message's payload any fault may be returned, a limit's only where its cost
-    /// isn't left.
+    /// Those of [`MapValueDecode::merge`]. Of a message's payload any fault may be returned, an error of a budget only where its
+    /// cost isn't left.
     fn merge<B: Buf>(
         &self,
         alloc: Global,

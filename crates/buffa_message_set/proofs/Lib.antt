@@ -2,6 +2,3 @@
 pub mod ItemLemmas
 pub mod ItemEncodingLemmas
 pub mod GroupLemmas
-mod FrontLemmas
-mod PinLemmas
-mod OrderLemmas

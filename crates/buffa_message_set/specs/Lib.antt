@@ -1,3 +1,2 @@
 -- The words that this crate hands out.
 pub mod Item
-pub mod Pinned

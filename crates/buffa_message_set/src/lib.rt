@@ -1,5 +1,4 @@
-//! Items of a MessageSet, read and written, and what is proved of them.
+//! Items of a MessageSet, read and written.
 #![tactic(auto)]
 
-pub mod laws;
 pub mod message_set;

@@ -1,8 +1,6 @@
 -- The lemmas that this crate hands out.
 pub mod RecordLemmas
 pub mod ByValueLemmas
-mod EncodingBytes
-mod FrontRest
 pub mod EncodingLemmas
 pub mod ReadLemmas
 pub mod LoopLemmas
@@ -20,6 +18,4 @@ pub mod ByPayloadLemmas
 pub mod MergeLoopLemmas
 pub mod KeepLemmas
 pub mod ShortLemmas
-pub mod PinLemmas
-pub mod FaultLemmas
 pub mod ValidLemmas

@@ -27,6 +27,12 @@ drop_past (s ∷ ss) xs ys n e =
     let q : suc n + length ss ≡ n + suc (length ss) = omega arith in
     subst (λ k. drop k xs ≡ ys) q (drop_past ss xs ys (suc n) (next_at xs n s (ss ++ ys) e).2)
 
+-- slots that were appended behind the cursor are next
+pub slots_are_next : (slots : List ℕ) (c : Cache) → c.next ≡ length c.slots → IsNext slots (appended slots c)
+slots_are_next more c e =
+    let none : length c.slots ≡ 0 + length c.slots = omega arith in
+    ([], ap (λ z. drop z (c.slots ++ more)) (e ∙ none) ∙ drop_past c.slots (c.slots ++ more) more 0 refl ∙ sym (append-nil more))
+
 pub next_past : (ss zs : List ℕ) (c : Cache) → IsNext (ss ++ zs) c → IsNext zs (advanced (length ss) c)
 next_past ss zs c (rest, e) = (rest, drop_past ss c.slots (zs ++ rest) c.next (e ∙ append_assoc ss zs rest))
 

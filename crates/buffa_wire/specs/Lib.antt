@@ -1,6 +1,7 @@
 -- The words that this crate hands out.
 pub mod BudgetLeft
 pub mod Cache
+pub mod Canonical
 pub mod Passes
 pub mod Message
 pub mod Records

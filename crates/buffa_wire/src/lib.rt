@@ -5,10 +5,10 @@
 pub mod budget;
 pub mod cache;
 pub mod context;
+pub mod decode;
 pub mod enumeration;
 pub mod form;
 pub mod formed;
-pub mod laws;
 pub mod message;
 pub mod reals;
 pub mod scalar;
@@ -29,6 +29,7 @@ pub use buffa_bytes::{
 };
 pub use cache::SizeCache;
 pub use context::{DecodeContext, RECURSION_LIMIT};
+pub use decode::{CanonicalError, Decode};
 pub use enumeration::{EnumValue, Enumeration};
 pub use form::Form;
 pub use formed::{Formed, MessageForm, MessageMeaning};

@@ -10,7 +10,7 @@ use Rattle.buffa_wire.specs.BudgetLeft.{BudgetLeft, defaults}
 use Rattle.buffa_wire.specs.Enums.{Numbers, Refines}
 use Rattle.buffa_bytes.specs.Number.{IsNumber}
 use Rattle.buffa_map.specs.Enums.{ClosedFits, closed_reading, closed_writing}
-use Rattle.buffa_map.specs.Laws.{OneReading, RewriteMeans, RunsAreRead}
+use Rattle.buffa_map_laws.specs.Laws.{OneReading, RewriteMeans, RunsAreRead}
 use Rattle.buffa_map.specs.Rewrite.{IsRewrite, KeepsMeaning}
 use Rattle.buffa_map.specs.Run.{Run}
 use Rattle.buffamap.specs.Choice.{two_numbers}

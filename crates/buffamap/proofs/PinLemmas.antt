@@ -15,10 +15,10 @@ use Rattle.buffa_map.specs.Enums.{closed_writing}
 use Rattle.buffa_map.specs.Pairs.{ListsOnce}
 use Rattle.buffa_map.specs.Run.{EntryRecord, fold_entries, undeclared_records}
 use Rattle.buffa_map.specs.Encoding.{HasEncoding, field_encoding}
-use Rattle.buffa.specs.Branch.{blank_node}
-use Rattle.buffa.specs.NodeMeaning.{node_cost, node_merged}
-use Rattle.buffa.specs.NodeEncoding.{node_encoding}
-use Rattle.buffa.specs.Set.{set_cost, set_merged, set_encoding}
+use Rattle.sample_node.specs.Branch.{blank_node}
+use Rattle.sample_node.specs.NodeMeaning.{node_cost, node_merged}
+use Rattle.sample_node.specs.NodeEncoding.{node_encoding}
+use Rattle.sample_set_msg.specs.Set.{set_cost, set_merged, set_encoding}
 use Rattle.buffamap.specs.Again.{IsEncoded, IsReadAgainIn, RefusesMessageBytes, RepliesToAgain, encoding_reply}
 use Rattle.buffa_map.specs.Scalars.{int32_writing}
 use Rattle.buffa_map.proofs.SortedLemmas.{same_sorted}

@@ -12,7 +12,7 @@ use Rattle.buffa_bytes.specs.ErrorText.{decode_error_text}
 use Rattle.buffa_wire.specs.Records.{Datum}
 use Rattle.buffa_wire.specs.Encoding.{records_encoding}
 use Rattle.buffa_map.specs.Enums.{ClosedFits, closed_writing}
-use Rattle.buffa_map.specs.Laws.{RunsAreRead}
+use Rattle.buffa_map_laws.specs.Laws.{RunsAreRead}
 use Rattle.buffa_map.specs.Pairs.{ListsOnce}
 use Rattle.buffa_map.specs.Run.{EntryRecord, fold_entries, undeclared_records}
 use Rattle.buffa_map.specs.Encoding.{AllHold, HasEncoding, entry_encoding, field_encoding}

@@ -6,7 +6,7 @@ ghost use Rattle.buffamap.specs.Reply.{success};
 
 use crate::fault::Fault;
 use crate::forms::{hex_bytes, hex_line, without_newline};
-use buffa::Message;
+use buffa_wire::Message;
 use std::alloc::Global;
 
 // The answer to a message.

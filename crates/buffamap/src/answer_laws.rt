@@ -9,10 +9,10 @@ ghost use Rattle.std.specs.List.Sorted.{IsStrictlySortedBy};
 ghost use Rattle.std.specs.Map.{keys_of};
 ghost use Rattle.std.specs.Ordering.{int_cmp, int_eq};
 ghost use Rattle.hex.specs.Hex.{encode_lower};
-ghost use Rattle.buffa.specs.Branch.{blank_node};
-ghost use Rattle.buffa.specs.NodeEncoding.{node_encoding};
-ghost use Rattle.buffa.specs.NodeMeaning.{node_cost, node_merged};
-ghost use Rattle.buffa.specs.Set.{set_cost, set_encoding, set_merged};
+ghost use Rattle.sample_node.specs.Branch.{blank_node};
+ghost use Rattle.sample_node.specs.NodeEncoding.{node_encoding};
+ghost use Rattle.sample_node.specs.NodeMeaning.{node_cost, node_merged};
+ghost use Rattle.sample_set_msg.specs.Set.{set_cost, set_encoding, set_merged};
 ghost use Rattle.buffa_bytes.specs.ErrorText.{decode_error_text};
 ghost use Rattle.buffa_bytes.specs.Values.{int32_of};
 ghost use Rattle.buffa_bytes.specs.declared.error.DecodeError.TheVariants.{OutOfMemory};
@@ -49,7 +49,7 @@ ghost use Rattle.buffamap.specs.Write.{RepliesToWrite, field_reply};
 ghost use denote.Ref.{Bor};
 
 use crate::command::Command;
-use buffa::{DEFAULT_UNKNOWN_FIELD_LIMIT, DecodeError, MessageSpec, RECURSION_LIMIT};
+use buffa_wire::{DEFAULT_UNKNOWN_FIELD_LIMIT, DecodeError, MessageSpec, RECURSION_LIMIT};
 
 /// What `item` answers to what follows an Item's start tag: the type id in decimal, the message's bytes and the bytes that
 /// follow the Item, a line each. Its fields may be one level less deep than a message's, since the Item is a level. Nothing is

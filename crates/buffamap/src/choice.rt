@@ -2,7 +2,7 @@
 ghost use Rattle.std.specs.Prelude.{pos, refl};
 ghost use Rattle.buffamap.specs.Choice.{choice_of, choice_number};
 
-use buffa::{Blank, Enumeration};
+use buffa_wire::{Blank, Enumeration};
 use std::alloc::Global;
 
 /// A closed enum of two values; `A` is the default.

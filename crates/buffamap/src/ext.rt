@@ -8,8 +8,9 @@ ghost use Rattle.buffamap.specs.Reply.{success};
 
 use crate::fault::Fault;
 use crate::forms::{hex_bytes, without_newline};
-use buffa::extension::codecs::{Int32, Repeated, StringCodec};
-use buffa::{Extension, ExtensionSet, UnknownFields};
+use buffa_ext::codecs::{Int32, Repeated, StringCodec};
+use buffa_ext::{Extension, ExtensionSet};
+use buffa_wire::UnknownFields;
 use std::alloc::{AllocError, Global};
 
 // A message of which no field is declared.

@@ -3,8 +3,8 @@ ghost use Rattle.std.specs.Prelude.{◌≡◌};
 ghost use Rattle.buffamap.specs.Fault.{IsOfBytes, IsOfDigits, IsOfRewrite, IsOfEncoding};
 ghost use Rattle.buffamap.specs.declared.fault.Fault.TheVariants.{OutOfMemory};
 
-use buffa::map_codec::RewriteError;
-use buffa::{DecodeError, EncodeError};
+use buffa_map::map_codec::RewriteError;
+use buffa_wire::{DecodeError, EncodeError};
 use hex::FromHexError;
 use std::alloc::{AllocError, AllocFailed};
 use thiserror::Error;

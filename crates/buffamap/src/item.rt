@@ -6,8 +6,8 @@ ghost use Rattle.buffamap.specs.Reply.{success};
 
 use crate::fault::Fault;
 use crate::forms::{hex_bytes, without_newline};
-use buffa::message_set::merge_item;
-use buffa::{Budget, DEFAULT_UNKNOWN_FIELD_LIMIT, DecodeContext, RECURSION_LIMIT};
+use buffa_message_set::message_set::merge_item;
+use buffa_wire::{Budget, DEFAULT_UNKNOWN_FIELD_LIMIT, DecodeContext, RECURSION_LIMIT};
 use std::alloc::{AllocError, Global};
 
 // An Item is one level deep.

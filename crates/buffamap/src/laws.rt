@@ -16,8 +16,8 @@ ghost use Rattle.buffamap.specs.Write.{RepliesToWrite};
 use crate::calls::{ReadCalls, WriteCalls};
 use crate::choice::Choice;
 use crate::fault::Fault;
-use buffa::map_codec::{ClosedEnum, Int32, RewriteError};
-use buffa::{Blank, DecodeError, EncodeError, Enumeration, MessageSpec};
+use buffa_map::map_codec::{ClosedEnum, Int32, RewriteError};
+use buffa_wire::{Blank, DecodeError, EncodeError, Enumeration, MessageSpec};
 use hex::FromHexError;
 use std::alloc::{AllocError, AllocFailed};
 use std::io::{Read, Sink, Write};
@@ -39,19 +39,18 @@ pub fn one_reply_to_rewrite(number: u32)
     ensures one { ReplyIsPinned (RepliesToRewrite number) }
     ensures there { HasReply (RepliesToRewrite number) }
 {
-    buffa_map::laws::runs_are_read::<Int32, ClosedEnum<Choice>>();
+    buffa_map_laws::map_fields::runs_are_read::<Int32, ClosedEnum<Choice>>();
 }
 
-/// What `rewrite N` writes keeps the meaning of what it reads: `law_12` of [`buffa::laws`], of the program's reply. A
-/// reader of an enum that declares more reads from both the same map, if the run is ordered, and keeps the same
-/// entries.
+/// What `rewrite N` writes keeps the meaning of what it reads: `law_12` of `buffa`, of the program's reply. A reader of an
+/// enum that declares more reads from both the same map, if the run is ordered, and keeps the same entries.
 pub fn rewrites_keep_their_meaning(number: u32)
     requires { IsNumber number }
     ensures { RewriteKeepsMeaning number }
 {
-    buffa::laws::law_12::<Int32>();
-    buffa_map::laws::runs_are_read::<Int32, ClosedEnum<Choice>>();
-    buffa_map::laws::one_reading::<Int32, ClosedEnum<Choice>>();
+    buffa_map_laws::map_fields::rewrite_means::<Int32>();
+    buffa_map_laws::map_fields::runs_are_read::<Int32, ClosedEnum<Choice>>();
+    buffa_map_laws::map_fields::one_reading::<Int32, ClosedEnum<Choice>>();
 }
 
 /// `ext N` has one reply to each input. When memory runs out isn't said: the reply may be that it did.

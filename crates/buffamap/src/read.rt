@@ -9,8 +9,10 @@ ghost use Rattle.buffamap.specs.Reply.{success};
 use crate::fault::Fault;
 use crate::forms::{hex_bytes, without_newline};
 use crate::lines::lines_of;
-use buffa::map_codec::{Int32, Str, read_map_field};
-use buffa::{Budget, DEFAULT_UNKNOWN_FIELD_LIMIT, DecodeContext, DecodeError, RECURSION_LIMIT};
+use buffa_map::map_codec::{Int32, Str, read_map_field};
+use buffa_wire::{
+    Budget, DEFAULT_UNKNOWN_FIELD_LIMIT, DecodeContext, DecodeError, RECURSION_LIMIT,
+};
 use std::alloc::Global;
 use std::collections::BTreeMap;
 

@@ -8,7 +8,7 @@ ghost use Rattle.buffamap.specs.Streams.{WritesOrBreaks, change};
 use crate::calls::WriteCalls;
 use crate::fault::Fault;
 use crate::stream::write_whole;
-use buffa::{DecodeError, EncodeError};
+use buffa_wire::{DecodeError, EncodeError};
 use std::alloc::{AllocError, Global};
 
 /// The line of words that are no command.

@@ -24,7 +24,7 @@ ghost use Rattle.buffamap.specs.Streams.{Known, StreamChange};
 
 use crate::command::Command;
 use crate::fault::Fault;
-use buffa::{DecodeError, EncodeError};
+use buffa_wire::{DecodeError, EncodeError};
 
 /// What each reply is: its status, its text on the output, and its text on the errors. Nothing is left out.
 pub fn replies_are_these()

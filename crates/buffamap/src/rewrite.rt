@@ -8,8 +8,8 @@ ghost use Rattle.buffamap.specs.Rewrite.{IsRewriteError, IsRewritten, RepliesToR
 use crate::choice::Choice;
 use crate::fault::Fault;
 use crate::forms::{hex_bytes, hex_line, without_newline};
-use buffa::map_codec::{ClosedEnum, Int32, RewriteError, rewrite_map_field};
-use buffa::{Budget, DEFAULT_UNKNOWN_FIELD_LIMIT, DecodeContext, RECURSION_LIMIT};
+use buffa_map::map_codec::{ClosedEnum, Int32, RewriteError, rewrite_map_field};
+use buffa_wire::{Budget, DEFAULT_UNKNOWN_FIELD_LIMIT, DecodeContext, RECURSION_LIMIT};
 use std::alloc::Global;
 use std::collections::BTreeMap;
 

@@ -9,7 +9,7 @@ ghost use Rattle.buffamap.specs.Write.{IsFieldReply, RepliesToWrite};
 use crate::fault::Fault;
 use crate::forms::hex_line;
 use crate::lines::map_in;
-use buffa::map_codec::{Int32, Str, write_field};
+use buffa_map::map_codec::{Int32, Str, write_field};
 use std::alloc::Global;
 use std::collections::BTreeMap;
 

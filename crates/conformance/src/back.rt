@@ -3,8 +3,8 @@
 use buffa_fields::message::members_read_back;
 use buffa_map::map_codec::{Int32, MapCodec};
 use buffa_wire::RECURSION_LIMIT;
-use conformance_calls::extensions::normal::Normal;
-use conformance_calls::extensions::written::are_written;
+use conformance_extensions::normal::Normal;
+use conformance_extensions::written::are_written;
 use sample_types::count::CountMsg;
 use sample_types::flat::FlatMsg;
 use sample_types::keep::BudgetMsg;

@@ -1,12 +1,12 @@
 // Values of an enum and their numbers.
 
 use buffa_wire::EnumValue;
-use conformance_calls::samples::Samples;
 use conformance_rows::case::Case;
 use conformance_rows::fault::Fault;
 use conformance_rows::mark::Mark;
 use conformance_rows::outcome::{Outcome, got, two_in_words};
 use conformance_rows::words::Worded;
+use conformance_samples::Samples;
 use sample_types::hues::Old;
 use std::alloc::Global;
 

@@ -4,12 +4,12 @@ use crate::back::{Back, Kept};
 use buffa_ext::codecs::EnumCodec;
 use buffa_ext::record::{Delimited, Grouped};
 use buffa_wire::EnumValue;
-use conformance_calls::extensions::{message as of_message, packable};
-use conformance_calls::samples::Samples;
+use conformance_extensions::{message as of_message, packable};
 use conformance_rows::case::Case;
 use conformance_rows::fault::Fault;
 use conformance_rows::mark::Mark;
 use conformance_rows::outcome::Outcome;
+use conformance_samples::Samples;
 use sample_types::count::CountMsg;
 use sample_types::flat::FlatMsg;
 use sample_types::hues::Old;
@@ -28,6 +28,6 @@ pub fn extension(alloc: Global, case: &Case<'_>, mark: &mut Mark) -> Result<Outc
         "two-group" => of_message::<Samples, Back, TestMsg, Grouped>(alloc, case, mark),
         "count-group" => of_message::<Samples, Back, CountMsg, Grouped>(alloc, case, mark),
         "keep-group" => of_message::<Samples, Kept<()>, BudgetMsg, Grouped>(alloc, case, mark),
-        _ => conformance_calls::extensions::extension::<Samples>(alloc, case, mark),
+        _ => conformance_extensions::extension::<Samples>(alloc, case, mark),
     }
 }

@@ -7,8 +7,6 @@ mod extensions;
 mod items;
 mod scalars;
 
-use conformance_calls::wire::lists::on_lists;
-use conformance_calls::wire::records::{fields_and_numbers, on_records};
 use conformance_rows::any_buf::AnyBuf;
 use conformance_rows::calls::{Group, StorageName, group_of};
 use conformance_rows::case::Case;
@@ -16,6 +14,8 @@ use conformance_rows::fault::Fault;
 use conformance_rows::mark::Mark;
 use conformance_rows::outcome::Outcome;
 use conformance_rows::runs::{Calls, run_rows};
+use conformance_wire::lists::on_lists;
+use conformance_wire::records::{fields_and_numbers, on_records};
 use enums::on_enums;
 use extensions::extension;
 use items::{item, write_an_item};

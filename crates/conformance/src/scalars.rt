@@ -1,13 +1,13 @@
 // Calls on scalars, strings, bytes and tags, and on defaults: those of samples too.
 
 use buffa_wire::{Buf, EnumValue};
-use conformance_calls::samples::Samples;
-use conformance_calls::wire::scalars::payload::{blank, decode, spell};
-use conformance_calls::wire::scalars::texts::{OwnString, own_string};
 use conformance_rows::case::Case;
 use conformance_rows::fault::Fault;
 use conformance_rows::mark::Mark;
 use conformance_rows::outcome::Outcome;
+use conformance_samples::Samples;
+use conformance_wire::scalars::payload::{blank, decode, spell};
+use conformance_wire::scalars::texts::{OwnString, own_string};
 use sample_types::count::CountMsg;
 use sample_types::flat::FlatMsg;
 use sample_types::hues::{New, Old};
@@ -26,7 +26,7 @@ pub fn scalar<B: Buf>(
 ) -> Result<Outcome, Fault> {
     match (case.call, case.types) {
         ("decode", "word") => decode::<Samples, OwnString<Word>, B>(alloc, case, mark, buf),
-        _ => conformance_calls::wire::scalars::from_buffer::<Samples, B>(alloc, case, mark, buf),
+        _ => conformance_wire::scalars::from_buffer::<Samples, B>(alloc, case, mark, buf),
     }
 }
 
@@ -42,7 +42,7 @@ fn blank_of(alloc: Global, case: &Case<'_>, mark: &mut Mark) -> Result<Outcome, 
         "count" => blank::<Samples, CountMsg>(alloc, mark),
         "keep" => blank::<Samples, BudgetMsg>(alloc, mark),
         "tree" => blank::<Samples, Tree>(alloc, mark),
-        _ => conformance_calls::wire::scalars::from_words::<Samples>(alloc, case, mark),
+        _ => conformance_wire::scalars::from_words::<Samples>(alloc, case, mark),
     }
 }
 
@@ -52,6 +52,6 @@ pub fn scalar_of_words(alloc: Global, case: &Case<'_>, mark: &mut Mark) -> Resul
         ("blank", _) => blank_of(alloc, case, mark),
         ("from-wire", "word") => own_string::<Samples, Word>(alloc, case, mark),
         ("spell", "word") => spell::<Samples, OwnString<Word>>(alloc, case, mark),
-        _ => conformance_calls::wire::scalars::from_words::<Samples>(alloc, case, mark),
+        _ => conformance_wire::scalars::from_words::<Samples>(alloc, case, mark),
     }
 }

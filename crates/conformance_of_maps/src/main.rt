@@ -14,7 +14,6 @@ mod storages;
 mod store;
 
 use any_types::fields_of_any_types;
-use conformance_calls::samples::{Read, Samples, Spelled};
 use conformance_rows::any_buf::AnyBuf;
 use conformance_rows::calls::{Group, StorageName, group_of};
 use conformance_rows::case::Case;
@@ -22,6 +21,7 @@ use conformance_rows::fault::Fault;
 use conformance_rows::mark::Mark;
 use conformance_rows::outcome::Outcome;
 use conformance_rows::runs::{Calls, run_rows};
+use conformance_samples::{Read, Samples, Spelled};
 use fields::{read_fields, write_fields};
 use payloads::payload_rows;
 use std::alloc::Global;

@@ -1,11 +1,11 @@
 // Payloads of values that are no messages: those of enums and words too.
 
 use buffa_map::map_codec::{ClosedEnum, OpenEnum, ProtoStringMap};
-use conformance_calls::samples::{OnCodec, Samples};
 use conformance_rows::case::Case;
 use conformance_rows::fault::Fault;
 use conformance_rows::mark::Mark;
 use conformance_rows::outcome::Outcome;
+use conformance_samples::{OnCodec, Samples};
 use sample_types::hues::{New, Old};
 use sample_types::word::Word;
 use std::alloc::Global;
@@ -22,6 +22,6 @@ pub fn payload_rows<O: OnCodec<Samples>>(
         "new" => call.on_codec::<ClosedEnum<New>>(alloc, case, mark),
         "open" => call.on_codec::<OpenEnum<Old>>(alloc, case, mark),
         "word" => call.on_codec::<ProtoStringMap<Word>>(alloc, case, mark),
-        _ => conformance_calls::samples::payloads::<Samples, O>(alloc, case, mark, call),
+        _ => conformance_samples::payloads::<Samples, O>(alloc, case, mark, call),
     }
 }

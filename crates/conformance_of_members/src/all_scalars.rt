@@ -2,7 +2,7 @@
 
 mod words;
 
-use conformance_calls::messages::parted;
+use conformance_messages::parted;
 use conformance_rows::calls::StorageName;
 use conformance_rows::case::Case;
 use conformance_rows::fault::Fault;

@@ -12,14 +12,12 @@ use crate::members::branches::Branches;
 use crate::members::failures::Failures;
 use crate::members::payments::Payments;
 use crate::members::settings::Sections;
-use conformance_calls::messages::parted;
+use conformance_messages::parted;
 use conformance_rows::calls::StorageName;
 use conformance_rows::case::Case;
 use conformance_rows::fault::Fault;
 use conformance_rows::mark::Mark;
 use conformance_rows::outcome::Outcome;
-use sample_failure::failure::Failure;
-use sample_held::branch::Branch;
 use sample_inventory::assorted::Assorted;
 use sample_inventory::depot::Depot;
 use sample_inventory::inventory::Inventory;
@@ -37,7 +35,9 @@ use sample_palette::palette::Palette;
 use sample_palette::swatch::Swatch;
 use sample_payment::payment::Payment;
 use sample_payment::transfer::Transfer;
-use sample_settings::settings::Settings;
+use sample_recursive::branch::Branch;
+use sample_recursive::failure::Failure;
+use sample_recursive::settings::Settings;
 use std::alloc::Global;
 
 /// The words of messages from their fields.

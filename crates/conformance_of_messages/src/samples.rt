@@ -2,14 +2,14 @@
 
 use buffa_map::map_codec::Msg;
 use buffa_wire::{Buf, Message};
-use conformance_calls::messages::delimited;
-use conformance_calls::samples::{Samples, payload};
+use conformance_messages::delimited;
 use conformance_rows::calls::StorageName;
 use conformance_rows::case::Case;
 use conformance_rows::fault::Fault;
 use conformance_rows::mark::Mark;
 use conformance_rows::outcome::Outcome;
 use conformance_rows::words::Worded;
+use conformance_samples::{Samples, payload};
 use sample_types::count::CountMsg;
 use sample_types::flat::FlatMsg;
 use sample_types::keep::BudgetMsg;
@@ -56,21 +56,19 @@ pub fn message(
     bytes: &[u8],
 ) -> Result<Outcome, Fault> {
     match case.types {
-        "flat" => conformance_calls::messages::message::<Samples, FlatMsg>(
+        "flat" => conformance_messages::message::<Samples, FlatMsg>(
             alloc, case, storage, mark, bytes,
         ),
-        "two" => conformance_calls::messages::message::<Samples, TestMsg>(
+        "two" => conformance_messages::message::<Samples, TestMsg>(
             alloc, case, storage, mark, bytes,
         ),
-        "count" => conformance_calls::messages::message::<Samples, CountMsg>(
+        "count" => conformance_messages::message::<Samples, CountMsg>(
             alloc, case, storage, mark, bytes,
         ),
-        "keep" => conformance_calls::messages::message::<Samples, BudgetMsg>(
+        "keep" => conformance_messages::message::<Samples, BudgetMsg>(
             alloc, case, storage, mark, bytes,
         ),
-        "tree" => conformance_calls::messages::message::<Samples, Tree>(
-            alloc, case, storage, mark, bytes,
-        ),
+        "tree" => conformance_messages::message::<Samples, Tree>(alloc, case, storage, mark, bytes),
         _ => Err(Fault::Form),
     }
 }

@@ -9,7 +9,7 @@ ghost use Rattle.std.specs.Prelude.{◌≡◌, IfOk, Some, option_map, string_by
 
 use crate::messages::error_info::ErrorInfo;
 use anyhow::Error;
-use buffa::{Blank, Message, MessageSpec, RECURSION_LIMIT};
+use buffa_fields::{Blank, Decode, Message, MessageSpec, RECURSION_LIMIT};
 use std::alloc::Global;
 
 // An `ErrorInfo` with the reason NO_STOCK and the good pear.
@@ -22,16 +22,14 @@ fn with_domain(alloc: Global, bytes: &[u8], domain: String) -> Result<Vec<u8>, E
         ≡ option_map (λ m. ⟦<ErrorInfo as MessageSpec>⟧.encoding (m.0, (string_bytes domain, m.1.1)))
         (⟦<ErrorInfo as MessageSpec>⟧.merged RECURSION_LIMIT ⟦<ErrorInfo as Blank>⟧.blank_is bytes.now)) }
 {
-    let mut info = ErrorInfo::blank(alloc);
-    info.merge_from_slice(alloc, bytes)?;
+    let mut info = ErrorInfo::decode_from_slice(alloc, bytes)?;
     info.domain = domain;
     Ok(info.try_encode_to_vec(alloc)?)
 }
 
 fn main(rt: HostRuntime) -> Result<(), Error> {
     let alloc = rt.alloc();
-    let mut info = ErrorInfo::blank(alloc);
-    info.merge_from_slice(alloc, BYTES)?;
+    let mut info = ErrorInfo::decode_from_slice(alloc, BYTES)?;
     info.domain = String::from_str(alloc, "example.com")?;
     let encoding = info.try_encode_to_vec(alloc)?;
     println!(rt; "{}, now {} bytes", info.reason, encoding.len())?;

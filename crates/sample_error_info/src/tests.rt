@@ -2,7 +2,7 @@
 
 use crate::messages::error_info::ErrorInfo;
 use crate::with_domain;
-use buffa::{Blank, Message};
+use buffa_fields::Decode;
 use std::test::Fail;
 
 #[test]
@@ -16,8 +16,7 @@ fn what_protoc_wrote_is_read_changed_and_written(rt: HostRuntime) -> Result<(), 
         0x1A, 0x18, 0x0A, 0x08, 0x72, 0x65, 0x73, 0x6F, 0x75, 0x72, 0x63, 0x65, 0x12, 0x0C, 0x70,
         0x72, 0x6F, 0x6A, 0x65, 0x63, 0x74, 0x73, 0x2F, 0x31, 0x32, 0x33, // metadata of resource is projects/123
     ];
-    let mut info = ErrorInfo::blank(alloc);
-    info.merge_from_slice(alloc, &bytes)?;
+    let mut info = ErrorInfo::decode_from_slice(alloc, &bytes)?;
     assert!(rt; info.reason.as_str() == "API_DISABLED" && info.domain.as_str() == "googleapis.com");
     assert!(rt; info.metadata.len() == 1 && info.rest.len() == 1);
     let answer = with_domain(alloc, &bytes, String::from_str(alloc, "a.b")?)?;

@@ -1,15 +1,14 @@
 //! buffa.sample.Assorted, made of inventory.proto by protoc-gen-buffa.
 
 ghost use Rattle.std.proofs.Common.{lit<, refl};
-ghost use Rattle.buffa.specs.Members.{field, keep};
+ghost use Rattle.buffa_fields.specs.Terms.{field, keep};
 
 use crate::state::State;
-use buffa::fields::{
-    And, And9, Fields, Formed, KeptFields, Listed, Listing, MapOf, Member, Optional, Packed, Plain,
-    Repeated, Visitor, kept,
+use buffa_fields::map_codec::{Bool, BytesBuf, BytesVec, Int64, Map, OpenEnum};
+use buffa_fields::{
+    And, And9, Blank, DecodeContext, DecodeError, EnumValue, Fields, Formed, KeptFields, Listed,
+    Listing, MapOf, Member, Optional, Packed, Plain, Repeated, Tag, UnknownFields, Visitor, kept,
 };
-use buffa::map_codec::{Bool, BytesBuf, BytesVec, Int64, Map, OpenEnum};
-use buffa::{Blank, DecodeContext, DecodeError, EnumValue, Tag, UnknownFields};
 use bytes::Bytes;
 use std::alloc::Global;
 

@@ -1,14 +1,14 @@
 //! buffa.sample.Depot, made of inventory.proto by protoc-gen-buffa.
 
 ghost use Rattle.std.proofs.Common.{lit<, refl};
-ghost use Rattle.buffa.specs.Members.{field, skip};
+ghost use Rattle.buffa_fields.specs.Terms.{field, skip};
 
 use crate::parcel::Parcel;
-use buffa::fields::{
-    And3, Fields, Formed, Listed, Listing, Member, Plain, RepeatedNested, Visitor, kept,
+use buffa_fields::map_codec::Str;
+use buffa_fields::{
+    And3, Blank, DecodeContext, DecodeError, Fields, Formed, Listed, Listing, Member, Plain,
+    RepeatedNested, Tag, Visitor, kept,
 };
-use buffa::map_codec::Str;
-use buffa::{Blank, DecodeContext, DecodeError, Tag};
 use std::alloc::Global;
 use std::string::String;
 

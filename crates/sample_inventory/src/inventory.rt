@@ -1,14 +1,13 @@
 //! buffa.sample.Inventory, made of inventory.proto by protoc-gen-buffa.
 
 ghost use Rattle.std.proofs.Common.{lit<, refl};
-ghost use Rattle.buffa.specs.Members.{field, keep};
+ghost use Rattle.buffa_fields.specs.Terms.{field, keep};
 
-use buffa::fields::{
-    And, And5, Fields, Formed, KeptFields, Listed, Listing, MapOf, Member, Optional, Plain,
-    Visitor, kept,
+use buffa_fields::map_codec::{Bool, Int32, Map, Str};
+use buffa_fields::{
+    And, And5, Blank, DecodeContext, DecodeError, Fields, Formed, KeptFields, Listed, Listing,
+    MapOf, Member, Optional, Plain, Tag, UnknownFields, Visitor, kept,
 };
-use buffa::map_codec::{Bool, Int32, Map, Str};
-use buffa::{Blank, DecodeContext, DecodeError, Tag, UnknownFields};
 use std::alloc::Global;
 use std::string::String;
 

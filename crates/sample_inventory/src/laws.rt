@@ -1,15 +1,14 @@
 //! Laws: which enum a state is, and how deep trains nest.
 
 ghost use Rattle.std.specs.Prelude.{◌≡◌, ◌∷◌, [], None, Some, map, pos};
-ghost use Rattle.buffa.specs.Wire.{IsCopied, SameIsOne};
-ghost use Rattle.buffa.specs.Members.{AreExactLevels};
+ghost use Rattle.buffa_fields.specs.Terms.{AreExactLevels, IsCopied, SameIsOne};
 
 use crate::load::Load;
 use crate::state::State;
 use crate::train::Train;
 use crate::wagon::Wagon;
-use buffa::laws::fields::levels_of_fields_are_exact;
-use buffa::{Blank, Enumeration, MessageSpec};
+use buffa_fields::{Blank, Enumeration, MessageSpec};
+use buffa_fields_laws::members::levels_of_fields_are_exact;
 
 /// Which of the first three numbers states declare, by which values, and their default; `==` and `clone` of them.
 pub fn states_are_these()

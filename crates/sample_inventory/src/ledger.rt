@@ -1,15 +1,14 @@
 //! buffa.sample.Ledger, made of inventory.proto by protoc-gen-buffa.
 
 ghost use Rattle.std.proofs.Common.{lit<, refl};
-ghost use Rattle.buffa.specs.Members.{field, keep};
+ghost use Rattle.buffa_fields.specs.Terms.{field, keep};
 
 use crate::inventory::Inventory;
-use buffa::fields::{
-    And, And4, Fields, Formed, KeptFields, Listed, Listing, Member, OrderedMapOf,
-    OrderedMapOfNested, Visitor, kept,
+use buffa_fields::map_codec::{Bool, BytesVec, Int32, Str};
+use buffa_fields::{
+    And, And4, Blank, DecodeContext, DecodeError, Fields, Formed, KeptFields, Listed, Listing,
+    Member, OrderedMapOf, OrderedMapOfNested, Tag, UnknownFields, Visitor, kept,
 };
-use buffa::map_codec::{Bool, BytesVec, Int32, Str};
-use buffa::{Blank, DecodeContext, DecodeError, Tag, UnknownFields};
 use std::alloc::Global;
 use std::collections::BTreeMap;
 use std::string::String;

@@ -1,13 +1,13 @@
 //! buffa.sample.Load, made of inventory.proto by protoc-gen-buffa.
 
 ghost use Rattle.std.proofs.Common.{lit<, refl};
-ghost use Rattle.buffa.specs.Members.{field, keep};
+ghost use Rattle.buffa_fields.specs.Terms.{field, keep};
 
-use buffa::fields::{
-    And3, Fields, Formed, KeptFields, Listed, Listing, Member, Optional, Visitor, kept,
+use buffa_fields::map_codec::{Int32, Str};
+use buffa_fields::{
+    And3, Blank, DecodeContext, DecodeError, Fields, Formed, KeptFields, Listed, Listing, Member,
+    Optional, Tag, UnknownFields, Visitor, kept,
 };
-use buffa::map_codec::{Int32, Str};
-use buffa::{Blank, DecodeContext, DecodeError, Tag, UnknownFields};
 use std::alloc::Global;
 use std::string::String;
 

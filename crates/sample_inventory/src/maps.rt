@@ -2,8 +2,8 @@
 
 use crate::inventory::Inventory;
 use crate::order::Order;
-use buffa::map_codec::{Map, Msg, Str, message_field_len, read_map_field};
-use buffa::{DecodeContext, DecodeError, EncodeError, SizeCache};
+use buffa_fields::map_codec::{Map, Msg, Str, message_field_len, read_map_field};
+use buffa_fields::{DecodeContext, DecodeError, EncodeError, SizeCache};
 use std::alloc::Global;
 use std::string::String;
 

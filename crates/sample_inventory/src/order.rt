@@ -1,15 +1,14 @@
 //! buffa.sample.Order, made of inventory.proto by protoc-gen-buffa.
 
 ghost use Rattle.std.proofs.Common.{lit<, refl};
-ghost use Rattle.buffa.specs.Members.{field, skip};
+ghost use Rattle.buffa_fields.specs.Terms.{field, skip};
 
 use crate::state::State;
-use buffa::fields::{
-    And, And13, Fields, Formed, Listed, Listing, MapOf, Member, Optional, Packed, Plain, Repeated,
-    Visitor, kept,
+use buffa_fields::map_codec::{Bool, BytesVec, Fixed64, Int32, Int64, Map, OpenEnum, Sint32, Str};
+use buffa_fields::{
+    And, And13, Blank, DecodeContext, DecodeError, EnumValue, Fields, Formed, Listed, Listing,
+    MapOf, Member, Optional, Packed, Plain, Repeated, Tag, Visitor, kept,
 };
-use buffa::map_codec::{Bool, BytesVec, Fixed64, Int32, Int64, Map, OpenEnum, Sint32, Str};
-use buffa::{Blank, DecodeContext, DecodeError, EnumValue, Tag};
 use std::alloc::Global;
 use std::string::String;
 

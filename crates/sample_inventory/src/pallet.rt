@@ -1,14 +1,14 @@
 //! buffa.sample.Pallet, made of inventory.proto by protoc-gen-buffa.
 
 ghost use Rattle.std.proofs.Common.{lit<, refl};
-ghost use Rattle.buffa.specs.Members.{field, skip};
+ghost use Rattle.buffa_fields.specs.Terms.{field, skip};
 
 use crate::inventory::Inventory;
-use buffa::fields::{
-    And4, Fields, Formed, Group, Listed, Listing, Member, Plain, RepeatedGroup, Visitor, kept,
+use buffa_fields::map_codec::Str;
+use buffa_fields::{
+    And4, Blank, DecodeContext, DecodeError, Fields, Formed, Group, Listed, Listing, Member, Plain,
+    RepeatedGroup, Tag, Visitor, kept,
 };
-use buffa::map_codec::Str;
-use buffa::{Blank, DecodeContext, DecodeError, Tag};
 use std::alloc::Global;
 use std::string::String;
 

@@ -1,12 +1,14 @@
 //! buffa.sample.Parcel, made of inventory.proto by protoc-gen-buffa.
 
 ghost use Rattle.std.proofs.Common.{lit<, refl};
-ghost use Rattle.buffa.specs.Members.{field, skip};
+ghost use Rattle.buffa_fields.specs.Terms.{field, skip};
 
 use crate::inventory::Inventory;
-use buffa::fields::{And3, Fields, Formed, Listed, Listing, Member, Nested, Plain, Visitor, kept};
-use buffa::map_codec::Int64;
-use buffa::{Blank, DecodeContext, DecodeError, Tag};
+use buffa_fields::map_codec::Int64;
+use buffa_fields::{
+    And3, Blank, DecodeContext, DecodeError, Fields, Formed, Listed, Listing, Member, Nested,
+    Plain, Tag, Visitor, kept,
+};
 use std::alloc::Global;
 
 /// A parcel: a member that is a message.

@@ -3,7 +3,7 @@
 ghost use Rattle.std.specs.Prelude.{None, Some, if◌then◌else◌, pos, refl};
 ghost use Rattle.std.specs.Ordering.{int_eq};
 
-use buffa::{Blank, Enumeration};
+use buffa_fields::{Blank, Enumeration};
 use std::alloc::Global;
 
 /// How far an order is.

@@ -1,14 +1,14 @@
 //! buffa.sample.Store, made of inventory.proto by protoc-gen-buffa.
 
 ghost use Rattle.std.proofs.Common.{lit<, refl};
-ghost use Rattle.buffa.specs.Members.{field, skip};
+ghost use Rattle.buffa_fields.specs.Terms.{field, skip};
 
 use crate::inventory::Inventory;
-use buffa::fields::{
-    And, And3, Fields, Formed, Listed, Listing, MapOfNested, Member, Plain, Visitor, kept,
+use buffa_fields::map_codec::{Map, Str};
+use buffa_fields::{
+    And, And3, Blank, DecodeContext, DecodeError, Fields, Formed, Listed, Listing, MapOfNested,
+    Member, Plain, Tag, Visitor, kept,
 };
-use buffa::map_codec::{Map, Str};
-use buffa::{Blank, DecodeContext, DecodeError, Tag};
 use std::alloc::Global;
 use std::string::String;
 

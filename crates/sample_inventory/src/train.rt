@@ -1,14 +1,14 @@
 //! buffa.sample.Train, made of inventory.proto by protoc-gen-buffa.
 
 ghost use Rattle.std.proofs.Common.{lit<, refl};
-ghost use Rattle.buffa.specs.Members.{field, skip};
+ghost use Rattle.buffa_fields.specs.Terms.{field, skip};
 
 use crate::wagon::Wagon;
-use buffa::fields::{
-    And, And3, Fields, Formed, Listed, Listing, MapOfNested, Member, RepeatedNested, Visitor, kept,
+use buffa_fields::map_codec::{Int32, Map};
+use buffa_fields::{
+    And, And3, Blank, DecodeContext, DecodeError, Fields, Formed, Listed, Listing, MapOfNested,
+    Member, RepeatedNested, Tag, Visitor, kept,
 };
-use buffa::map_codec::{Int32, Map};
-use buffa::{Blank, DecodeContext, DecodeError, Tag};
 use std::alloc::Global;
 
 /// A train: messages of thirteen members in a map and in a list.

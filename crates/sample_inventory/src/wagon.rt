@@ -1,17 +1,17 @@
 //! buffa.sample.Wagon, made of inventory.proto by protoc-gen-buffa.
 
 ghost use Rattle.std.proofs.Common.{lit<, refl};
-ghost use Rattle.buffa.specs.Members.{field, keep};
+ghost use Rattle.buffa_fields.specs.Terms.{field, keep};
 
 use crate::load::Load;
 use crate::state::State;
-use buffa::fields::{
-    And, And14, Fields, Formed, Group, KeptFields, Listed, Listing, MapOf, MapOfNested, Member,
-    Nested, Optional, OrderedMapOf, OrderedMapOfNested, Packed, Plain, Repeated, RepeatedGroup,
-    RepeatedNested, Visitor, kept,
+use buffa_fields::map_codec::{Int32, Int64, Map, OpenEnum, Str};
+use buffa_fields::{
+    And, And14, Blank, DecodeContext, DecodeError, EnumValue, Fields, Formed, Group, KeptFields,
+    Listed, Listing, MapOf, MapOfNested, Member, Nested, Optional, OrderedMapOf,
+    OrderedMapOfNested, Packed, Plain, Repeated, RepeatedGroup, RepeatedNested, Tag, UnknownFields,
+    Visitor, kept,
 };
-use buffa::map_codec::{Int32, Int64, Map, OpenEnum, Str};
-use buffa::{Blank, DecodeContext, DecodeError, EnumValue, Tag, UnknownFields};
 use std::alloc::Global;
 use std::collections::BTreeMap;
 use std::string::String;

@@ -2,16 +2,16 @@
 
 ghost use Rattle.std.proofs.Common.{lit<, refl};
 ghost use Rattle.std.specs.Prelude.{codes, is_some, option_map, string_bytes, unwrap_or, ◌&&◌, ◌≡◌};
-ghost use Rattle.buffa.specs.Members.{field, field_kept, keep};
+ghost use Rattle.buffa_fields.specs.Terms.{field, field_kept, keep};
 
 use crate::spot::Spot;
 use crate::unit::Unit;
-use buffa::fields::{
-    And, And10, Fields, Formed, Keeping, KeptFields, Listed, Listing, MapOf, Member, Nested,
-    Optional, Packed, Repeated, RepeatedNested, Required, Visitor, kept,
+use buffa_fields::map_codec::{ClosedEnum, Double, Float, Int32, Map, Str};
+use buffa_fields::{
+    And, And10, Blank, DecodeContext, DecodeError, DoubleBits, Fields, FloatBits, Formed, Keeping,
+    KeptFields, Listed, Listing, MapOf, Member, Nested, Optional, Packed, Repeated, RepeatedNested,
+    Required, Tag, UnknownFields, Visitor, kept,
 };
-use buffa::map_codec::{ClosedEnum, Double, Float, Int32, Map, Str};
-use buffa::{Blank, DecodeContext, DecodeError, DoubleBits, FloatBits, Tag, UnknownFields};
 use std::alloc::Global;
 use std::string::String;
 

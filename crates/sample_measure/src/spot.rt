@@ -2,13 +2,13 @@
 
 ghost use Rattle.std.proofs.Common.{lit<, refl};
 ghost use Rattle.std.specs.Prelude.{is_some, option_map, unwrap_or, ◌&&◌, ◌≡◌};
-ghost use Rattle.buffa.specs.Members.{field, keep};
+ghost use Rattle.buffa_fields.specs.Terms.{field, keep};
 
-use buffa::fields::{
-    And4, Fields, Formed, KeptFields, Listed, Listing, Member, Optional, Required, Visitor, kept,
+use buffa_fields::map_codec::Float;
+use buffa_fields::{
+    And4, Blank, DecodeContext, DecodeError, Fields, FloatBits, Formed, KeptFields, Listed,
+    Listing, Member, Optional, Required, Tag, UnknownFields, Visitor, kept,
 };
-use buffa::map_codec::Float;
-use buffa::{Blank, DecodeContext, DecodeError, FloatBits, Tag, UnknownFields};
 use std::alloc::Global;
 
 /// Where a station stands.

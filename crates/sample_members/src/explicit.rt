@@ -1,15 +1,15 @@
 //! buffa.sample.Explicit, made of members.proto by protoc-gen-buffa.
 
 ghost use Rattle.std.proofs.Common.{lit<, refl};
-ghost use Rattle.buffa.specs.Members.{field, keep};
+ghost use Rattle.buffa_fields.specs.Terms.{field, keep};
 
-use buffa::fields::{
-    And12, Fields, Formed, KeptFields, Listed, Listing, Member, Optional, Visitor, kept,
-};
-use buffa::map_codec::{
+use buffa_fields::map_codec::{
     Bool, Fixed32, Fixed64, Int32, Int64, Sfixed32, Sfixed64, Sint32, Sint64, Uint32, Uint64,
 };
-use buffa::{Blank, DecodeContext, DecodeError, Tag, UnknownFields};
+use buffa_fields::{
+    And12, Blank, DecodeContext, DecodeError, Fields, Formed, KeptFields, Listed, Listing, Member,
+    Optional, Tag, UnknownFields, Visitor, kept,
+};
 use std::alloc::Global;
 
 /// Numbers of explicit presence: one that is the default is written where it is there.

@@ -1,13 +1,15 @@
 //! buffa.sample.Separate, made of members.proto by protoc-gen-buffa.
 
 ghost use Rattle.std.proofs.Common.{lit<, refl};
-ghost use Rattle.buffa.specs.Members.{field, skip};
+ghost use Rattle.buffa_fields.specs.Terms.{field, skip};
 
-use buffa::fields::{And12, Fields, Formed, Listed, Listing, Member, Repeated, Visitor, kept};
-use buffa::map_codec::{
+use buffa_fields::map_codec::{
     Bool, Fixed32, Fixed64, Int32, Int64, Sfixed32, Sfixed64, Sint32, Sint64, Uint32, Uint64,
 };
-use buffa::{Blank, DecodeContext, DecodeError, Tag};
+use buffa_fields::{
+    And12, Blank, DecodeContext, DecodeError, Fields, Formed, Listed, Listing, Member, Repeated,
+    Tag, Visitor, kept,
+};
 use std::alloc::Global;
 
 /// Lists of numbers, each in a field of its own.

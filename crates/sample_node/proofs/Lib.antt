@@ -1,4 +1,5 @@
 -- The lemmas that this crate hands out.
+mod NodeHeldLemmas
 mod NodeLaidLemmas
 mod NodeReadLemmas
 mod NodeWrittenLemmas

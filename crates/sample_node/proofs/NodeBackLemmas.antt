@@ -14,13 +14,13 @@ use Rattle.buffa_map.specs.Scalars.{IsText, int32_reading, int32_writing, text_w
 use Rattle.buffa_fields.specs.Aside.{AllAside}
 use Rattle.buffa_fields.specs.Keep.{AllNumbers}
 use Rattle.buffa_fields.specs.KeptMaps.{IsAsideEntry}
-use Rattle.buffa_fields.specs.Knots.{KnotList, kid, knot, no_kid}
+use Rattle.buffa_recursive.specs.MessageTree.{KnotList, kid, knot, no_kid}
 use Rattle.buffa_fields.specs.Layout.{Choice}
 use Rattle.buffa_fields.specs.MapFields.{map_records}
 use Rattle.buffa_fields.specs.Nested.{FitsInside}
 use Rattle.buffa_fields.specs.facts.PairFacts.{fits_both}
-use Rattle.buffa_fields.specs.Pairs.{child_pairs, keys_in, pairs_in, values_in}
-use Rattle.buffa_fields.specs.facts.ToldFacts.{is_normal, normal_is}
+use Rattle.buffa_recursive.specs.MapTree.{child_pairs, keys_in, pairs_in, values_in}
+use Rattle.buffa_recursive.specs.facts.FixpointFacts.{is_normal, normal_is}
 use Rattle.sample_node.proofs.NodeLaidLemmas.{AreNormalScores, AreNormalShades, members, members_owe, members_sound, node_keys, node_words}
 use Rattle.sample_node.proofs.NodeWrittenLemmas.{child_shorter, records_same, short_encoding}
 use Rattle.sample_node.specs.Branch.{Branch, NodeKept, NodeOwn, Scores, Shades, branch, shade_numbers}

@@ -19,18 +19,18 @@ use Rattle.buffa_map.specs.EnumFacts.{closed_reads_back}
 use Rattle.buffa_map.specs.Enums.{ClosedFits, closed_writing}
 use Rattle.buffa_map.specs.ScalarFacts.{string_reads_back}
 use Rattle.buffa_map.specs.Scalars.{IsText, int32_reading, int32_writing, text_reading, text_writing}
-use Rattle.buffa_fields.specs.MapKeys.{Keys, KeysReadBack, keys_by}
+use Rattle.buffa_recursive.specs.MapKeys.{Keys, KeysReadBack, keys_by}
 use Rattle.buffa_fields.specs.facts.KeptMapFacts.{kept_map_back, kept_pair_again}
 use Rattle.buffa_fields.specs.facts.LevelKindFacts.{entry_numbers, exact_flat, exact_flat_keeping, kept_pair_low}
-use Rattle.buffa_fields.specs.Laying.{Laying}
+use Rattle.buffa_recursive.specs.RecursiveLayout.{Laying}
 use Rattle.buffa_fields.specs.facts.MapFacts.{map_back}
 use Rattle.buffa_fields.specs.MapFields.{entry_records}
 use Rattle.buffa_fields.specs.facts.OrderedFacts.{ascending_put}
 use Rattle.buffa_fields.specs.OrderedMaps.{KeysAscend}
-use Rattle.buffa_fields.specs.Tied.{IsSound}
-use Rattle.buffa_fields.specs.Told.{told}
+use Rattle.buffa_recursive.specs.Layers.{IsSound}
+use Rattle.buffa_recursive.specs.Fixpoint.{told}
 use Rattle.buffa_fields.specs.facts.ValidFacts.{entry_valid}
-use Rattle.buffa_fields.specs.Words.{Words}
+use Rattle.buffa_recursive.specs.InnerMessages.{Words}
 use Rattle.sample_node.specs.Branch.{Branch, Scores, Shades, shade_numbers}
 use Rattle.sample_node.specs.NodeMeaning.{scores_take, shade_reading, shades_take, text_cmp}
 use Rattle.sample_node.specs.contracts.node.NodeLaid.TheImpl.{ghosts}

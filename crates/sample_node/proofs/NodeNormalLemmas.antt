@@ -52,8 +52,8 @@ use Rattle.buffa_fields.specs.Keep.{keep_takes}
 use Rattle.buffa_fields.specs.facts.KeepFacts.{kept_record}
 use Rattle.buffa_fields.specs.KeptMaps.{put_or_keep}
 use Rattle.buffa_fields.specs.MapFields.{stepped}
-use Rattle.buffa_fields.specs.Knots.{KnotList}
-use Rattle.buffa_fields.specs.Pairs.{child_pairs, keys_in, values_in}
+use Rattle.buffa_recursive.specs.MessageTree.{KnotList}
+use Rattle.buffa_recursive.specs.MapTree.{child_pairs, keys_in, values_in}
 use Rattle.sample_node.proofs.NodeBackLemmas.{are_paired, keys_paired, keys_same}
 use Rattle.sample_node.specs.Branch.{Branch, NodeKept, NodeOwn, Scores, Shades, blank_node, branch, shade_numbers}
 use Rattle.sample_node.specs.NodeEncoding.{AreNormalNodes, IsKept, IsNormalNode}

@@ -12,15 +12,15 @@ use Rattle.buffa_wire.specs.Kept.{keep_need}
 use Rattle.buffa_fields.specs.Aside.{kept_among, kept_behind}
 use Rattle.buffa_fields.specs.facts.KeptMapFacts.{kept_pair_behind}
 use Rattle.buffa_fields.specs.Keep.{keep_takes}
-use Rattle.buffa_fields.specs.Knots.{KnotList, head_many, knot}
-use Rattle.buffa_fields.specs.Laying.{whole_takes}
+use Rattle.buffa_recursive.specs.MessageTree.{KnotList, head_many, knot}
+use Rattle.buffa_recursive.specs.RecursiveLayout.{whole_takes}
 use Rattle.buffa_fields.specs.MapFields.{pair_cost}
-use Rattle.buffa_fields.specs.facts.MapKindFacts.{pair_cost_alike, pair_taken_alike}
-use Rattle.buffa_fields.specs.PairShapes.{reading_by}
-use Rattle.buffa_fields.specs.Pairs.{child_pairs, keys_in, pairs_in, values_in}
-use Rattle.buffa_fields.specs.facts.TiedFacts.{costs_alike, merged_alike}
-use Rattle.buffa_fields.specs.Told.{told_layout}
-use Rattle.buffa_fields.specs.facts.ToldFacts.{blank_is, cost_by_is, cost_is, each_is, merged_by_is, merged_is}
+use Rattle.buffa_recursive.specs.facts.MapKindFacts.{pair_cost_alike, pair_taken_alike}
+use Rattle.buffa_recursive.specs.MapShape.{reading_by}
+use Rattle.buffa_recursive.specs.MapTree.{child_pairs, keys_in, pairs_in, values_in}
+use Rattle.buffa_recursive.specs.facts.LayerFacts.{costs_alike, merged_alike}
+use Rattle.buffa_recursive.specs.Fixpoint.{told_layout}
+use Rattle.buffa_recursive.specs.facts.FixpointFacts.{blank_is, cost_by_is, cost_is, each_is, merged_by_is, merged_is}
 use Rattle.sample_node.proofs.NodeLaidLemmas.{members, members_sound, node_words}
 use Rattle.sample_node.specs.Branch.{Branch, NodeKept, NodeOwn, Scores, Shades, blank_node, branch}
 use Rattle.sample_node.specs.NodeMeaning.{LevelCost, LevelMeaning, children_cost, children_take, node_cost, node_field_need, node_field_takes, node_merged, node_reading, scores_cost, scores_take, shade_reading, shades_cost, shades_take}

@@ -12,13 +12,13 @@ use Rattle.buffa_wire.specs.Passes.{cap}
 use Rattle.buffa_wire.specs.Records.{bytes, records_of}
 use Rattle.buffa_map.specs.Enums.{closed_writing}
 use Rattle.buffa_map.specs.Scalars.{int32_writing, text_writing}
-use Rattle.buffa_fields.specs.Knots.{KnotList, Slots, head_many, kid, knot, many, no_kid, no_slot, one}
+use Rattle.buffa_recursive.specs.MessageTree.{KnotList, Slots, head_many, kid, knot, many, no_kid, no_slot, one}
 use Rattle.buffa_fields.specs.facts.MapFacts.{map_encoding}
 use Rattle.buffa_fields.specs.MapFields.{entry_records, map_records}
 use Rattle.buffa_fields.specs.NestedMaps.{pair_levels, pair_records, pair_slots}
-use Rattle.buffa_fields.specs.Pairs.{child_pairs}
-use Rattle.buffa_fields.specs.facts.ToldFacts.{levels_are, records_are, slots_are}
-use Rattle.buffa_fields.specs.Words.{encoding_by}
+use Rattle.buffa_recursive.specs.MapTree.{child_pairs}
+use Rattle.buffa_recursive.specs.facts.FixpointFacts.{levels_are, records_are, slots_are}
+use Rattle.buffa_recursive.specs.InnerMessages.{encoding_by}
 use Rattle.sample_node.proofs.NodeLaidLemmas.{members, members_sound, node_words}
 use Rattle.sample_node.specs.Branch.{Branch, NodeKept, NodeOwn, Scores, Shades}
 use Rattle.sample_node.specs.NodeEncoding.{children_encoding, children_levels, children_slots, kept_levels, node_encoding, node_entry, node_entry_record, node_levels, node_records, node_slots, nodes_encoding, nodes_levels, nodes_records, nodes_slots, shades_encoding}

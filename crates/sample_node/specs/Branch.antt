@@ -4,8 +4,8 @@ use Rattle.std.specs.Prelude.{◌≡◌, ℕ, ℤ, List, [], Option, None, Some,
 use Rattle.std.specs.Ordering.{int_eq}
 use Rattle.buffa_wire.specs.Enums.{Numbers, numbers}
 use Rattle.buffa_wire.specs.Records.{Datum}
-use Rattle.buffa_fields.specs.Knots.{Knot, KnotList, knot, many, no_kid, no_slot}
-use Rattle.buffa_fields.specs.Pairs.{keys_in, values_in}
+use Rattle.buffa_recursive.specs.MessageTree.{Knot, KnotList, knot, many, no_kid, no_slot}
+use Rattle.buffa_recursive.specs.MapTree.{keys_in, values_in}
 use Rattle.sample_node.specs.declared.shade.Shade.{Shade}
 use Rattle.sample_node.specs.declared.shade.Shade.TheVariants.{A, B}
 

@@ -19,7 +19,7 @@ use Rattle.buffa_map.specs.Encoding.{AllHold, entry_encoding, field_encoding, re
 use Rattle.buffa_fields.specs.Aside.{aside_levels}
 use Rattle.buffa_fields.specs.KeptMaps.{IsAsideEntry, aside_entry_levels}
 use Rattle.buffa_fields.specs.MapFields.{map_records}
-use Rattle.buffa_fields.specs.Knots.{KnotList, Slots, head_many, kid, knot, many, no_kid}
+use Rattle.buffa_recursive.specs.MessageTree.{KnotList, Slots, head_many, kid, knot, many, no_kid}
 use Rattle.sample_node.specs.Branch.{Branch, NodeKept, NodeOwn, Scores, Shades, branch, shade_numbers}
 use Rattle.sample_node.specs.NodeMeaning.{shade_reading, text_cmp}
 

@@ -17,8 +17,8 @@ use Rattle.buffa_fields.specs.Keep.{keep_takes}
 use Rattle.buffa_wire.specs.Takes.{Need, Taker, cost_of, merged_of}
 use Rattle.buffa_fields.specs.KeptMaps.{kept_pair_cost, kept_pair_taken}
 use Rattle.buffa_fields.specs.MapFields.{pair_cost, pair_taken}
-use Rattle.buffa_fields.specs.Pairs.{child_pairs, keys_in, values_in}
-use Rattle.buffa_fields.specs.Knots.{head_many, knot}
+use Rattle.buffa_recursive.specs.MapTree.{child_pairs, keys_in, values_in}
+use Rattle.buffa_recursive.specs.MessageTree.{head_many, knot}
 use Rattle.sample_node.specs.Branch.{Branch, NodeKept, Scores, Shades, blank_node, branch, shade_numbers}
 
 -- texts are in the order of their bytes

@@ -22,7 +22,7 @@ ghost use Rattle.buffa_wire.specs.Cache.{Cache};
 ghost use Rattle.buffa_wire.specs.Encoding.{records_encoding};
 ghost use Rattle.buffa_wire.specs.Enums.{numbers};
 ghost use Rattle.buffa_wire.specs.Kept.{keep_need};
-ghost use Rattle.buffa_wire.specs.Message.{IsFieldMerged};
+ghost use Rattle.buffa_wire.specs.Message.{IsFieldMerged, Stands};
 ghost use Rattle.buffa_wire.specs.Parse.{AreValid, Fits};
 ghost use Rattle.buffa_wire.specs.Passes.{IsWritten, cap};
 ghost use Rattle.buffa_wire.specs.RecordReading.{field_at};
@@ -38,9 +38,9 @@ ghost use Rattle.buffa_map.specs.Scalars.{IsText, delimited_writing, int32_readi
 ghost use Rattle.buffa_fields.specs.Aside.{aside_levels};
 ghost use Rattle.buffa_fields.specs.Keep.{keep_takes};
 ghost use Rattle.buffa_fields.specs.KeptMaps.{IsAsideEntry, aside_entry_levels, kept_pair_cost, kept_pair_taken};
-ghost use Rattle.buffa_fields.specs.Knots.{KnotList, Maybe, Slots, head_many, kid, knot, many, no_kid, no_slot, one};
+ghost use Rattle.buffa_recursive.specs.MessageTree.{KnotList, Maybe, Slots, head_many, kid, knot, many, no_kid, no_slot, one};
 ghost use Rattle.buffa_fields.specs.MapFields.{map_records, pair_cost, pair_taken};
-ghost use Rattle.buffa_fields.specs.Pairs.{child_pairs, keys_in, values_in};
+ghost use Rattle.buffa_recursive.specs.MapTree.{child_pairs, keys_in, values_in};
 ghost use Rattle.sample_node.specs.Branch.{Branch, IsNode, NodeOwn, blank_node, branch, node_of, shade_number, shade_numbers};
 ghost use Rattle.sample_node.specs.NodeMeaning.{node_cost, node_field_need, node_field_takes, node_merged};
 ghost use Rattle.sample_node.specs.Refused.{HasEntryFault, IsNodeRefused};
@@ -56,15 +56,15 @@ use std::collections::BTreeMap;
 
 /// Which message a node is: what bytes make of it and cost, its encoding, its slots, which nodes are read back where no
 /// length in them is too large to be read, and how deep their encoding nests. Of these nothing is left out. Of a refused
-/// field its type says at least what `IsNodeRefused` does, where the values are those of structs.
+/// field of a node its type says at least which error `IsNodeRefused` has, and that what stands is that node, if it is a node.
 pub fn node_is_this()
     ensures merged { (⟦<Node as MessageSpec>⟧.merged ≡ node_merged) × (⟦<Node as MessageSpec>⟧.cost ≡ node_cost) }
     ensures encoding { (⟦<Node as MessageSpec>⟧.encoding ≡ node_encoding) × (⟦<Node as MessageSpec>⟧.records ≡ node_records) }
     ensures slots { (⟦<Node as MessageSpec>⟧.slots ≡ node_slots) × (⟦<Node as MessageSpec>⟧.COST ≡ 96) }
     ensures levels { ⟦<Node as MessageSpec>⟧.levels ≡ node_levels }
     ensures normal { (v : Branch) → Fits (records_of (node_records v)) → ⟦<Node as MessageSpec>⟧.normal v ↔ IsNormalNode v }
-    ensures refused { (d : ℕ) (v : Branch) (n : ℕ) (w : _) (bs : List ℕ) (l : _) (e : _) (u : Branch) → IsNode v → IsNode u →
-        ⟦<Node as MessageSpec>⟧.Refused d v n w bs l e u → IsNodeRefused d v n w bs l e u }
+    ensures refused { (d : ℕ) (v : Branch) (n : ℕ) (w : _) (bs : List ℕ) (l : _) (e : _) (u : Branch) → IsNode v →
+        ⟦<Node as MessageSpec>⟧.Refused d v n w bs l e u → IsNodeRefused d v n w bs l e v × (IsNode u → u ≡ v) }
     ensures blank { ⟦<Node as Blank>⟧.blank_is ≡ blank_node }
     ensures meaning { (v : Branch) → ⟦<Node as Blank>⟧.meaning v ≡ v }
 {}
@@ -74,6 +74,17 @@ pub fn nodes_stay_normal()
     ensures merged { (d : ℕ) (v u : Branch) (bs : List ℕ) → AllByRecursion IsByte bs → IsNormalNode v →
         node_merged d v bs ≡ Some u → IsNormalNode u }
     ensures blank { IsNormalNode ⟦<Node as Blank>⟧.blank_is }
+{}
+
+/// What bytes make of a node is one, as the value of each struct is (`nodes_hold_these`). So after a refused merge a node is what the
+/// fields before the refused one make of its old value.
+pub fn merged_nodes_are_nodes()
+    ensures merged { (d : ℕ) (v u : Branch) (bs : List ℕ) → IsNode v → node_merged d v bs ≡ Some u → IsNode u }
+    ensures blank { IsNode ⟦<Node as Blank>⟧.blank_is }
+    ensures stands { (d : ℕ) (v u : Branch) (bs : List ℕ) (before : BudgetLeft) (e : DecodeError) → IsNode v → IsNode u →
+        Stands ⟦<Node as MessageSpec>⟧.merged ⟦<Node as MessageSpec>⟧.cost ⟦<Node as MessageSpec>⟧.Refused d v bs before e u →
+        (front : List ℕ) × (rest : List ℕ) × (bs ≡ front ++ rest) × (node_merged d v front ≡ Some u)
+        × Stands node_merged node_cost IsNodeRefused d v bs before e u }
 {}
 
 /// How deep a node nests is exactly so deep: at no lesser depth are its encoding's bytes merged, into whatever node, so that it

@@ -12,18 +12,18 @@ ghost use Rattle.sample_node.specs.Refused.{IsNodeRefused};
 ghost use Rattle.sample_node.specs.Stops.{Stops};
 
 use crate::shade::Shade;
-use buffa_fields::inside_maps::take_map;
 use buffa_fields::keeping::Keeping;
 use buffa_fields::kept;
-use buffa_fields::keyed::{ByKey, Keyed};
-use buffa_fields::laid::Laid;
 use buffa_fields::member::Member;
 use buffa_fields::ordered_map::OrderedMapOf;
-use buffa_fields::self_fields::SelfFields;
-use buffa_fields::self_listing::{SelfListed, SelfListing};
-use buffa_fields::self_merger::SelfMerger;
-use buffa_fields::self_visitor::SelfVisitor;
 use buffa_map::map_codec::{ClosedEnum, Int32, Str};
+use buffa_recursive::fields::SelfFields;
+use buffa_recursive::keyed::{ByKey, Keyed};
+use buffa_recursive::layout::Laid;
+use buffa_recursive::listing::{SelfListed, SelfListing};
+use buffa_recursive::maps::take_map;
+use buffa_recursive::merger::SelfMerger;
+use buffa_recursive::visitor::SelfVisitor;
 use buffa_wire::{
     Blank, Budget, Buf, DecodeContext, DecodeError, EncodeError, EncodeSink, Formed, Message,
     SizeCache, Tag, UnknownFields, WireType,
@@ -56,8 +56,8 @@ impl Model for Node {
     ghost use Rattle.std.proofs.Common.{arith};
     ghost use Rattle.buffa_wire.specs.Code.{coded_datum};
     ghost use Rattle.buffa_map.specs.Pairs.{means};
-    ghost use Rattle.buffa_fields.specs.Knots.{coded_knot, knot_height};
-    ghost use Rattle.buffa_fields.specs.Pairs.{most-of_map};
+    ghost use Rattle.buffa_recursive.specs.MessageTree.{coded_knot, knot_height};
+    ghost use Rattle.buffa_recursive.specs.MapTree.{most-of_map};
     ghost use Rattle.sample_node.specs.Branch.{Branch, node_of, shade_number};
 
     ghost Value = { Branch };
@@ -74,7 +74,7 @@ impl Model for Node {
 }
 
 impl Laid for Node {
-    ghost use Rattle.buffa_fields.specs.Open.{keeps, knotted, map_inside, member, member_kept};
+    ghost use Rattle.buffa_recursive.specs.MemberList.{keeps, knotted, map_inside, member, member_kept};
 
     const COST: usize = 96;
 

@@ -4,9 +4,9 @@ ghost use Rattle.std.specs.Prelude.{◌↔◌, IfErr, IsOk};
 ghost use Rattle.sample_options.specs.Rules.{BreaksLength, BreaksRange, FitsLength, IsInRange};
 
 use crate::rules::Rules;
-use buffa::map_codec::{Int32, Int64, Sint32, Sint64, Uint32, Uint64};
-use buffa::{Scalar, UnknownFieldData, UnknownFields};
 use buffa_descriptor::{FieldDescriptorProto, FieldDescriptorProtoLabel, FieldDescriptorProtoType};
+use buffa_fields::map_codec::{Int32, Int64, Sint32, Sint64, Uint32, Uint64};
+use buffa_fields::{Scalar, UnknownFieldData, UnknownFields};
 use std::alloc::{AllocError, Global};
 
 /// Why a message doesn't keep the rules of a field.

@@ -16,8 +16,8 @@ mod rules;
 mod tests;
 
 use anyhow::{Error, anyhow};
-use buffa::{Blank, Message, UnknownFields};
 use buffa_descriptor::{DescriptorProto, FileDescriptorSet};
+use buffa_fields::{Blank, Message, UnknownFields};
 use find::message_type;
 use judge::judge;
 use lines::{fault_line, field_line};

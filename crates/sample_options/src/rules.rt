@@ -1,9 +1,9 @@
 //! The rules that the options of a field set.
 
-use buffa::DecodeError;
-use buffa::extension::codecs::{Bool, Sint64, Uint32};
-use buffa::extension::{Extension, ExtensionSet, StrictCodec};
 use buffa_descriptor::{FieldDescriptorProto, FieldOptions};
+use buffa_ext::codecs::{Bool, Sint64, Uint32};
+use buffa_ext::{Extension, ExtensionSet, StrictCodec};
+use buffa_fields::DecodeError;
 use std::alloc::Global;
 
 /// What a value of a field may be.

@@ -2,8 +2,8 @@
 
 use crate::judge::{Fault, judge};
 use crate::rules::read_rules;
-use buffa::{Blank, DecodeError, Message, UnknownFields};
 use buffa_descriptor::{FieldDescriptorProto, FieldDescriptorProtoType, FieldOptions};
+use buffa_fields::{Blank, DecodeError, Message, UnknownFields};
 use std::alloc::Global;
 use std::test::Fail;
 

@@ -1,16 +1,19 @@
 //! buffa.sample.Outline, made of outline.proto by protoc-gen-buffa.
 
 ghost use Rattle.std.proofs.Common.{lit<, refl};
-ghost use Rattle.buffa.specs.Knots.{keeps, knotted, list_inside, map_inside, member, member_kept, member_one_of, one_inside};
+ghost use Rattle.buffa_recursive.specs.Terms.{keeps, knotted, list_inside, map_inside, member, member_kept, member_one_of, one_inside};
 
 use crate::outline_mark::OutlineMark;
 use crate::outline_source::OutlineSource;
-use buffa::fields::{
-    ByKey, Formed, Keeping, Keyed, Laid, MapOf, Member, OneOf, Optional, SelfFields, SelfListed,
-    SelfListing, SelfMerger, SelfVisitor, kept, take_list, take_map, take_one, take_one_of,
+use buffa_fields::map_codec::{ClosedEnum, Int32, Map, Str};
+use buffa_fields::{
+    Blank, DecodeContext, DecodeError, Formed, Keeping, MapOf, Member, OneOf, Optional, Tag,
+    UnknownFields, kept,
 };
-use buffa::map_codec::{ClosedEnum, Int32, Map, Str};
-use buffa::{Blank, DecodeContext, DecodeError, Tag, UnknownFields};
+use buffa_recursive::{
+    ByKey, Keyed, Laid, SelfFields, SelfListed, SelfListing, SelfMerger, SelfVisitor, take_list,
+    take_map, take_one, take_one_of,
+};
 use std::alloc::Global;
 use std::collections::BTreeMap;
 use std::marker::Model;
@@ -52,7 +55,8 @@ impl Model for Outline {
     ghost use Rattle.std.specs.Option.{option_map};
     ghost use Rattle.std.specs.Prelude.{List, Option, ℕ, ℤ};
     ghost use Rattle.std.proofs.Common.{arith};
-    ghost use Rattle.buffa.specs.Knots.{CaseMeaningOf, Datum, Knot, coded_datum, coded_knot, coded_or, has, has_case, has_kept, has_list, has_map, has_one, knot_height, knot_of, most-of_list, most-of_map};
+    ghost use Rattle.buffa_fields.specs.Terms.{Datum, coded_datum, coded_or};
+    ghost use Rattle.buffa_recursive.specs.Terms.{CaseMeaningOf, Knot, coded_knot, has, has_case, has_kept, has_list, has_map, has_one, knot_height, knot_of, most-of_list, most-of_map};
 
     ghost Value = { Knot (
         Option (List ℕ) × (

@@ -1,12 +1,15 @@
 //! The oneof buffa.sample.Outline.source, made of outline.proto by protoc-gen-buffa.
 
-ghost use Rattle.buffa.specs.Members.{Other, This, case, enum_of, no_case};
+ghost use Rattle.buffa_fields.specs.Terms.{case, enum_of, no_case};
+ghost use Rattle.buffa_fields.specs.declared.meaning.Or.TheVariants.{Other, This};
 ghost use Rattle.sample_outline.specs.declared.outline_source.OutlineSource.TheVariants.{Book, Page, Spot as SpotCase};
 
 use crate::spot::Spot;
-use buffa::fields::{Case, Nested, OneOf, Optional, Or, Set, Visitor, case_reads_back};
-use buffa::map_codec::{Int32, Str};
-use buffa::{Blank, DecodeContext, DecodeError, Tag};
+use buffa_fields::map_codec::{Int32, Str};
+use buffa_fields::{
+    Blank, Case, DecodeContext, DecodeError, Nested, OneOf, Optional, Or, Set, Tag, Visitor,
+    case_reads_back,
+};
 use std::alloc::Global;
 use std::string::String;
 

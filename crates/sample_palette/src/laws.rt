@@ -4,7 +4,7 @@ ghost use Rattle.std.specs.Prelude.{◌≡◌, ℤ, None, Some, if◌then◌else
 ghost use Rattle.std.specs.Ordering.{int_eq};
 
 use crate::shade::Shade;
-use buffa::{Blank, Enumeration};
+use buffa_fields::{Blank, Enumeration};
 
 /// The numbers of `Shade`: 0 and 1, and no other; the default is 0. Nothing is left out.
 pub fn shades_are_these()

@@ -1,16 +1,16 @@
 //! buffa.sample.Palette, made of palette.proto by protoc-gen-buffa.
 
 ghost use Rattle.std.proofs.Common.{lit<, refl};
-ghost use Rattle.buffa.specs.Members.{field, field_kept, keep};
+ghost use Rattle.buffa_fields.specs.Terms.{field, field_kept, keep};
 
 use crate::shade::Shade;
 use crate::swatch::Swatch;
-use buffa::fields::{
-    And, And9, Fields, Formed, Group, Keeping, KeptFields, Listed, Listing, MapOf, Member, Nested,
-    Optional, OrderedMapOf, Packed, Plain, Repeated, Visitor, kept,
+use buffa_fields::map_codec::{ClosedEnum, Int32, Map};
+use buffa_fields::{
+    And, And9, Blank, DecodeContext, DecodeError, Fields, Formed, Group, Keeping, KeptFields,
+    Listed, Listing, MapOf, Member, Nested, Optional, OrderedMapOf, Packed, Plain, Repeated, Tag,
+    UnknownFields, Visitor, kept,
 };
-use buffa::map_codec::{ClosedEnum, Int32, Map};
-use buffa::{Blank, DecodeContext, DecodeError, Tag, UnknownFields};
 use std::alloc::Global;
 use std::collections::BTreeMap;
 

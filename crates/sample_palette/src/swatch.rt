@@ -1,15 +1,14 @@
 //! buffa.sample.Swatch, made of palette.proto by protoc-gen-buffa.
 
 ghost use Rattle.std.proofs.Common.{lit<, refl};
-ghost use Rattle.buffa.specs.Members.{field_kept, keep};
+ghost use Rattle.buffa_fields.specs.Terms.{field_kept, keep};
 
 use crate::shade::Shade;
-use buffa::fields::{
-    And3, Fields, Formed, Keeping, KeptFields, Listed, Listing, Member, Optional, Repeated,
-    Visitor, kept,
+use buffa_fields::map_codec::ClosedEnum;
+use buffa_fields::{
+    And3, Blank, DecodeContext, DecodeError, Fields, Formed, Keeping, KeptFields, Listed, Listing,
+    Member, Optional, Repeated, Tag, UnknownFields, Visitor, kept,
 };
-use buffa::map_codec::ClosedEnum;
-use buffa::{Blank, DecodeContext, DecodeError, Tag, UnknownFields};
 use std::alloc::Global;
 
 /// A swatch: a message inside another, or a group, which passes on what it doesn't understand itself.

@@ -1,12 +1,15 @@
 //! The oneof buffa.sample.Payment.method, made of payment.proto by protoc-gen-buffa.
 
-ghost use Rattle.buffa.specs.Members.{Other, This, case, enum_of, no_case};
+ghost use Rattle.buffa_fields.specs.Terms.{case, enum_of, no_case};
+ghost use Rattle.buffa_fields.specs.declared.meaning.Or.TheVariants.{Other, This};
 ghost use Rattle.sample_payment.specs.declared.method.Method.TheVariants.{Card, Cash, Transfer as TransferCase};
 
 use crate::transfer::Transfer;
-use buffa::fields::{Case, Nested, OneOf, Optional, Or, Set, Visitor, case_reads_back};
-use buffa::map_codec::{Int32, Str};
-use buffa::{Blank, DecodeContext, DecodeError, Tag};
+use buffa_fields::map_codec::{Int32, Str};
+use buffa_fields::{
+    Blank, Case, DecodeContext, DecodeError, Nested, OneOf, Optional, Or, Set, Tag, Visitor,
+    case_reads_back,
+};
 use std::alloc::Global;
 use std::string::String;
 

@@ -1,15 +1,14 @@
 //! buffa.sample.Payment, made of payment.proto by protoc-gen-buffa.
 
 ghost use Rattle.std.proofs.Common.{lit<, refl};
-ghost use Rattle.buffa.specs.Members.{field, keep, one_of};
+ghost use Rattle.buffa_fields.specs.Terms.{field, keep, one_of};
 
 use crate::method::Method;
-use buffa::fields::{
-    And4, Fields, Formed, KeptFields, Listed, Listing, Member, OneOf, Plain, Visitor, kept,
-    visit_one_of,
+use buffa_fields::map_codec::{Int32, Str};
+use buffa_fields::{
+    And4, Blank, DecodeContext, DecodeError, Fields, Formed, KeptFields, Listed, Listing, Member,
+    OneOf, Plain, Tag, UnknownFields, Visitor, kept, visit_one_of,
 };
-use buffa::map_codec::{Int32, Str};
-use buffa::{Blank, DecodeContext, DecodeError, Tag, UnknownFields};
 use std::alloc::Global;
 use std::string::String;
 

@@ -1,10 +1,10 @@
 //! A message through its encoding and back, whatever its type.
 
 ghost use Rattle.std.specs.Prelude.{◌≡◌, ◌≤◌, IfOk};
-ghost use Rattle.buffa.specs.Wire.{Fits, records_of};
+ghost use Rattle.buffa_fields.specs.Terms.{Fits, records_of};
 
 use anyhow::Error;
-use buffa::{Message, RECURSION_LIMIT};
+use buffa_fields::{Message, RECURSION_LIMIT};
 use std::alloc::Global;
 
 /// A copy of a message, made by its encoding: it is normal, its lengths are below 2^64, and it nests no more than 100 levels deep.

@@ -1,11 +1,12 @@
 //! A map field without a message type: `map<string, int32> counts = 5`, read and written by itself.
 
 ghost use Rattle.std.specs.Prelude.{◌≡◌, IfOk, string_bytes, vec_items};
-ghost use Rattle.buffa.specs.MapFields.{field_encoding, field_size, means, saturated};
-ghost use Rattle.buffa.specs.Wire.{Gives, varint_at};
+ghost use Rattle.buffa_fields.specs.Terms.{Gives, field_encoding, field_size, means, saturated, varint_at};
 
-use buffa::map_codec::{Int32, Map, MapCodec, Str, field_len, read_map_field, write_field};
-use buffa::{Budget, DecodeContext, DecodeError, EncodeError, RECURSION_LIMIT, decode_varint};
+use buffa_fields::map_codec::{Int32, Map, MapCodec, Str, field_len, read_map_field, write_field};
+use buffa_fields::{
+    Budget, DecodeContext, DecodeError, EncodeError, RECURSION_LIMIT, decode_varint,
+};
 use std::alloc::Global;
 use std::collections::BTreeMap;
 

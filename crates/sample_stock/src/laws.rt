@@ -3,9 +3,8 @@
 ghost use Rattle.std.specs.Prelude.{◌≡◌, ◌++◌};
 
 use crate::messages::stock::Stock;
-use buffa::MessageSpec;
-use buffa::fields::{MapOf, Member, Plain};
-use buffa::map_codec::{Int32, Str};
+use buffa_fields::map_codec::{Int32, Str};
+use buffa_fields::{MapOf, Member, MessageSpec, Plain};
 
 /// Under which numbers the members of a stock are written, and in which order; what is kept comes last. Nothing is left out.
 pub fn stocks_are_written_so()

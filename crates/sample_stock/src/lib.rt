@@ -1,5 +1,5 @@
-//! The tasks of docs/GUIDE.md, over `buffa` alone, as a user writes them: a file a task. `messages.rt` and the files in
-//! `messages/` are what `tools/protoc-gen-buffa` made of `stock.proto`. No crate depends on this one.
+//! The tasks of docs/GUIDE.md, as a user writes them: a file a task. `messages.rt` and the files in `messages/` are
+//! what `tools/protoc-gen-buffa` made of `stock.proto`. No crate of the product depends on this one.
 #![tactic(auto)]
 
 pub mod again;

@@ -1,7 +1,7 @@
 //! Limits for bytes that aren't trusted.
 
 use crate::messages::stock::Stock;
-use buffa::{Blank, Budget, DecodeContext, DecodeError, Message};
+use buffa_fields::{Blank, Budget, DecodeContext, DecodeError, Message};
 use std::alloc::Global;
 
 /// Reads a stock under limits: at most 20 levels deep, 1,000 unknown fields, and 1,000,000 units of element memory.

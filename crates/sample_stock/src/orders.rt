@@ -3,8 +3,8 @@
 use crate::messages::line::Line;
 use crate::messages::order::Order;
 use crate::messages::state::State;
-use buffa::map_codec::{MapStorage, MapWalk};
-use buffa::{Blank, EnumValue};
+use buffa_fields::map_codec::{MapStorage, MapWalk};
+use buffa_fields::{Blank, EnumValue};
 use std::alloc::{AllocError, Global};
 
 /// Whether an order is sent; a number that the enum doesn't declare isn't.

@@ -1,7 +1,7 @@
 //! A message that holds itself, gone through by functions that call themselves.
 
 use crate::messages::place::Place;
-use buffa::Blank;
+use buffa_fields::Blank;
 use std::alloc::{AllocError, Global};
 
 /// A place of this name, in which no place is yet.

@@ -1,10 +1,10 @@
 //! A MessageSet: its Items are extensions.
 
 use crate::messages::stock::Stock;
-use buffa::extension::codecs::MessageCodec;
-use buffa::extension::{Extension, ExtensionSet};
-use buffa::samples::SetMsg;
-use buffa::{Blank, DecodeError, EncodeError, Message};
+use buffa_ext::codecs::MessageCodec;
+use buffa_ext::{Extension, ExtensionSet};
+use buffa_fields::{Blank, DecodeError, EncodeError, Message};
+use sample_set_msg::SetMsg;
 use std::alloc::Global;
 
 /// The stock in the Item of type id 1000, where the set has one.

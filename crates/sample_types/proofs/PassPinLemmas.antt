@@ -10,8 +10,8 @@ use Rattle.buffa_map.specs.Merge.{ReadsRun, state}
 use Rattle.buffa_map.specs.Pairs.{SamePairs}
 use Rattle.buffa_map.specs.declared.rewrite.RewriteError.{RewriteError}
 use Rattle.buffa_map.specs.declared.rewrite.RewriteError.TheVariants as rewriting
-use Rattle.buffa_map.proofs.PinLemmas.{run_is_pinned}
-use Rattle.buffa_map.proofs.PinEncodingLemmas.{rewrite_is_pinned}
+use Rattle.buffa_map_laws.proofs.PinLemmas.{run_is_pinned}
+use Rattle.buffa_map_laws.proofs.PinEncodingLemmas.{rewrite_is_pinned}
 use Rattle.sample_types.specs.Passed.{IsRewrittenByOlder, NotRewritten, Proxy}
 use Rattle.sample_types.specs.Pinned.{IsFullRewrite, PassIsPinned}
 

@@ -8,7 +8,7 @@ use Rattle.buffa_map.specs.Codec.{Reading, Writing}
 use Rattle.buffa_map.specs.Entry.{EntryFault}
 use Rattle.buffa_map.specs.EntryReading.{need_of}
 use Rattle.buffa_map.specs.Enums.{closed_writing}
-use Rattle.buffa_map.specs.Laws.{OneReading}
+use Rattle.buffa_map_laws.specs.Laws.{OneReading}
 use Rattle.buffa_map.specs.Merge.{ReadsRun, State, RefusesRun, state}
 use Rattle.buffa_map.proofs.ReaderRules.{keeping}
 use Rattle.buffa_map.specs.Rewrite.{MatchRefusal, RefusesDecoding, RefusesEncoding, RewritesRun}
@@ -128,7 +128,7 @@ module _ {K : Type 0} (rk : Reading K) (rv : Reading ℤ) (eq : K → K → Bool
   pub stop_is_shortage : (d : ℕ) (left : BudgetLeft) (out : List ℕ) (gs : List (EntryRecord K ℤ)) → ((e : List ℕ) → need_of rk rv d cost e ≡ units cost) → OneReading rk rv → Run rk rv d n out gs →
       RefusesRun (keeping rk rv eq keeps d n cost) (state pairs records left) out new unread f → IsShortage f
   stop_is_shortage d left out gs plain one run h =
-      is_shortage f (λ no. stop_is_limit rk rv d n cost 1 plain one left h.now.left out h.rest gs h.read.entries f run (h.front, h.split, h.read.run, h.read.paid) h.some
+      is_shortage f (λ no. stop_is_limit rk rv d n cost 1 plain one left h.between.left out h.rest gs h.read.entries f run (h.front, h.split, h.read.run, h.read.paid) h.some
       (broken (keeping rk rv eq keeps d n cost) (state pairs records left) out new unread f h no))
 
 -- the same reading of the whole, by the names of the clause

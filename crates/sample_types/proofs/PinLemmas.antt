@@ -14,7 +14,7 @@ use Rattle.sample_types.specs.Pinned.{IsFull, TripIsPinned}
 use Rattle.sample_types.specs.RoundTrip.{RefusesPairs}
 use Rattle.sample_types.specs.declared.round_trip.TripFault.{TripFault}
 use Rattle.sample_types.specs.declared.round_trip.TripFault.TheVariants.{Decode, Encode}
-use Rattle.buffa_map.proofs.PinEncodingLemmas.{IsShort, all_short, short_in}
+use Rattle.buffa_map_laws.proofs.PinEncodingLemmas.{IsShort, all_short, short_in}
 
 module _ {K V : Type 0} (key : Writing K) (val : Writing V) where
   -- what has an encoding has no entry that is too long, in whatever order

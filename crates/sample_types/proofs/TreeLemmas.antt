@@ -23,17 +23,17 @@ use Rattle.buffa_map.specs.Pairs.{means}
 use Rattle.buffa_map.specs.Scalars.{int32_reading, int32_writing}
 use Rattle.buffa_map.specs.declared.map_entry.MapEntry.{MapEntry}
 use Rattle.buffa_fields.specs.Entries.{entry_cost, entry_taken, whole_entry_in}
-use Rattle.buffa_fields.specs.Knots.{KnotList, kid, knot, many, no_slot}
-use Rattle.buffa_fields.specs.Laying.{Laying, whole_takes}
+use Rattle.buffa_recursive.specs.MessageTree.{KnotList, kid, knot, many, no_slot}
+use Rattle.buffa_recursive.specs.RecursiveLayout.{Laying, whole_takes}
 use Rattle.buffa_fields.specs.MapFields.{pair_taken, stepped}
 use Rattle.buffa_fields.specs.NestedMaps.{pair_levels, pair_records, pair_slots}
-use Rattle.buffa_fields.specs.PairShapes.{reading_by}
-use Rattle.buffa_fields.specs.Pairs.{child_pairs, keys_in, pairs_again, pairs_in, values_in}
-use Rattle.buffa_fields.specs.facts.TiedFacts.{costs_alike}
-use Rattle.buffa_fields.specs.Told.{told}
-use Rattle.buffa_fields.specs.facts.ToldFacts.{blank_is, cost_by_is, each_is, levels_are, merged_by_is, records_are, slots_are}
+use Rattle.buffa_recursive.specs.MapShape.{reading_by}
+use Rattle.buffa_recursive.specs.MapTree.{child_pairs, keys_in, pairs_again, pairs_in, values_in}
+use Rattle.buffa_recursive.specs.facts.LayerFacts.{costs_alike}
+use Rattle.buffa_recursive.specs.Fixpoint.{told}
+use Rattle.buffa_recursive.specs.facts.FixpointFacts.{blank_is, cost_by_is, each_is, levels_are, merged_by_is, records_are, slots_are}
 use Rattle.buffa_fields.specs.Values.{all_of, value_taken}
-use Rattle.buffa_fields.specs.Words.{Words, encoding_by}
+use Rattle.buffa_recursive.specs.InnerMessages.{Words, encoding_by}
 use Rattle.sample_types.proofs.AlikeLemmas.{merged_as_told}
 use Rattle.sample_types.proofs.NumberLemmas.{plain_is}
 use Rattle.sample_types.specs.Trees.{Children, Grown, Own, child_entry, child_reading, entry_by, tree_entry_in, grown, label_in, row, tree_levels, tree_need, tree_records, tree_slots, tree_takes, whole_of}

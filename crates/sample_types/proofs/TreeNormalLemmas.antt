@@ -38,9 +38,9 @@ use Rattle.buffa_map.specs.Scalars.{int32_reading}
 use Rattle.buffa_map.specs.declared.map_entry.MapEntry.{MapEntry}
 use Rattle.buffa_fields.specs.Nested.{FitsInside}
 use Rattle.buffa_fields.specs.OrderedMaps.{KeysAscend}
-use Rattle.buffa_fields.specs.Pairs.{child_pairs, pairs_again, pairs_in}
-use Rattle.buffa_fields.specs.facts.ToldFacts.{is_normal, normal_is}
-use Rattle.buffa_fields.specs.Words.{encoding_by}
+use Rattle.buffa_recursive.specs.MapTree.{child_pairs, pairs_again, pairs_in}
+use Rattle.buffa_recursive.specs.facts.FixpointFacts.{is_normal, normal_is}
+use Rattle.buffa_recursive.specs.InnerMessages.{encoding_by}
 use Rattle.sample_types.proofs.TreeLemmas.{Meant, grown_of, into_is, meant_by, out_is, tree_laying, tree_merged_is, tree_records_are, tree_words}
 use Rattle.sample_types.specs.FieldsFacts.{Keeps, merged_keeps}
 use Rattle.sample_types.specs.Fields.{value_records}

@@ -33,18 +33,18 @@ use Rattle.buffa_map.specs.Scalars.{int32_reading}
 use Rattle.buffa_fields.proofs.EntriesLemmas.{entry_wire_err}
 use Rattle.buffa_fields.proofs.InsideLemmas.{alone_is, no_payload}
 use Rattle.buffa_fields.proofs.ValueLemmas.{value_err, wire_err}
-use Rattle.buffa_fields.specs.Apart.{taken_apart}
-use Rattle.buffa_fields.specs.facts.ApartFacts.{apart_taken}
+use Rattle.buffa_recursive.specs.TakenThrough.{taken_apart}
+use Rattle.buffa_recursive.specs.facts.TakenThroughFacts.{apart_taken}
 use Rattle.buffa_fields.specs.Entries.{entry_cost, entry_taken}
-use Rattle.buffa_fields.specs.Knots.{KnotList}
+use Rattle.buffa_recursive.specs.MessageTree.{KnotList}
 use Rattle.buffa_fields.specs.Layout.{Choice, Layout, Passed, Took}
 use Rattle.buffa_fields.specs.facts.LayoutFacts.{choose}
 use Rattle.buffa_fields.specs.MapFields.{PairTakesMemory, pair_cost, pair_taken, stepped}
-use Rattle.buffa_fields.specs.PairShapes.{reading_by}
-use Rattle.buffa_fields.specs.Pairs.{child_pairs, pairs_in}
+use Rattle.buffa_recursive.specs.MapShape.{reading_by}
+use Rattle.buffa_recursive.specs.MapTree.{child_pairs, pairs_in}
 use Rattle.buffa_fields.specs.Refusals.{RefusesPair}
-use Rattle.buffa_fields.specs.SelfRefused.{IsSelfRefused}
-use Rattle.buffa_fields.specs.facts.ToldFacts.{each_is}
+use Rattle.buffa_recursive.specs.RefusedFields.{IsSelfRefused}
+use Rattle.buffa_recursive.specs.facts.FixpointFacts.{each_is}
 use Rattle.buffa_fields.specs.Values.{RefusesAlone, ValueTakesMemory, field_value_at, free, value_taken}
 use Rattle.sample_types.proofs.NumberLemmas.{member_read}
 use Rattle.sample_types.proofs.TreeLemmas.{Meant, children_again, inside, keys_same, reading_is, rows_same, tree_laying, tree_words}

@@ -15,7 +15,7 @@ use Rattle.buffa_map.proofs.ReaderRules.{dropping}
 use Rattle.buffa_map.specs.Run.{ArePaid, RecordFault, Run, RunFault, EntryRecord, fold_entries, cost_inside}
 use Rattle.buffa_map.specs.Encoding.{RefusesField, field_encoding}
 use Rattle.buffa_map.specs.Pairs.{InOrder, SamePairs}
-use Rattle.buffa_map.specs.Laws.{FieldReadsBack, OneReading}
+use Rattle.buffa_map_laws.specs.Laws.{FieldReadsBack, OneReading}
 use Rattle.sample_types.specs.RoundTrip.{RefusesPairs}
 use Rattle.sample_types.specs.declared.round_trip.TripFault.TheVariants.{Encode}
 

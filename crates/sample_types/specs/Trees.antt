@@ -26,7 +26,7 @@ use Rattle.buffa_map.specs.EntryReading.{entry_of, need_of}
 use Rattle.buffa_map.specs.Message.{message_reading}
 use Rattle.buffa_map.specs.Scalars.{delimited_writing, int32_reading, int32_writing}
 use Rattle.buffa_map.specs.declared.map_entry.MapEntry.{MapEntry}
-use Rattle.buffa_fields.specs.Knots.{Knot, KnotList, kid, knot, many, no_kid, no_slot}
+use Rattle.buffa_recursive.specs.MessageTree.{Knot, KnotList, kid, knot, many, no_kid, no_slot}
 use Rattle.sample_types.specs.Fields.{int32_field, value_records}
 
 -- a tree has of its own a label, and the keys of its children

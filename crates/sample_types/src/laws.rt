@@ -41,7 +41,7 @@ pub use crate::word_laws::{
 };
 use buffa_fields::fields::Fields;
 use buffa_fields::message::members_read_back;
-use buffa_fields::self_laws;
+use buffa_fields_laws::recursive_messages;
 use buffa_map::map_codec::{MapCodec, MapStorage};
 use buffa_wire::{Blank, Enumeration, MapKey, MessageSpec, ProtoString};
 use std::collections::BTreeMap;
@@ -75,7 +75,7 @@ pub fn trees_are_these(tree: &Tree)
     ensures blank { ⟦<Tree as Blank>⟧.blank_is ≡ grown (pos 0) [] }
     ensures costs { ⟦<Tree as MessageSpec>⟧.COST ≡ 32 }
 {
-    self_laws::members_read_back(tree);
+    recursive_messages::members_read_back(tree);
 }
 
 /// What bytes make of a normal tree is normal, where its records fit, and so is the blank one. And what holds of each tree
@@ -91,7 +91,7 @@ pub fn trees_stay_normal(tree: &Tree)
         (m : ℤ) × (fs : Children) × (u ≡ grown m fs) × IsTreeOf (λ t. p t ≡ true) m fs }
     ensures blank { ⟦<Tree as MessageSpec>⟧.normal ⟦<Tree as Blank>⟧.blank_is }
 {
-    self_laws::members_read_back(tree);
+    recursive_messages::members_read_back(tree);
 }
 
 /// What bytes make of a normal message that keeps its fields is normal, and so is the blank one: the numbers that are read may
@@ -175,7 +175,7 @@ pub fn levels_are_exact()
         ⟦<BudgetMsg as MessageSpec>⟧.normal rs → d < ⟦<BudgetMsg as MessageSpec>⟧.levels rs →
         ⟦<BudgetMsg as MessageSpec>⟧.merged d [] (⟦<BudgetMsg as MessageSpec>⟧.encoding rs) ≡ None }
 {
-    self_laws::levels_are_exact::<Tree>();
+    recursive_messages::levels_are_exact::<Tree>();
 }
 
 /// Which values of each sample are read back from their encoding, and how deep it nests; of trees `trees_are_these` says it. Nothing

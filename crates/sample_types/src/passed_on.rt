@@ -6,11 +6,11 @@ ghost use Rattle.buffa_bytes.specs.Number.{IsNumber};
 ghost use Rattle.buffa_map.specs.Merge.{capacity_of};
 ghost use Rattle.sample_types.specs.Passed.{IfRefused, IfUnread, IsRun, KeepsRun, MeansRun, NotRewritten, Proxy, ReadsRewrite, Stopped, proxy};
 
-use buffa_map::laws::{
-    newer_enums_take_it_too, one_reading, plain_entries_need_units, rewrite_means,
-};
 use buffa_map::map_codec::{
     ClosedEnum, MapCodec, MapStorage, MapWrite, RewriteError, read_map_field, rewrite_map_field,
+};
+use buffa_map_laws::map_fields::{
+    newer_enums_take_it_too, one_reading, plain_entries_need_units, rewrite_means,
 };
 use buffa_wire::{
     Blank, Budget, DEFAULT_ELEMENT_MEMORY_LIMIT, DEFAULT_UNKNOWN_FIELD_LIMIT, DecodeContext,

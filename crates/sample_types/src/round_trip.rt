@@ -10,11 +10,11 @@ ghost use Rattle.sample_types.specs.RoundTrip.{FitsTrip, IfUnwritten, RefusesTri
 ghost use Rattle.buffa_map.specs.Scalars.{text_writing};
 
 use crate::word::Word;
-use buffa_map::laws::{one_reading, plain_entries_need_units, written_is_read};
 use buffa_map::map_codec::{
     Bool, MapCodec, MapStorage, MapValueDecode, MapWalk, ProtoStringMap, read_map_field,
     write_field,
 };
+use buffa_map_laws::map_fields::{one_reading, plain_entries_need_units, written_is_read};
 use buffa_wire::{Budget, DEFAULT_ELEMENT_MEMORY_LIMIT, DecodeContext, DecodeError, EncodeError};
 use std::alloc::Global;
 use std::collections::HashMap;

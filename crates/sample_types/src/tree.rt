@@ -6,19 +6,19 @@ ghost use Rattle.std.proofs.Common.{lit<, refl};
 ghost use Rattle.buffa_bytes.specs.Front.{FullOnlyIf};
 ghost use Rattle.buffa_wire.specs.Message.{BeginsField, IsMerged, Stands};
 ghost use Rattle.buffa_wire.specs.Passes.{IsNext, IsSized, IsWritten};
-ghost use Rattle.buffa_fields.specs.Open.{knotted, map_inside, member, skips};
+ghost use Rattle.buffa_recursive.specs.MemberList.{knotted, map_inside, member, skips};
 
-use buffa_fields::inside_maps::take_map;
 use buffa_fields::kept;
-use buffa_fields::keyed::{ByKey, Keyed};
-use buffa_fields::laid::Laid;
 use buffa_fields::member::Member;
 use buffa_fields::plain::Plain;
-use buffa_fields::self_fields::SelfFields;
-use buffa_fields::self_listing::{SelfListed, SelfListing};
-use buffa_fields::self_merger::SelfMerger;
-use buffa_fields::self_visitor::SelfVisitor;
 use buffa_map::map_codec::Int32;
+use buffa_recursive::fields::SelfFields;
+use buffa_recursive::keyed::{ByKey, Keyed};
+use buffa_recursive::layout::Laid;
+use buffa_recursive::listing::{SelfListed, SelfListing};
+use buffa_recursive::maps::take_map;
+use buffa_recursive::merger::SelfMerger;
+use buffa_recursive::visitor::SelfVisitor;
 use buffa_wire::{
     Blank, Budget, DecodeContext, DecodeError, EncodeError, EncodeSink, Formed, Message,
     MessageSpec, SizeCache, Tag,
@@ -45,8 +45,8 @@ impl Model for Tree {
     ghost use Rattle.std.specs.Coded.{coded_list, coded_ℤ, coded×};
     ghost use Rattle.std.proofs.Common.{arith};
     ghost use Rattle.buffa_map.specs.Pairs.{means};
-    ghost use Rattle.buffa_fields.specs.Pairs.{keys_in, most-of_map, values_in};
-    ghost use Rattle.buffa_fields.specs.Knots.{Knot, coded_knot, knot, knot_height, many, no_slot};
+    ghost use Rattle.buffa_recursive.specs.MapTree.{keys_in, most-of_map, values_in};
+    ghost use Rattle.buffa_recursive.specs.MessageTree.{Knot, coded_knot, knot, knot_height, many, no_slot};
     ghost use base.Stored.{coded_unit};
 
     ghost Value = { Knot (ℤ × (List ℤ × Unit {0})) };

@@ -1,15 +1,14 @@
 //! weather.Day, made of day.proto by protoc-gen-buffa.
 
 ghost use Rattle.std.proofs.Common.{lit<, refl};
-ghost use Rattle.buffa.specs.Members.{TakesBlock, block, block_of, both_blocks, eight, one, seven, keep};
+ghost use Rattle.buffa_fields.specs.Terms.{TakesBlock, block, block_of, both_blocks, eight, one, seven, keep};
 
 use crate::place::Place;
-use buffa::fields::{
-    And, And7, And8, And11, Fields, Formed, KeptFields, Listed, Listing, MapOf, Member,
-    MemberBlock, Nested, Plain, Visitor, kept,
+use buffa_fields::map_codec::{Map, Sint32, Str, Uint32};
+use buffa_fields::{
+    And, And7, And8, And11, Blank, DecodeContext, DecodeError, Fields, Formed, KeptFields, Listed,
+    Listing, MapOf, Member, MemberBlock, Nested, Plain, Tag, UnknownFields, Visitor, kept,
 };
-use buffa::map_codec::{Map, Sint32, Str, Uint32};
-use buffa::{Blank, DecodeContext, DecodeError, Tag, UnknownFields};
 use std::alloc::Global;
 use std::string::String;
 

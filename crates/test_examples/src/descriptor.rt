@@ -2,13 +2,13 @@
 
 mod sets;
 
-use buffa::extension::codecs::{Bool, Sint64};
-use buffa::extension::{Extension, ExtensionSet};
-use buffa::{Blank, Message};
 use buffa_descriptor::{
     DescriptorProto, FieldDescriptorProtoLabel, FieldDescriptorProtoType, FieldOptions,
     FileDescriptorSet,
 };
+use buffa_ext::codecs::{Bool, Sint64};
+use buffa_ext::{Extension, ExtensionSet};
+use buffa_wire::{Blank, Message};
 use std::alloc::Global;
 use std::test::Fail;
 

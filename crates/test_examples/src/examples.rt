@@ -1,22 +1,24 @@
 //! Examples of comments, run, but for those on map fields: calls that no other proved
 //! function makes in this way.
 
-use buffa::extension::codecs::{
+use buffa_ext::codecs::{
     BytesCodec, EnumCodec, MessageCodec, PackedRepeated, Repeated, StringCodec,
 };
-use buffa::extension::{Extension, ExtensionCodec, ExtensionSet};
-use buffa::map_codec::{
+use buffa_ext::{Extension, ExtensionCodec, ExtensionSet};
+use buffa_fields::merge::merge_fields;
+use buffa_fields::message::messages_read_back;
+use buffa_map::map_codec::{
     Bool, Double, Fixed32, Fixed64, Float, Int32, Int64, Sfixed32, Sfixed64, Sint64, Uint32, Uint64,
 };
-use buffa::message_set::{ITEM_START_TAG, merge_item, write_item};
-use buffa::samples::{Node, SetMsg, Shade};
-use buffa::{
+use buffa_message_set::message_set::{ITEM_START_TAG, merge_item, write_item};
+use buffa_wire::{
     Blank, Budget, DecodeContext, DoubleBits, EnumValue, FloatBits, Message, RECURSION_LIMIT,
     SizeCache, UnknownFields, decode_varint,
 };
-use buffa_fields::merge::merge_fields;
-use buffa_fields::message::messages_read_back;
 use sample_inventory::inventory::Inventory;
+use sample_node::node::Node;
+use sample_node::shade::Shade;
+use sample_set_msg::SetMsg;
 use sample_types::flat::FlatMsg;
 use sample_types::hues::Old;
 use std::alloc::Global;

@@ -1,7 +1,8 @@
 //! Nodes that are merged, sized and written. The bytes are worked out by hand, from the protobuf encoding guide.
 
-use buffa::samples::{Node, Shade, merge_node, size_node, write_node};
-use buffa::{Blank, Budget, DecodeError, SizeCache};
+use buffa_wire::{Blank, Budget, DecodeError, SizeCache};
+use sample_node::node::{Node, merge_node, size_node, write_node};
+use sample_node::shade::Shade;
 use std::test::Fail;
 
 #[test]

@@ -1,10 +1,10 @@
 //! Tasks of docs/GUIDE.md and of docs/BY_HAND.md, run: steps that are taken later, closed enums, and a loop over fields.
 
-use buffa::extension::codecs::Int32;
-use buffa::extension::{Extension, ExtensionCodec, Step, replay};
-use buffa::{
-    Blank, Buf, DecodeError, EnumValue, Message, Tag, UnknownFieldData, UnknownFields,
-    skip_field_depth,
+use buffa_ext::codecs::Int32;
+use buffa_ext::{Extension, ExtensionCodec, Step, replay};
+use buffa_wire::{
+    Blank, Budget, Buf, CanonicalError, Decode, DecodeError, EnumValue, Message, Tag,
+    UnknownFieldData, UnknownFields, skip_field_depth,
 };
 use sample_palette::palette::Palette;
 use sample_palette::shade::Shade;
@@ -56,6 +56,41 @@ fn swatch_of(alloc: Global, bytes: &[u8]) -> Result<Swatch, Fail> {
     let mut message: Swatch = Blank::blank(alloc);
     message.merge_from_slice(alloc, bytes)?;
     Ok(message)
+}
+
+// The swatch that the bytes are, at most 20 levels deep, under limits.
+fn swatch_within(alloc: Global, bytes: &[u8]) -> Result<Swatch, DecodeError> {
+    let limits = Budget::new(1_000).with_element_memory(1_000_000);
+    Swatch::decode_within(alloc, bytes, 20, limits)
+}
+
+// What the bytes are refused for that have to be the encoding of a swatch.
+fn swatch_refused(alloc: Global, bytes: &[u8]) -> Option<CanonicalError> {
+    Swatch::decode_canonical(alloc, bytes).err()
+}
+
+#[test]
+fn a_message_is_made_of_bytes(rt: HostRuntime) -> Result<(), Fail> {
+    let alloc = rt.alloc();
+    let bytes: &[u8] = &[0x08, 0x01];
+    let swatch = Swatch::decode_from_slice(alloc, bytes)?;
+    assert!(rt; swatch.shade == Some(Shade::B));
+    let swatch = swatch_within(alloc, bytes)?;
+    assert!(rt; swatch.shade == Some(Shade::B));
+    let swatch = Swatch::decode_canonical(alloc, bytes)?;
+    assert!(rt; swatch.shade == Some(Shade::B));
+    Ok(())
+}
+
+#[test]
+fn other_spellings_are_refused(rt: HostRuntime) {
+    let alloc = rt.alloc();
+    let longer = swatch_refused(alloc, &[0x08, 0x81, 0x00]);
+    assert!(rt; longer == Some(CanonicalError::NotCanonical));
+    let twice = swatch_refused(alloc, &[0x08, 0x00, 0x08, 0x01]);
+    assert!(rt; twice == Some(CanonicalError::NotCanonical));
+    let refused = CanonicalError::Malformed(DecodeError::UnexpectedEof);
+    assert!(rt; swatch_refused(alloc, &[0x08]) == Some(refused));
 }
 
 #[test]

@@ -1,6 +1,6 @@
 //! Trees that are merged, sized and written. The bytes are worked out by hand, from the protobuf encoding guide.
 
-use buffa::{Budget, DecodeError, SizeCache};
+use buffa_wire::{Budget, DecodeError, SizeCache};
 use sample_types::tree::{Tree, merge_tree, size_tree, write_tree};
 use std::collections::BTreeMap;
 use std::test::Fail;

@@ -2,6 +2,7 @@
 
 use buffa_bytes::{DecodeError, EncodeError, MessageSetFault, WireType};
 use buffa_map::map_codec::RewriteError;
+use buffa_wire::CanonicalError;
 use std::alloc::Global;
 use std::test::Fail;
 
@@ -87,6 +88,15 @@ fn refusals_to_write(rt: HostRuntime) -> Result<(), Fail> {
     let printed = format!(in rt.alloc(); "{large}, {group}, {full}, {large:>30}")?;
     let expected = "MessageTooLarge, GroupRefused InvalidUtf8, OutOfMemory, MessageTooLarge";
     assert!(rt; printed.as_str() == expected);
+    Ok(())
+}
+
+#[test]
+fn refusals_of_what_had_to_be_an_encoding(rt: HostRuntime) -> Result<(), Fail> {
+    let refused = CanonicalError::Malformed(DecodeError::UnexpectedEof);
+    let other = CanonicalError::NotCanonical;
+    let printed = format!(in rt.alloc(); "{refused}, {other}, {other:>30}")?;
+    assert!(rt; printed.as_str() == "Malformed UnexpectedEof, NotCanonical, NotCanonical");
     Ok(())
 }
 

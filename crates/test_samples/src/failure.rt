@@ -1,7 +1,7 @@
 //! Failures and what caused them. The bytes are worked out by hand, from the protobuf encoding guide.
 
-use buffa::{Blank, Budget, DecodeContext, DecodeError, Message, SizeCache};
-use sample_failure::failure::Failure;
+use buffa_wire::{Blank, Budget, DecodeContext, DecodeError, Message, SizeCache};
+use sample_recursive::failure::Failure;
 use std::string::String;
 use std::test::Fail;
 

@@ -1,7 +1,7 @@
 //! Branches on branches. The bytes are worked out by hand, from the protobuf encoding guide.
 
-use buffa::{Blank, Budget, DecodeContext, DecodeError, Message, RECURSION_LIMIT};
-use sample_held::branch::Branch;
+use buffa_wire::{Blank, Budget, DecodeContext, DecodeError, Message, RECURSION_LIMIT};
+use sample_recursive::branch::Branch;
 use std::string::String;
 use std::test::Fail;
 

@@ -1,7 +1,7 @@
 //! Measures: what is required, defaults and real numbers. The bytes are worked out by hand, from the protobuf encoding guide.
 
-use buffa::fields::Required;
-use buffa::{Blank, DoubleBits, FloatBits, Message};
+use buffa_fields::required::Required;
+use buffa_wire::{Blank, DoubleBits, FloatBits, Message};
 use sample_measure::measure::Measure;
 use sample_measure::spot::Spot;
 use sample_measure::unit::Unit;

@@ -1,6 +1,6 @@
 //! Outlines are read, sized and written. The bytes were worked out by hand.
 
-use buffa::{Blank, Message};
+use buffa_wire::{Blank, Message};
 use sample_outline::outline::Outline;
 use sample_outline::outline_mark::OutlineMark;
 use sample_outline::outline_source::OutlineSource;

@@ -1,6 +1,6 @@
 //! What a palette passes on. The bytes are worked out by hand, from the protobuf encoding guide.
 
-use buffa::{Blank, Budget, DecodeContext, DecodeError, Message, RECURSION_LIMIT};
+use buffa_wire::{Blank, Budget, DecodeContext, DecodeError, Message, RECURSION_LIMIT};
 use sample_palette::palette::Palette;
 use sample_palette::shade::Shade;
 use std::test::Fail;

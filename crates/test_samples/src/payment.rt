@@ -1,6 +1,6 @@
 //! Payments. The bytes are worked out by hand, from the protobuf encoding guide.
 
-use buffa::{Blank, DecodeError, Message, SizeCache};
+use buffa_wire::{Blank, DecodeError, Message, SizeCache};
 use sample_payment::method::Method;
 use sample_payment::payment::Payment;
 use std::string::String;

@@ -1,7 +1,7 @@
 //! Settings in settings. The bytes are worked out by hand, from the protobuf encoding guide.
 
-use buffa::{Blank, Budget, DecodeContext, DecodeError, Message, SizeCache};
-use sample_settings::settings::Settings;
+use buffa_wire::{Blank, Budget, DecodeContext, DecodeError, Message, SizeCache};
+use sample_recursive::settings::Settings;
 use std::string::String;
 use std::test::Fail;
 

@@ -1,7 +1,7 @@
 //! Each task, run. The bytes are worked out by hand, from the protobuf encoding guide.
 
-use buffa::map_codec::MapStorage;
-use buffa::{Blank, DecodeError, Message};
+use buffa_map::map_codec::MapStorage;
+use buffa_wire::{Blank, DecodeError, Message};
 use sample_stock::counts::{announced, counts_of, encoding_of, number_at};
 use sample_stock::limits::stock_within_limits;
 use sample_stock::messages::order::Order;

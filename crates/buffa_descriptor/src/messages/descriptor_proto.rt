@@ -1,7 +1,7 @@
 //! google.protobuf.DescriptorProto, made of descriptor.proto by protoc-gen-buffa.
 
 ghost use Rattle.std.proofs.Common.{lit<, refl};
-ghost use Rattle.buffa_fields.specs.Open.{keeps, knotted, list_inside, member};
+ghost use Rattle.buffa_recursive.specs.Terms.{keeps, knotted, list_inside, member};
 
 use crate::messages::descriptor_proto_extension_range::DescriptorProtoExtensionRange;
 use crate::messages::descriptor_proto_reserved_range::DescriptorProtoReservedRange;
@@ -9,20 +9,14 @@ use crate::messages::enum_descriptor_proto::EnumDescriptorProto;
 use crate::messages::field_descriptor_proto::FieldDescriptorProto;
 use crate::messages::message_options::MessageOptions;
 use crate::messages::oneof_descriptor_proto::OneofDescriptorProto;
-use buffa_fields::inside_takes::take_list;
-use buffa_fields::kept;
-use buffa_fields::laid::Laid;
-use buffa_fields::member::Member;
-use buffa_fields::nested::Nested;
-use buffa_fields::optional::Optional;
-use buffa_fields::repeated::Repeated;
-use buffa_fields::repeated_nested::RepeatedNested;
-use buffa_fields::self_fields::SelfFields;
-use buffa_fields::self_listing::{SelfListed, SelfListing};
-use buffa_fields::self_merger::SelfMerger;
-use buffa_fields::self_visitor::SelfVisitor;
-use buffa_map::map_codec::Str;
-use buffa_wire::{Blank, DecodeContext, DecodeError, Formed, Tag, UnknownFields};
+use buffa_fields::map_codec::Str;
+use buffa_fields::{
+    Blank, DecodeContext, DecodeError, Formed, Member, Nested, Optional, Repeated, RepeatedNested,
+    Tag, UnknownFields, kept,
+};
+use buffa_recursive::{
+    Laid, SelfFields, SelfListed, SelfListing, SelfMerger, SelfVisitor, take_list,
+};
 use std::alloc::Global;
 use std::marker::Model;
 use std::string::String;
@@ -71,10 +65,8 @@ impl Model for DescriptorProto {
     ghost use Rattle.std.specs.Coded.{codes};
     ghost use Rattle.std.specs.Prelude.{List, Option, ℕ};
     ghost use Rattle.std.proofs.Common.{arith};
-    ghost use Rattle.buffa_wire.specs.Code.{coded_datum};
-    ghost use Rattle.buffa_wire.specs.Records.{Datum};
-    ghost use Rattle.buffa_fields.specs.Knots.{Knot, coded_knot, knot_height, knot_of, most-of_list};
-    ghost use Rattle.buffa_fields.specs.Viewed.{MeaningOf, has, has_kept, has_list};
+    ghost use Rattle.buffa_fields.specs.Terms.{Datum, coded_datum};
+    ghost use Rattle.buffa_recursive.specs.Terms.{Knot, MeaningOf, coded_knot, has, has_kept, has_list, knot_height, knot_of, most-of_list};
 
     ghost Value = { Knot (
         Option (List ℕ) × (

@@ -1,23 +1,16 @@
 //! google.protobuf.EnumDescriptorProto, made of descriptor.proto by protoc-gen-buffa.
 
 ghost use Rattle.std.proofs.Common.{lit<, refl};
-ghost use Rattle.buffa_fields.specs.Members.{field, keep};
+ghost use Rattle.buffa_fields.specs.Terms.{field, keep};
 
 use crate::messages::enum_descriptor_proto_enum_reserved_range::EnumDescriptorProtoEnumReservedRange;
 use crate::messages::enum_options::EnumOptions;
 use crate::messages::enum_value_descriptor_proto::EnumValueDescriptorProto;
-use buffa_fields::fields::Fields;
-use buffa_fields::kept::{self, KeptFields};
-use buffa_fields::meaning::And6;
-use buffa_fields::member::Member;
-use buffa_fields::message::{Listed, Listing};
-use buffa_fields::nested::Nested;
-use buffa_fields::optional::Optional;
-use buffa_fields::repeated::Repeated;
-use buffa_fields::repeated_nested::RepeatedNested;
-use buffa_fields::visitor::Visitor;
-use buffa_map::map_codec::Str;
-use buffa_wire::{Blank, DecodeContext, DecodeError, Formed, Tag, UnknownFields};
+use buffa_fields::map_codec::Str;
+use buffa_fields::{
+    And6, Blank, DecodeContext, DecodeError, Fields, Formed, KeptFields, Listed, Listing, Member,
+    Nested, Optional, Repeated, RepeatedNested, Tag, UnknownFields, Visitor, kept,
+};
 use std::alloc::Global;
 use std::string::String;
 

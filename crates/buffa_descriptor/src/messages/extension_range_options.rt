@@ -2,14 +2,13 @@
 
 ghost use Rattle.std.proofs.Common.{lit<, refl};
 ghost use Rattle.std.specs.Prelude.{codes};
-ghost use Rattle.buffa_fields.specs.Members.{keep};
+ghost use Rattle.buffa_fields.specs.Terms.{keep};
 
 use buffa_ext::ExtensionSet;
-use buffa_fields::fields::Fields;
-use buffa_fields::kept::{self, KeptFields};
-use buffa_fields::message::{Listed, Listing};
-use buffa_fields::visitor::Visitor;
-use buffa_wire::{Blank, DecodeContext, DecodeError, Formed, Tag, UnknownFields};
+use buffa_fields::{
+    Blank, DecodeContext, DecodeError, Fields, Formed, KeptFields, Listed, Listing, Tag,
+    UnknownFields, Visitor, kept,
+};
 use std::alloc::Global;
 
 /// The options of a range of extensions. Each of them is had by its number as an extension.

@@ -1,22 +1,16 @@
 //! google.protobuf.FieldDescriptorProto, made of descriptor.proto by protoc-gen-buffa.
 
 ghost use Rattle.std.proofs.Common.{lit<, refl};
-ghost use Rattle.buffa_fields.specs.Members.{field, field_kept, keep};
+ghost use Rattle.buffa_fields.specs.Terms.{field, field_kept, keep};
 
 use crate::messages::field_descriptor_proto_label::FieldDescriptorProtoLabel;
 use crate::messages::field_descriptor_proto_type::FieldDescriptorProtoType;
 use crate::messages::field_options::FieldOptions;
-use buffa_fields::fields::Fields;
-use buffa_fields::keeping::Keeping;
-use buffa_fields::kept::{self, KeptFields};
-use buffa_fields::meaning::And12;
-use buffa_fields::member::Member;
-use buffa_fields::message::{Listed, Listing};
-use buffa_fields::nested::Nested;
-use buffa_fields::optional::Optional;
-use buffa_fields::visitor::Visitor;
-use buffa_map::map_codec::{Bool, ClosedEnum, Int32, Str};
-use buffa_wire::{Blank, DecodeContext, DecodeError, Formed, Tag, UnknownFields};
+use buffa_fields::map_codec::{Bool, ClosedEnum, Int32, Str};
+use buffa_fields::{
+    And12, Blank, DecodeContext, DecodeError, Fields, Formed, Keeping, KeptFields, Listed, Listing,
+    Member, Nested, Optional, Tag, UnknownFields, Visitor, kept,
+};
 use std::alloc::Global;
 use std::string::String;
 

@@ -3,7 +3,7 @@
 ghost use Rattle.std.specs.Prelude.{None, Some, if◌then◌else◌, pos, refl};
 ghost use Rattle.std.specs.Ordering.{int_eq};
 
-use buffa_wire::{Blank, Enumeration};
+use buffa_fields::{Blank, Enumeration};
 use std::alloc::Global;
 
 /// How often a field may stand in a message. A field of proto3 that isn't repeated is optional.

@@ -1,7 +1,7 @@
 //! google.protobuf.FileDescriptorProto, made of descriptor.proto by protoc-gen-buffa.
 
 ghost use Rattle.std.proofs.Common.{lit<, refl};
-ghost use Rattle.buffa_fields.specs.Members.{field, keep};
+ghost use Rattle.buffa_fields.specs.Terms.{field, keep};
 
 use crate::messages::descriptor_proto::DescriptorProto;
 use crate::messages::enum_descriptor_proto::EnumDescriptorProto;
@@ -9,18 +9,11 @@ use crate::messages::field_descriptor_proto::FieldDescriptorProto;
 use crate::messages::file_options::FileOptions;
 use crate::messages::service_descriptor_proto::ServiceDescriptorProto;
 use crate::messages::source_code_info::SourceCodeInfo;
-use buffa_fields::fields::Fields;
-use buffa_fields::kept::{self, KeptFields};
-use buffa_fields::meaning::And13;
-use buffa_fields::member::Member;
-use buffa_fields::message::{Listed, Listing};
-use buffa_fields::nested::Nested;
-use buffa_fields::optional::Optional;
-use buffa_fields::repeated::Repeated;
-use buffa_fields::repeated_nested::RepeatedNested;
-use buffa_fields::visitor::Visitor;
-use buffa_map::map_codec::{Int32, Str};
-use buffa_wire::{Blank, DecodeContext, DecodeError, Formed, Tag, UnknownFields};
+use buffa_fields::map_codec::{Int32, Str};
+use buffa_fields::{
+    And13, Blank, DecodeContext, DecodeError, Fields, Formed, KeptFields, Listed, Listing, Member,
+    Nested, Optional, Repeated, RepeatedNested, Tag, UnknownFields, Visitor, kept,
+};
 use std::alloc::Global;
 use std::string::String;
 

@@ -1,17 +1,13 @@
 //! google.protobuf.FileDescriptorSet, made of descriptor.proto by protoc-gen-buffa.
 
 ghost use Rattle.std.proofs.Common.{lit<, refl};
-ghost use Rattle.buffa_fields.specs.Members.{field, keep};
+ghost use Rattle.buffa_fields.specs.Terms.{field, keep};
 
 use crate::messages::file_descriptor_proto::FileDescriptorProto;
-use buffa_fields::fields::Fields;
-use buffa_fields::kept::{self, KeptFields};
-use buffa_fields::meaning::And;
-use buffa_fields::member::Member;
-use buffa_fields::message::{Listed, Listing};
-use buffa_fields::repeated_nested::RepeatedNested;
-use buffa_fields::visitor::Visitor;
-use buffa_wire::{Blank, DecodeContext, DecodeError, Formed, Tag, UnknownFields};
+use buffa_fields::{
+    And, Blank, DecodeContext, DecodeError, Fields, Formed, KeptFields, Listed, Listing, Member,
+    RepeatedNested, Tag, UnknownFields, Visitor, kept,
+};
 use std::alloc::Global;
 
 /// Some .proto files, as protoc writes them with --descriptor_set_out.

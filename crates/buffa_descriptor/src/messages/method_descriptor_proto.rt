@@ -1,19 +1,14 @@
 //! google.protobuf.MethodDescriptorProto, made of descriptor.proto by protoc-gen-buffa.
 
 ghost use Rattle.std.proofs.Common.{lit<, refl};
-ghost use Rattle.buffa_fields.specs.Members.{field, keep};
+ghost use Rattle.buffa_fields.specs.Terms.{field, keep};
 
 use crate::messages::method_options::MethodOptions;
-use buffa_fields::fields::Fields;
-use buffa_fields::kept::{self, KeptFields};
-use buffa_fields::meaning::And7;
-use buffa_fields::member::Member;
-use buffa_fields::message::{Listed, Listing};
-use buffa_fields::nested::Nested;
-use buffa_fields::optional::Optional;
-use buffa_fields::visitor::Visitor;
-use buffa_map::map_codec::{Bool, Str};
-use buffa_wire::{Blank, DecodeContext, DecodeError, Formed, Tag, UnknownFields};
+use buffa_fields::map_codec::{Bool, Str};
+use buffa_fields::{
+    And7, Blank, DecodeContext, DecodeError, Fields, Formed, KeptFields, Listed, Listing, Member,
+    Nested, Optional, Tag, UnknownFields, Visitor, kept,
+};
 use std::alloc::Global;
 use std::string::String;
 

@@ -29,6 +29,7 @@ answer = Result (Unit {0}) DecodeError
 -- what is the same of the others where a part takes a field: all of them, or all but what is kept
 pub record Leaves {M A : Type 0} (keeps : Bool) (p : Part M A) : Type 1 where
   pub others : (S E : M → M → Type 0) (a b : M) → Choice keeps (E a b) (S a b) → p.Others S E a b
+  pub only : (S E : M → M → Type 0) (a b : M) → p.Others S E a b → Choice keeps (E a b) (S a b)
 
 -- none of the records that may be kept is of its numbers
 pub record Alone {M A : Type 0} (p : Part M A) : Type 0 where
@@ -241,7 +242,7 @@ module _ {M P A : Type 0} (get : M → P) (p : Part P A) (laws : PartLaws p) whe
   }
 
 pub both_leave : {P Q A B : Type 0} (p : Part P A) (q : Part Q B) (keeps : Bool) → Leaves keeps (both_part p q keeps)
-both_leave p q keeps = record { others = λ S E a b h. h }
+both_leave p q keeps = record { others = λ S E a b h. h; only = λ S E a b h. h }
 
 -- none that is kept is of either's numbers
 neither_mine : (f g : ℕ → Bool) (ys : Kept) → AllNumbers (λ n. not (f n)) ys → AllNumbers (λ n. not (g n)) ys → AllNumbers (λ n. not (f n || g n)) ys

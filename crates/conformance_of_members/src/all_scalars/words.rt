@@ -1,7 +1,7 @@
 // Messages of all scalars as words; no message is read of a word.
 
 use crate::all_scalars::AllScalars;
-use conformance_calls::messages::{Parted, Parts, parted_word};
+use conformance_messages::{Parted, Parts, parted_word};
 use conformance_rows::fault::Fault;
 use conformance_rows::words::Worded;
 use sample_members::explicit::Explicit;

@@ -1,10 +1,10 @@
 // Branches as words; no branch is read of a word.
 
 use crate::members::lists::{numbers_word, with_word};
-use conformance_calls::messages::{Parted, Parts};
+use conformance_messages::{Parted, Parts};
 use conformance_rows::fault::Fault;
 use conformance_rows::words::{Worded, copied, records_word, text_word};
-use sample_held::branch::Branch;
+use sample_recursive::branch::Branch;
 use std::alloc::Global;
 use std::marker::PhantomData;
 

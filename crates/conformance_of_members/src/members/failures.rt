@@ -1,10 +1,10 @@
 // Failures as words; no failure is read of a word.
 
 use crate::members::lists::numbers_word;
-use conformance_calls::messages::{Parted, Parts};
+use conformance_messages::{Parted, Parts};
 use conformance_rows::fault::Fault;
 use conformance_rows::words::{Worded, copied, records_word, text_word};
-use sample_failure::failure::Failure;
+use sample_recursive::failure::Failure;
 use std::alloc::Global;
 use std::marker::PhantomData;
 

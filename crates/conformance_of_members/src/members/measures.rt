@@ -1,9 +1,9 @@
 // Measures and spots as words, behind whose members stands what their calls say; none is read of a word.
 
 use crate::members::Members;
-use buffa::Enumeration;
-use buffa::fields::Required;
-use conformance_calls::messages::{Parted, Parts, parted_word};
+use buffa_fields::required::Required;
+use buffa_wire::Enumeration;
+use conformance_messages::{Parted, Parts, parted_word};
 use conformance_rows::fault::Fault;
 use conformance_rows::outcome::in_words;
 use conformance_rows::words::{Worded, joined, text_word};

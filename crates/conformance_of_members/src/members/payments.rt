@@ -1,6 +1,6 @@
 // Payments and their transfers as words; none is read of a word.
 
-use conformance_calls::messages::{Parted, Parts, parted_word};
+use conformance_messages::{Parted, Parts, parted_word};
 use conformance_rows::fault::Fault;
 use conformance_rows::words::Worded;
 use sample_payment::method::Method;

@@ -1,10 +1,10 @@
 // Settings as words; no settings are read of a word.
 
 use crate::members::lists::{numbers_word, with_word};
-use conformance_calls::messages::{Parted, Parts};
+use conformance_messages::{Parted, Parts};
 use conformance_rows::fault::Fault;
 use conformance_rows::words::{Worded, copied, joined, records_word, text_word};
-use sample_settings::settings::Settings;
+use sample_recursive::settings::Settings;
 use std::alloc::Global;
 use std::marker::PhantomData;
 

@@ -1,8 +1,8 @@
 // Messages from their fields as words; no message is read of a word.
 
 use crate::members::Members;
-use buffa::{EnumValue, Enumeration};
-use conformance_calls::messages::{Parted, Parts, parted_word};
+use buffa_wire::{EnumValue, Enumeration};
+use conformance_messages::{Parted, Parts, parted_word};
 use conformance_rows::fault::Fault;
 use conformance_rows::outcome::in_words;
 use conformance_rows::words::{Worded, unknown_word};

@@ -2,7 +2,7 @@
 
 use crate::nodes::Nodes;
 use buffa_wire::{Buf, DecodeContext, DecodeError, Message, RECURSION_LIMIT};
-use conformance_calls::messages::merges::{field, merging, standing};
+use conformance_messages::merges::{field, merging, standing};
 use conformance_rows::case::Case;
 use conformance_rows::fault::Fault;
 use conformance_rows::mark::Mark;

@@ -4,7 +4,7 @@ use crate::nodes::Nodes;
 use buffa_ext::codecs::{BytesCodec, Int32, Repeated, StringCodec};
 use buffa_ext::{Extension, ExtensionCodec, ExtensionSet};
 use buffa_wire::{EncodeError, Message};
-use conformance_calls::messages::merges::standing;
+use conformance_messages::merges::standing;
 use conformance_rows::case::Case;
 use conformance_rows::fault::Fault;
 use conformance_rows::mark::Mark;

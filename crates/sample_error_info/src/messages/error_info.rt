@@ -1,13 +1,13 @@
 //! google.rpc.ErrorInfo, made of error_info.proto by protoc-gen-buffa.
 
 ghost use Rattle.std.proofs.Common.{lit<, refl};
-ghost use Rattle.buffa.specs.Members.{field, keep};
+ghost use Rattle.buffa_fields.specs.Terms.{field, keep};
 
-use buffa::fields::{
-    And, And4, Fields, Formed, KeptFields, Listed, Listing, MapOf, Member, Plain, Visitor, kept,
+use buffa_fields::map_codec::{Map, Str};
+use buffa_fields::{
+    And, And4, Blank, DecodeContext, DecodeError, Fields, Formed, KeptFields, Listed, Listing,
+    MapOf, Member, Plain, Tag, UnknownFields, Visitor, kept,
 };
-use buffa::map_codec::{Map, Str};
-use buffa::{Blank, DecodeContext, DecodeError, Tag, UnknownFields};
 use std::alloc::Global;
 use std::string::String;
 

@@ -1,16 +1,16 @@
 //! shop.Order, made of stock.proto by protoc-gen-buffa.
 
 ghost use Rattle.std.proofs.Common.{lit<, refl};
-ghost use Rattle.buffa.specs.Members.{field, keep};
+ghost use Rattle.buffa_fields.specs.Terms.{field, keep};
 
 use crate::messages::line::Line;
 use crate::messages::state::State;
-use buffa::fields::{
-    And, And5, Fields, Formed, KeptFields, Listed, Listing, MapOfNested, Member, Optional, Plain,
-    RepeatedNested, Visitor, kept,
+use buffa_fields::map_codec::{Map, OpenEnum, Str};
+use buffa_fields::{
+    And, And5, Blank, DecodeContext, DecodeError, EnumValue, Fields, Formed, KeptFields, Listed,
+    Listing, MapOfNested, Member, Optional, Plain, RepeatedNested, Tag, UnknownFields, Visitor,
+    kept,
 };
-use buffa::map_codec::{Map, OpenEnum, Str};
-use buffa::{Blank, DecodeContext, DecodeError, EnumValue, Tag, UnknownFields};
 use std::alloc::Global;
 use std::string::String;
 

@@ -1,14 +1,15 @@
 //! shop.Place, made of stock.proto by protoc-gen-buffa.
 
 ghost use Rattle.std.proofs.Common.{lit<, refl};
-ghost use Rattle.buffa.specs.Knots.{keeps, knotted, list_inside, member};
+ghost use Rattle.buffa_recursive.specs.Terms.{keeps, knotted, list_inside, member};
 
-use buffa::fields::{
-    Formed, Laid, Member, Plain, SelfFields, SelfListed, SelfListing, SelfMerger, SelfVisitor,
-    kept, take_list,
+use buffa_fields::map_codec::Str;
+use buffa_fields::{
+    Blank, DecodeContext, DecodeError, Formed, Member, Plain, Tag, UnknownFields, kept,
 };
-use buffa::map_codec::Str;
-use buffa::{Blank, DecodeContext, DecodeError, Tag, UnknownFields};
+use buffa_recursive::{
+    Laid, SelfFields, SelfListed, SelfListing, SelfMerger, SelfVisitor, take_list,
+};
 use std::alloc::Global;
 use std::marker::Model;
 use std::string::String;
@@ -31,7 +32,8 @@ impl Model for Place {
     ghost use Rattle.std.specs.Coded.{codes};
     ghost use Rattle.std.specs.Prelude.{List, ℕ};
     ghost use Rattle.std.proofs.Common.{arith};
-    ghost use Rattle.buffa.specs.Knots.{Datum, Knot, coded_datum, coded_knot, has, has_kept, has_list, knot_height, knot_of, most-of_list};
+    ghost use Rattle.buffa_fields.specs.Terms.{Datum, coded_datum};
+    ghost use Rattle.buffa_recursive.specs.Terms.{Knot, coded_knot, has, has_kept, has_list, knot_height, knot_of, most-of_list};
 
     ghost Value = { Knot (List ℕ × List (ℕ × Datum)) };
 

@@ -8,6 +8,7 @@ use buffa::extension::{
 use buffa::map_codec::{
     self, MapCodec, MapValueDecode, MapValueDecodeStatus, MapWalk, Msg, RewriteError, StableWalk,
 };
+use buffa::samples::{Node, SetMsg, Shade};
 use buffa::{
     Blank, Buf, DecodeError, EncodeError, EncodeSink, EnumValue, Enumeration, Extension,
     ExtensionSet, Limited, Map, MapKey, MapStorage, Message, MessageSetFault, MessageSpec, Pieces,
@@ -118,6 +119,9 @@ fn defaults(_rt: HostRuntime) {
     is_blank::<EnumValue<Old>>();
     is_enumeration::<Old>();
     is_message::<FlatMsg>();
+    is_enumeration::<Shade>();
+    is_message::<Node>();
+    is_message::<SetMsg>();
 }
 
 #[test]

@@ -1,5 +1,5 @@
 use Rattle.std.specs.Prelude.{IfErr, IfOk}
-use Rattle.buffa.specs.Branch.{blank_node}
+use Rattle.sample_node.specs.Branch.{blank_node}
 use Rattle.buffamap.specs.Fault.{TellsReply}
 use Rattle.buffamap.specs.Reply.{success}
 use Rattle.buffamap.proofs.AgainReplyLemmas.{again_as}

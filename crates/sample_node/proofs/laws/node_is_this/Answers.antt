@@ -12,7 +12,7 @@ returns c = record {
   slots = ((λ i t. slots_same t i), refl);
   levels = λ i t. levels_same t i;
   normal = node_normal_is;
-  refused = λ d v n w bs l e u was is h. node_refused d v n w bs l e u was is h;
+  refused = λ d v n w bs l e u was h. node_refused d v n w bs l e u was h;
   blank = refl;
   meaning = λ v. refl;
 }

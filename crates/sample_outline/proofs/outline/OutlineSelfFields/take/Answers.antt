@@ -1,5 +1,5 @@
 use Rattle.std.proofs.Common.{false, refl, sym, true, ◌==◌, ◌||◌, ◌∙◌, ◌≡◌}
-use Rattle.buffa.specs.Members.{Took, TookBeside, chosen, not_chosen}
+use Rattle.buffa_fields.specs.Terms.{Took, TookBeside, chosen, not_chosen}
 use Rattle.sample_outline.proofs.outline.OutlineSelfFields.take.Goals as goal
 
 pub returns-in-1-clause-taken : goal.returns-in-1-clause-taken

@@ -1,5 +1,5 @@
 use Rattle.std.proofs.Common.{rules, refl, sym, ap, ◌∙◌, ◌==◌}
-use Rattle.buffa.specs.Members.{chosen, not_here}
+use Rattle.buffa_fields.specs.Terms.{chosen, not_here}
 use Rattle.sample_payment.proofs.method.MethodOneOf.take.Goals as goal
 
 pub returns-in_ok-it-in-3 : goal.returns-in_ok-it-in-3

@@ -1,5 +1,5 @@
 use Rattle.std.proofs.Common.{[]}
-use Rattle.buffa.specs.Members.{both_waited, first_comes, second_comes}
+use Rattle.buffa_fields.specs.Terms.{both_waited, first_comes, second_comes}
 use Rattle.sample_wide.proofs.day.DayBlock10MemberBlock.visit.Goals as goal
 
 pub visit-requires-7-clause-comes : goal.visit-requires-7-clause-comes

@@ -1,5 +1,5 @@
 use Rattle.std.proofs.Common.{refl}
-use Rattle.buffa.specs.Members.{here, not_here}
+use Rattle.buffa_fields.specs.Terms.{here, not_here}
 use Rattle.sample_wide.proofs.day.DayFields.take.Goals as goal
 
 pub returns-then-has : goal.returns-then-has

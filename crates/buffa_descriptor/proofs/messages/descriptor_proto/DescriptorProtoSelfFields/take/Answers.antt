@@ -1,6 +1,5 @@
 use Rattle.std.proofs.Common.{refl, sym, ◌∙◌}
-use Rattle.buffa_fields.specs.Layout.{Took}
-use Rattle.buffa_fields.specs.facts.LayoutFacts.{chosen, not_chosen}
+use Rattle.buffa_fields.specs.Terms.{Took, chosen, not_chosen}
 use Rattle.buffa_descriptor.proofs.messages.descriptor_proto.DescriptorProtoSelfFields.take.Goals as goal
 
 pub returns-in-1-clause-taken : goal.returns-in-1-clause-taken

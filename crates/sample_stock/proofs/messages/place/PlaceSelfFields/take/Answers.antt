@@ -1,5 +1,5 @@
 use Rattle.std.proofs.Common.{refl, sym, ◌∙◌}
-use Rattle.buffa.specs.Members.{Took, chosen, not_chosen}
+use Rattle.buffa_fields.specs.Terms.{Took, chosen, not_chosen}
 use Rattle.sample_stock.proofs.messages.place.PlaceSelfFields.take.Goals as goal
 
 pub returns-in-1-clause-taken : goal.returns-in-1-clause-taken

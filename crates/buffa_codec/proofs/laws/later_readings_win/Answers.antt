@@ -1,6 +1,0 @@
-use Rattle.buffa_wire.specs.BudgetLeft.{defaults}
-use Rattle.buffa_codec.proofs.PinLemmas.{later_readings}
-use Rattle.buffa_codec.proofs.laws.later_readings_win.Goals as goal
-
-pub returns : goal.returns
-returns g c = later_readings (g.C.SingularCodec.one 100 defaults)

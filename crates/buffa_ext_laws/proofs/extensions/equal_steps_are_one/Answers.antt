@@ -1,0 +1,16 @@
+use Rattle.std.proofs.Common.{◌≡◌, ◌↔◌, true}
+use Rattle.buffa_ext.specs.Steps.{step_of}
+use Rattle.buffa_ext.specs.contracts.steps.StepPartialEq.TheImpl.{ghosts}
+use Rattle.buffa_ext.specs.declared.steps.Step.{Step}
+use Rattle.buffa_ext.specs.declared.steps.Step.TheVariants.{Set, Clear}
+use Rattle.buffa_ext_laws.proofs.EqualStepLemmas.{steps_are, steps_told}
+use Rattle.buffa_ext_laws.proofs.extensions.equal_steps_are_one.Goals as goal
+
+told : (a b : Step) → (ghosts.eq a b ≡ true) ↔ (step_of a ≡ step_of b)
+told (Set m xs) (Set n ys) = (steps_are (Set m xs) (Set n ys), steps_told (Set m xs) (Set n ys))
+told (Clear m) (Clear n) = (steps_are (Clear m) (Clear n), steps_told (Clear m) (Clear n))
+told (Set m xs) (Clear n) = (steps_are (Set m xs) (Clear n), steps_told (Set m xs) (Clear n))
+told (Clear m) (Set n ys) = (steps_are (Clear m) (Set n ys), steps_told (Clear m) (Set n ys))
+
+pub returns-clause-step : goal.returns-clause-step
+returns-clause-step c = told

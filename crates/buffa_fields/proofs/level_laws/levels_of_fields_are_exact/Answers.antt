@@ -1,5 +1,0 @@
-use Rattle.buffa_fields.proofs.LevelLemmas.{exact_message}
-use Rattle.buffa_fields.proofs.level_laws.levels_of_fields_are_exact.Goals as goal
-
-pub returns : goal.returns
-returns g c = λ exact d old v fits normal less. exact_message g.M.Fields.layout normal.0 exact g.M.Fields.sound d old v fits normal.1 less

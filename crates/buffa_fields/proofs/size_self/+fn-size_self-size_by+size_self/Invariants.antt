@@ -1,9 +1,0 @@
-use Rattle.std.proofs.Common.{◌+◌, ◌*◌}
-use Rattle.buffa_fields.proofs.size_self.+fn-size_self-size_by+size_self.Given as goal
-
--- a message is sized by a function that is passed on, for those in it
-abbrev pub decreases-size_by : goal.decreases-size_by
-decreases-size_by g l = 2 * g.M.Laid.laying.height l.kid.now + 1
-
-abbrev pub decreases-size_self : goal.decreases-size_self
-decreases-size_self g l = 2 * g.M.Laid.laying.height l.message.now

@@ -1,9 +1,0 @@
-use Rattle.std.proofs.Common.{◌+◌, ◌*◌}
-use Rattle.buffa_fields.proofs.write_self.+fn-write_self-write_by+write_self.Given as goal
-
--- a message is written by a function that is passed on, for those in it
-abbrev pub decreases-write_by : goal.decreases-write_by
-decreases-write_by g l = 2 * g.M.Laid.laying.height l.kid.now + 1
-
-abbrev pub decreases-write_self : goal.decreases-write_self
-decreases-write_self g l = 2 * g.M.Laid.laying.height l.message.now

@@ -1,9 +1,0 @@
-use Rattle.std.proofs.Common.{ℕ, List, [], ◌∷◌, ap}
-use Rattle.buffa_wire.specs.Records.{Datum, bytes}
-use Rattle.buffa_fields.proofs.RecordLawLemmas.{encodings_joined}
-use Rattle.buffa_fields.specs.Lists.{packed_records}
-use Rattle.buffa_fields.proofs.written_laws.packed_elements_are_written.Goals as goal
-
-pub returns-clause-packed : goal.returns-clause-packed
-unfolding packed_records
-returns-clause-packed g c = λ n v vs. ap (λ (b : List ℕ). let rs : List (ℕ × Datum) = (n, bytes b) ∷ [] in rs) (encodings_joined g.C.MapCodec.writing.encoding (v ∷ vs))

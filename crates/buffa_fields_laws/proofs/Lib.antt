@@ -1,0 +1,8 @@
+-- The lemmas of the laws.
+mod OneOfLemmas
+pub mod KeptLemmas
+pub mod LevelLemmas
+pub mod RecordLemmas
+pub mod OptionLemmas
+mod BlockLemmas
+mod SpendingLemmas

@@ -1,5 +1,0 @@
-use Rattle.buffa_map.proofs.EntryWordLemmas.{pairs_are_lists}
-use Rattle.buffa_map.proofs.guide_laws.pairs_are_lists.Goals as goal
-
-pub returns-clause-lists : goal.returns-clause-lists
-returns-clause-lists g c = pairs_are_lists _

@@ -1,6 +1,0 @@
-use Rattle.buffa_map.proofs.PinLemmas.{run_is_pinned}
-use Rattle.buffa_map.proofs.pin_laws.runs_are_pinned.Goals as goal
-
-pub returns : goal.returns
-returns g c same ordered d n cost keeps =
-    run_is_pinned (record { key = g.KC.MapValueDecode.reading; val = g.VC.MapValueDecode.reading; same = same; keeps_order = ordered; depth = d; number = n; cost = cost; keeps_undeclared = keeps }) g.met.KC.MapValueDecode.free g.met.VC.MapValueDecode.free

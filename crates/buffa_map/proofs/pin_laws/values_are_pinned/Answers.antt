@@ -1,5 +1,0 @@
-use Rattle.buffa_map.proofs.PinLemmas.{value_is_pinned}
-use Rattle.buffa_map.proofs.pin_laws.values_are_pinned.Goals as goal
-
-pub returns : goal.returns
-returns g c = value_is_pinned g.VC.MapValueDecode.reading

@@ -1,5 +1,0 @@
-use Rattle.buffa_message_set.proofs.FrontLemmas.{read_where_left}
-use Rattle.buffa_message_set.proofs.laws.item_words_are_these.Goals as goal
-
-pub returns-clause-left : goal.returns-clause-left
-returns-clause-left c = read_where_left

@@ -1,5 +1,0 @@
-use Rattle.buffa_message_set.proofs.ItemLemmas.{one_item}
-use Rattle.buffa_message_set.proofs.laws.no_item_begins_another.Goals as goal
-
-pub returns : goal.returns
-returns c = one_item

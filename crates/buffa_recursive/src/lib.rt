@@ -1,0 +1,36 @@
+//! Messages that hold themselves, in lists, in maps and in boxes: their types are data, and their authors write no proof.
+//!
+//! A program with such a message names this crate beside `buffa_fields`, which has the member types of all messages. What
+//! contracts cite of it is in `specs/` under the name `Terms`.
+//!
+//! ```ignore
+//! use buffa_recursive::{Laid, SelfFields, SelfListed, SelfListing, SelfMerger, SelfVisitor, take_list};
+//! ```
+#![tactic(auto)]
+
+pub mod fields;
+pub mod keyed;
+pub mod layout;
+pub mod listing;
+pub mod maps;
+mod merge;
+pub mod merger;
+pub mod message;
+pub mod one_of;
+mod pairs;
+mod sizer;
+mod sizes;
+pub mod takes;
+pub mod visitor;
+mod writer;
+mod writes;
+
+pub use crate::fields::SelfFields;
+pub use crate::keyed::{ByKey, Keyed};
+pub use crate::layout::Laid;
+pub use crate::listing::{SelfListed, SelfListing};
+pub use crate::maps::take_map;
+pub use crate::merger::SelfMerger;
+pub use crate::one_of::take_one_of;
+pub use crate::takes::{take_list, take_one};
+pub use crate::visitor::SelfVisitor;

@@ -1,5 +1,0 @@
-use Rattle.buffa_wire.proofs.PinLemmas.{budget_is_pinned}
-use Rattle.buffa_wire.proofs.laws.records.budgets_are_pinned.Goals as goal
-
-pub returns : goal.returns
-returns c = budget_is_pinned

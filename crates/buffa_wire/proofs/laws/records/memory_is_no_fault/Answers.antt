@@ -1,5 +1,0 @@
-use Rattle.buffa_wire.proofs.FaultLemmas.{field_full, list_full}
-use Rattle.buffa_wire.proofs.laws.records.memory_is_no_fault.Goals as goal
-
-pub returns : goal.returns
-returns c = record { field = field_full; records = list_full }

@@ -1,5 +1,0 @@
-use Rattle.buffa_wire.proofs.PinLemmas.{passes_are_pinned}
-use Rattle.buffa_wire.proofs.laws.records.passes_are_pinned.Goals as goal
-
-pub returns : goal.returns
-returns c = passes_are_pinned

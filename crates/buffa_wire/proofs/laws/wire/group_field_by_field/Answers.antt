@@ -1,5 +1,0 @@
-use Rattle.buffa_bytes.proofs.FieldLemmas.{group_is}
-use Rattle.buffa_wire.proofs.laws.wire.group_field_by_field.Goals as goal
-
-pub returns : goal.returns
-returns c = group_is

@@ -1,8 +1,0 @@
-use Rattle.buffa_bytes.proofs.FieldLemmas.{one_payload, one_field}
-use Rattle.buffa_wire.proofs.laws.wire.no_field_begins_another.Goals as goal
-
-pub returns-clause-payload : goal.returns-clause-payload
-returns-clause-payload c = one_payload
-
-pub returns-clause-field : goal.returns-clause-field
-returns-clause-field c = one_field

@@ -1,5 +1,0 @@
-use Rattle.buffa_bytes.proofs.VarintLemmas.{spelling_same}
-use Rattle.buffa_wire.proofs.laws.wire.one_spelling_of_a_length.Goals as goal
-
-pub returns : goal.returns
-returns c = spelling_same

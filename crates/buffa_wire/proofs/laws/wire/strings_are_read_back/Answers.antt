@@ -1,5 +1,0 @@
-use Rattle.buffa_bytes.proofs.DelimitedLemmas.{string_back}
-use Rattle.buffa_wire.proofs.laws.wire.strings_are_read_back.Goals as goal
-
-pub returns : goal.returns
-returns c = string_back

@@ -1,0 +1,5 @@
+-- The lemmas of this crate.
+mod EncodingBytes
+mod FaultLemmas
+mod FrontRest
+mod PinLemmas

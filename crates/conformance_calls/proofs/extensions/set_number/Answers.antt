@@ -1,5 +1,0 @@
-use Rattle.conformance_calls.proofs.NormalLemmas.{covers_free, each_unit}
-use Rattle.conformance_calls.proofs.extensions.set_number.Goals as goal
-
-pub any-requires : goal.any-requires
-any-requires g c = λ v. (each_unit v, covers_free _ _)

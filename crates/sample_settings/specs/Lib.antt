@@ -1,1 +1,0 @@
--- The words that this crate hands out.
