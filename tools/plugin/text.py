@@ -407,6 +407,13 @@ def listed_form(message, messages):
     return made + [f"impl Formed for {name} {{", "    type Form = Listed;", "}"]
 
 
+def takes_its_cost(message):
+    """What has the checker see that an element takes no more memory than is charged for it."""
+    head, bound = "const _: () = prove!(", f"size_of::<{message.rust}>() <= {message.rust}::COST"
+    line = f"{head}{bound});"
+    return ["", line] if len(line) <= WIDTH else ["", head, f"    {bound}", ");"]
+
+
 def write_message(world, message, messages, enums):
     made = head_of_message(world, message, enums) + [""] + struct(message) + [""]
     if message.holds_itself:
@@ -414,6 +421,7 @@ def write_message(world, message, messages, enums):
     else:
         made += listed_form(message, messages)
     made += extension_set(message) if message.it.extension_range else []
+    made += takes_its_cost(message)
     return "\n".join(made + required.initialized(message) + getters(message, enums)) + "\n"
 
 

@@ -133,3 +133,5 @@ impl Listing for Assorted {
 impl Formed for Assorted {
     type Form = Listed;
 }
+
+const _: () = prove!(size_of::<Assorted>() <= Assorted::COST);

@@ -85,3 +85,5 @@ impl Listing for Depot {
 impl Formed for Depot {
     type Form = Listed;
 }
+
+const _: () = prove!(size_of::<Depot>() <= Depot::COST);

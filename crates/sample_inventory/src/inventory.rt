@@ -98,3 +98,5 @@ impl Listing for Inventory {
 impl Formed for Inventory {
     type Form = Listed;
 }
+
+const _: () = prove!(size_of::<Inventory>() <= Inventory::COST);

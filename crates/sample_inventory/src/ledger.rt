@@ -107,3 +107,5 @@ impl Listing for Ledger {
 impl Formed for Ledger {
     type Form = Listed;
 }
+
+const _: () = prove!(size_of::<Ledger>() <= Ledger::COST);

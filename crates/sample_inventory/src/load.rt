@@ -86,3 +86,5 @@ impl Listing for Load {
 impl Formed for Load {
     type Form = Listed;
 }
+
+const _: () = prove!(size_of::<Load>() <= Load::COST);

@@ -81,3 +81,5 @@ impl Listing for Parcel {
 impl Formed for Parcel {
     type Form = Listed;
 }
+
+const _: () = prove!(size_of::<Parcel>() <= Parcel::COST);

@@ -85,3 +85,5 @@ impl Listing for Store {
 impl Formed for Store {
     type Form = Listed;
 }
+
+const _: () = prove!(size_of::<Store>() <= Store::COST);

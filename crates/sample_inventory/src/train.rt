@@ -88,3 +88,5 @@ impl Listing for Train {
 impl Formed for Train {
     type Form = Listed;
 }
+
+const _: () = prove!(size_of::<Train>() <= Train::COST);

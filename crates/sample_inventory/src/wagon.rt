@@ -176,3 +176,5 @@ impl Listing for Wagon {
 impl Formed for Wagon {
     type Form = Listed;
 }
+
+const _: () = prove!(size_of::<Wagon>() <= Wagon::COST);

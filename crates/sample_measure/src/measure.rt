@@ -156,6 +156,8 @@ impl Formed for Measure {
     type Form = Listed;
 }
 
+const _: () = prove!(size_of::<Measure>() <= Measure::COST);
+
 impl Required for Measure {
     ghost initialized = { λ m. is_some m.station && ⟦<Option<Spot> as Required>⟧.initialized m.spot &&
         ⟦<Vec<Spot> as Required>⟧.initialized m.nearby };

@@ -95,6 +95,8 @@ impl Formed for Spot {
     type Form = Listed;
 }
 
+const _: () = prove!(size_of::<Spot>() <= Spot::COST);
+
 impl Required for Spot {
     ghost initialized = { λ m. is_some m.latitude && is_some m.longitude };
 

@@ -154,3 +154,5 @@ impl Listing for Explicit {
 impl Formed for Explicit {
     type Form = Listed;
 }
+
+const _: () = prove!(size_of::<Explicit>() <= Explicit::COST);

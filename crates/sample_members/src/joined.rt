@@ -154,3 +154,5 @@ impl Listing for Joined {
 impl Formed for Joined {
     type Form = Listed;
 }
+
+const _: () = prove!(size_of::<Joined>() <= Joined::COST);

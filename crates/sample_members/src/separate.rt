@@ -152,3 +152,5 @@ impl Listing for Separate {
 impl Formed for Separate {
     type Form = Listed;
 }
+
+const _: () = prove!(size_of::<Separate>() <= Separate::COST);

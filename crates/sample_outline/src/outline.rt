@@ -176,3 +176,5 @@ impl SelfListing for Outline {
 impl Formed for Outline {
     type Form = SelfListed;
 }
+
+const _: () = prove!(size_of::<Outline>() <= Outline::COST);

@@ -79,3 +79,5 @@ impl Listing for Spot {
 impl Formed for Spot {
     type Form = Listed;
 }
+
+const _: () = prove!(size_of::<Spot>() <= Spot::COST);

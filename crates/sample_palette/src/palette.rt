@@ -181,3 +181,5 @@ impl Listing for Palette {
 impl Formed for Palette {
     type Form = Listed;
 }
+
+const _: () = prove!(size_of::<Palette>() <= Palette::COST);

@@ -102,3 +102,5 @@ impl Listing for Swatch {
 impl Formed for Swatch {
     type Form = Listed;
 }
+
+const _: () = prove!(size_of::<Swatch>() <= Swatch::COST);

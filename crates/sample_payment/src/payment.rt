@@ -97,3 +97,5 @@ impl Listing for Payment {
 impl Formed for Payment {
     type Form = Listed;
 }
+
+const _: () = prove!(size_of::<Payment>() <= Payment::COST);

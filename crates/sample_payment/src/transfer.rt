@@ -86,3 +86,5 @@ impl Listing for Transfer {
 impl Formed for Transfer {
     type Form = Listed;
 }
+
+const _: () = prove!(size_of::<Transfer>() <= Transfer::COST);

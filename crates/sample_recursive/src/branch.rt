@@ -117,3 +117,5 @@ impl SelfListing for Branch {
 impl Formed for Branch {
     type Form = SelfListed;
 }
+
+const _: () = prove!(size_of::<Branch>() <= Branch::COST);

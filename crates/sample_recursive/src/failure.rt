@@ -118,3 +118,5 @@ impl SelfListing for Failure {
 impl Formed for Failure {
     type Form = SelfListed;
 }
+
+const _: () = prove!(size_of::<Failure>() <= Failure::COST);

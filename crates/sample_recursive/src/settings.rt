@@ -120,3 +120,5 @@ impl SelfListing for Settings {
 impl Formed for Settings {
     type Form = SelfListed;
 }
+
+const _: () = prove!(size_of::<Settings>() <= Settings::COST);

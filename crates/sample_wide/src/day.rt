@@ -1157,3 +1157,5 @@ impl Listing for Day {
 impl Formed for Day {
     type Form = Listed;
 }
+
+const _: () = prove!(size_of::<Day>() <= Day::COST);

@@ -1,8 +1,6 @@
-//! A message of more than sixty members, which are read and written in blocks. All but the tests is what the plugin
+//! A message of more than sixty members, which are read and written in blocks. This is what the plugin
 //! `tools/protoc-gen-buffa` made of `day.proto`.
 #![tactic(auto)]
 
 pub mod day;
 pub mod place;
-#[cfg(test)]
-mod tests;

@@ -86,3 +86,5 @@ impl Listing for Place {
 impl Formed for Place {
     type Form = Listed;
 }
+
+const _: () = prove!(size_of::<Place>() <= Place::COST);

@@ -228,3 +228,5 @@ impl SelfListing for DescriptorProto {
 impl Formed for DescriptorProto {
     type Form = SelfListed;
 }
+
+const _: () = prove!(size_of::<DescriptorProto>() <= DescriptorProto::COST);

@@ -100,3 +100,7 @@ impl Listing for DescriptorProtoExtensionRange {
 impl Formed for DescriptorProtoExtensionRange {
     type Form = Listed;
 }
+
+const _: () = prove!(
+    size_of::<DescriptorProtoExtensionRange>() <= DescriptorProtoExtensionRange::COST
+);

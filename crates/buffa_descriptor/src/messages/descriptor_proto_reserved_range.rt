@@ -87,3 +87,7 @@ impl Listing for DescriptorProtoReservedRange {
 impl Formed for DescriptorProtoReservedRange {
     type Form = Listed;
 }
+
+const _: () = prove!(
+    size_of::<DescriptorProtoReservedRange>() <= DescriptorProtoReservedRange::COST
+);

@@ -134,3 +134,5 @@ impl Listing for EnumDescriptorProto {
 impl Formed for EnumDescriptorProto {
     type Form = Listed;
 }
+
+const _: () = prove!(size_of::<EnumDescriptorProto>() <= EnumDescriptorProto::COST);

@@ -87,3 +87,7 @@ impl Listing for EnumDescriptorProtoEnumReservedRange {
 impl Formed for EnumDescriptorProtoEnumReservedRange {
     type Form = Listed;
 }
+
+const _: () = prove!(
+    size_of::<EnumDescriptorProtoEnumReservedRange>() <= EnumDescriptorProtoEnumReservedRange::COST
+);

@@ -102,3 +102,5 @@ impl ExtensionSet for EnumOptions {
 
     ghost with_fields_twice = { λ m w u. refl };
 }
+
+const _: () = prove!(size_of::<EnumOptions>() <= EnumOptions::COST);

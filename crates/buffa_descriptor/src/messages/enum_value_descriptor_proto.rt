@@ -101,3 +101,5 @@ impl Listing for EnumValueDescriptorProto {
 impl Formed for EnumValueDescriptorProto {
     type Form = Listed;
 }
+
+const _: () = prove!(size_of::<EnumValueDescriptorProto>() <= EnumValueDescriptorProto::COST);

@@ -101,3 +101,5 @@ impl ExtensionSet for ExtensionRangeOptions {
 
     ghost with_fields_twice = { λ m w u. refl };
 }
+
+const _: () = prove!(size_of::<ExtensionRangeOptions>() <= ExtensionRangeOptions::COST);

@@ -184,3 +184,5 @@ impl Listing for FieldDescriptorProto {
 impl Formed for FieldDescriptorProto {
     type Form = Listed;
 }
+
+const _: () = prove!(size_of::<FieldDescriptorProto>() <= FieldDescriptorProto::COST);

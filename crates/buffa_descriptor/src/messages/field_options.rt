@@ -105,3 +105,5 @@ impl ExtensionSet for FieldOptions {
 
     ghost with_fields_twice = { λ m w u. refl };
 }
+
+const _: () = prove!(size_of::<FieldOptions>() <= FieldOptions::COST);

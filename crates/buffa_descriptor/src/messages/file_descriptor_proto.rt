@@ -202,3 +202,5 @@ impl Listing for FileDescriptorProto {
 impl Formed for FileDescriptorProto {
     type Form = Listed;
 }
+
+const _: () = prove!(size_of::<FileDescriptorProto>() <= FileDescriptorProto::COST);

@@ -80,3 +80,5 @@ impl Listing for FileDescriptorSet {
 impl Formed for FileDescriptorSet {
     type Form = Listed;
 }
+
+const _: () = prove!(size_of::<FileDescriptorSet>() <= FileDescriptorSet::COST);

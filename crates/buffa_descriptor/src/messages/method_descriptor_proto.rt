@@ -125,3 +125,5 @@ impl Listing for MethodDescriptorProto {
 impl Formed for MethodDescriptorProto {
     type Form = Listed;
 }
+
+const _: () = prove!(size_of::<MethodDescriptorProto>() <= MethodDescriptorProto::COST);

@@ -102,3 +102,5 @@ impl ExtensionSet for MethodOptions {
 
     ghost with_fields_twice = { λ m w u. refl };
 }
+
+const _: () = prove!(size_of::<MethodOptions>() <= MethodOptions::COST);

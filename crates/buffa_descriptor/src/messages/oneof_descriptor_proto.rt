@@ -89,3 +89,5 @@ impl Listing for OneofDescriptorProto {
 impl Formed for OneofDescriptorProto {
     type Form = Listed;
 }
+
+const _: () = prove!(size_of::<OneofDescriptorProto>() <= OneofDescriptorProto::COST);

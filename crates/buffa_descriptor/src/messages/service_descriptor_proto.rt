@@ -108,3 +108,5 @@ impl Listing for ServiceDescriptorProto {
 impl Formed for ServiceDescriptorProto {
     type Form = Listed;
 }
+
+const _: () = prove!(size_of::<ServiceDescriptorProto>() <= ServiceDescriptorProto::COST);

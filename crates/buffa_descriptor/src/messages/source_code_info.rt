@@ -86,3 +86,5 @@ impl Listing for SourceCodeInfo {
 impl Formed for SourceCodeInfo {
     type Form = Listed;
 }
+
+const _: () = prove!(size_of::<SourceCodeInfo>() <= SourceCodeInfo::COST);

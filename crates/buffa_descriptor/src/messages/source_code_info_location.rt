@@ -118,3 +118,5 @@ impl Listing for SourceCodeInfoLocation {
 impl Formed for SourceCodeInfoLocation {
     type Form = Listed;
 }
+
+const _: () = prove!(size_of::<SourceCodeInfoLocation>() <= SourceCodeInfoLocation::COST);

@@ -95,3 +95,5 @@ impl Listing for ErrorInfo {
 impl Formed for ErrorInfo {
     type Form = Listed;
 }
+
+const _: () = prove!(size_of::<ErrorInfo>() <= ErrorInfo::COST);

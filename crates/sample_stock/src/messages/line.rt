@@ -86,3 +86,5 @@ impl Listing for Line {
 impl Formed for Line {
     type Form = Listed;
 }
+
+const _: () = prove!(size_of::<Line>() <= Line::COST);

@@ -107,3 +107,5 @@ impl Listing for Order {
 impl Formed for Order {
     type Form = Listed;
 }
+
+const _: () = prove!(size_of::<Order>() <= Order::COST);

@@ -110,3 +110,5 @@ impl SelfListing for Place {
 impl Formed for Place {
     type Form = SelfListed;
 }
+
+const _: () = prove!(size_of::<Place>() <= Place::COST);

@@ -86,3 +86,5 @@ impl Listing for Stock {
 impl Formed for Stock {
     type Form = Listed;
 }
+
+const _: () = prove!(size_of::<Stock>() <= Stock::COST);

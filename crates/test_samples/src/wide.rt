@@ -1,7 +1,7 @@
 //! Days are read, sized and written. The bytes were worked out by hand, from the protobuf encoding guide.
 
-use crate::day::Day;
 use buffa_fields::{Blank, DecodeError, Message, SizeCache};
+use sample_wide::day::Day;
 use std::test::Fail;
 
 // The station "a", on day 20,000; -0.5 degrees at four; 0.3 mm of rain at nought; a wind of 0.7 m/s at 23; a place; the remark
