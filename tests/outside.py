@@ -18,6 +18,9 @@ import subprocess
 import sys
 import tempfile
 
+sys.dont_write_bytecode = True
+from rules import varint_encoding
+
 TOP = os.path.dirname(os.path.dirname(os.path.abspath(__file__)))
 CRATE = f"{TOP}/crates/buffamap"
 USAGE = b"usage: buffamap read N | write N | rewrite N | item | ext N | again node | again set\n"
@@ -26,6 +29,8 @@ NO_MEMORY = (b"fault OutOfMemory\n", b"", 4)
 CLOSED = "closed"
 # where a file ends that takes so many bytes and no more
 LIMIT = 1 << 16
+# the bytes of stack in which a hundred messages, one in the other, are read, written and dropped
+STACK = 1 << 18
 SECONDS = 20
 
 # Rows of the table whose streams fail behind each of their bytes.
@@ -87,16 +92,18 @@ def examples():
     return found
 
 
-def begin(shut, limited):
-    """In the new process: closes streams, and lets files take no byte behind LIMIT."""
+def begin(shut, limited, stack=None):
+    """In the new process: closes streams, lets files take no byte behind LIMIT, and gives it so much stack."""
     for it in shut:
         os.close(it)
+    if stack:
+        resource.setrlimit(resource.RLIMIT_STACK, (stack, stack))
     if limited:
         signal.signal(signal.SIGXFSZ, signal.SIG_IGN)
         resource.setrlimit(resource.RLIMIT_FSIZE, (LIMIT, LIMIT))
 
 
-def call(program, words, given=b"", reader=None, output=None, errors=None, env=None, fds=(), limited=False):
+def call(program, words, given=b"", reader=None, output=None, errors=None, env=None, fds=(), limited=False, stack=None):
     """Runs the program once, and returns its output, its errors and its status. A stream that is no pipe gives b""."""
     opened, streams, shut = [], [], []
     for number, it in enumerate((reader, output, errors)):
@@ -110,7 +117,7 @@ def call(program, words, given=b"", reader=None, output=None, errors=None, env=N
         else:
             opened.append(os.open(it.path, it.flags))
             streams.append(opened[-1])
-    close = functools.partial(begin, shut, limited) if shut or limited else None
+    close = functools.partial(begin, shut, limited, stack) if shut or limited or stack else None
     words = (words.split(" ") if words else []) if isinstance(words, str) else words
     try:
         started = subprocess.Popen([program, *words], stdin=streams[0], stdout=streams[1], stderr=streams[2], env=env or {}, pass_fds=fds, preexec_fn=close)
@@ -301,6 +308,23 @@ def slow_streams(program, room, seen):
     return len(rows_of("program.tsv"))
 
 
+def nested(levels):
+    """So many nodes, one in the other, each as the entry 1 of the one around it."""
+    node = b""
+    for _ in range(levels):
+        entry = b"\x08\x01\x12" + varint_encoding(len(node)) + node
+        node = b"\x12" + varint_encoding(len(entry)) + entry
+    return node.hex().encode()
+
+
+def small_stacks(program, room, seen):
+    """As many levels as are read, in little stack, and one more."""
+    for levels, wanted in ((100, (nested(100) + b"\n", b"", 0)), (101, (b"fault RecursionLimitExceeded\n", b"", 1))):
+        got = call(program, "again node", nested(levels), stack=STACK)
+        seen.compare(f"again node, of {levels} levels, in {STACK} bytes of stack", got, wanted)
+    return 2
+
+
 def pieces(program, room, seen):
     """Ten thousand lines through a pipe in pieces of many sizes, and back."""
     lines = [b"%08x %d\n" % (i * 2654435761 % 2**28 & 0x7F7F7F7F, i - 5000) for i in range(10000)]
@@ -376,7 +400,7 @@ def runs_of(task):
 
 
 def main():
-    groups = [answers, wrong_words, failed_reads, failed_writes, pieces]
+    groups = [answers, wrong_words, failed_reads, failed_writes, small_stacks, pieces]
     shimmed = [refusals, failures_once, short_writes, slow_streams]
     failed = 0
     with tempfile.TemporaryDirectory(prefix="outside-") as room, multiprocessing.Pool() as pool:
