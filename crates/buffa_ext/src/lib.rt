@@ -1,4 +1,19 @@
 //! Extensions: typed values in the unknown fields of a message.
+//!
+//! An [`Extension`] is declared by its codec, its number and the full name of the message that it extends. A message is an
+//! [`ExtensionSet`], whose calls read and write extensions. A caller, of an Item of a MessageSet:
+//!
+//! ```ignore
+//! let ext = Extension::<MessageCodec<Stock>>::new(1000, SetMsg::PROTO_FQN);
+//! set.set_extension(alloc, &ext, stock)?;
+//! ```
+//!
+//! Calls | What for
+//! ---|---
+//! [`Extension`], [`Declared`] | A number, a codec, the extendee, and a default where one is declared.
+//! [`ExtensionSet`] | `has_extension`, `extension`, `read_extension`, `extension_or_default`, `set_extension`, `clear_extension`.
+//! [`MessageCodec`], [`GroupCodec`] | Codecs of messages and groups; those of all else are of `buffa_codec`, and re-exported.
+//! [`replay`], [`Step`] | The accepted history of a number, one step after the other.
 #![tactic(auto)]
 
 pub mod back;

@@ -7,6 +7,17 @@
 //! Read: records from the buffer (`run`), of each its entry (`entry`), of that its fields (`entry_fields`), by the codecs of
 //! key and value (`codec`, `codecs`, `message`); and the pair is put into a storage (`storage`). Written:
 //! from a walk of a storage by way of a size (`size`) into an encoding (`write`).
+//!
+//! A caller, of a field of number 5 that is a `map<string, int32>`:
+//!
+//! ```ignore
+//! let mut counts = BTreeMap::new(alloc);
+//! let mut budget = Budget::new(0);
+//! let ctx = DecodeContext::new(RECURSION_LIMIT, &mut budget);
+//! let mut rest = bytes;
+//! read_map_field::<Str, Int32, _, _>(alloc, &mut counts, 5, &mut rest, ctx, None)?;
+//! Ok(counts)
+//! ```
 #![tactic(auto)]
 
 mod codec;

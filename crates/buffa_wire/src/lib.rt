@@ -1,5 +1,22 @@
 //! The wire layer, on `buffa_bytes`, which it re-exports: the budgets and contexts that a reader hands on to what it
 //! calls, the unknown fields that are kept, scalars, enums and messages.
+//!
+//! A caller, which reads a message of at most twenty levels under limits of its own:
+//!
+//! ```ignore
+//! let limits = Budget::new(1_000).with_element_memory(1_000_000);
+//! Swatch::decode_within(alloc, bytes, 20, limits)
+//! ```
+//!
+//! Calls | What for
+//! ---|---
+//! [`Decode`] | A message of bytes, under default limits or yours, or only where the bytes are its encoding.
+//! [`Message`] | What each message type has: `merge` and its kin, `compute_size`, `write_to`, `try_encode_to_vec`, `clear`.
+//! [`Budget`], [`DecodeContext`] | How many unknown fields and how much memory may be taken, and how deep messages nest.
+//! [`UnknownFields`], [`UnknownField`], [`decode_unknown_field`] | Fields that nobody declared: kept, copied, written again.
+//! [`Enumeration`], [`EnumValue`] | An enum of yours, closed and open.
+//! [`Scalar`], [`Form`] | The scalar types, and how each is spelled in a payload.
+//! [`SizeCache`] | Sizes of inner messages, which the size pass leaves for the write pass.
 #![tactic(auto)]
 
 pub mod budget;
