@@ -45,7 +45,7 @@ no_varint bs f h = at (varint_at bs) refl h
     at (Ok x) is h = cc
     at (Err g) is h = is ∙ ap (λ z. Err z) (err_same h)
 
--- a fault of a varint is no limit's, and not that memory ran out
+-- a fault of a varint is none of a budget's, and not that memory ran out
 fault_is : (d n : ℕ) (bs : List ℕ) (f : DecodeError) → varint_at bs ≡ Err f → skip_at d n Varint bs ≡ Err f
 fault_is d n bs f h = rw h refl
 

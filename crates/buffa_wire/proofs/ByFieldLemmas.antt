@@ -21,7 +21,7 @@ some_of (Ok x) w h = cc
 some_of (Err e) w h = cc
 
 -- ---- what one field owes
--- its reading takes a payload of the grammar, or tells a fault that is no limit's
+-- its reading takes a payload of the grammar, or tells a fault that is none of a budget's
 abbrev pub IsSound : {X : Type 0} → ℕ → FieldReader X → Type 0
 IsSound {X} d field = (v : X) (n : ℕ) (w : WireType) (bs : List ℕ) → Agrees (field v n w bs) (λ x. (p : List ℕ) × Payload d n w p × (bs ≡ p ++ x.1)) NoLimit
 

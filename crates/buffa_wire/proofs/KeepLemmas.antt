@@ -83,7 +83,7 @@ pub records_told : (d s : ℕ) (bs : List ℕ) (e : DecodeError) → RecordsFaul
 records_told d s bs e (rs, left, rest, taken, some, h) =
     told_so e (left < length rest) (s < length bs) (in_next (GroupRecordsFault d) (group_told d) (λ m. ⊥) left rest e h) (behind_fields d s left bs rest rs taken)
 
--- a fault other than that no unknown field is left is no limit's
+-- a fault other than that no unknown field is left is none of a budget's
 pub other_limit : (d s n : ℕ) (w : WireType) (bs : List ℕ) (e : DecodeError) → FieldFault d s n w bs e → e ≢ error.UnknownFieldLimitExceeded → NoLimit e
 other_limit d s n w bs e h ne = elim (field_told d s n w bs e h) [ inl b ↦ no_limit e b | inr k ↦ absurd (ne k.0) ]
 

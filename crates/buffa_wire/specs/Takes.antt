@@ -62,7 +62,7 @@ abbrev pub Untaken : {X : Type 0} → Taker X → ℕ → X → ℕ → WireType
 Untaken takes d v n w bs = (p rest : List ℕ) → Payload d n w p → bs ≡ p ++ rest → takes d v n w p ≡ None
 
 -- Accepted: a payload at the front makes new of old, exactly its need is spent, and rest follows. Refused: at most its need is spent;
--- and memory ran out, not at an end tag; or the need isn't left; or no payload at the front is taken, and the error is no limit's.
+-- and memory ran out, not at an end tag; or the need isn't left; or no payload at the front is taken, and the error is none of a budget's.
 abbrev pub IsTaken : {X T : Type 0} → Taker X → Need → ℕ → X → ℕ → WireType → List ℕ → BudgetLeft → Result T DecodeError → X → BudgetLeft → List ℕ → Type 0
 IsTaken takes need d old n w bs before r new after rest =
     MatchResult r

@@ -90,7 +90,7 @@ enough left cost h (inl x) = omega (arith, x)
 enough left cost h (inr x) = omega (arith, h, x)
 
 module _ {K V : Type 0} (key : Reading K) (val : Reading V) (d n cost extra : ℕ) (plain : (e : List ℕ) → need_of key val d cost e ≡ units cost) where
-  -- a fault that is no limit's is one whatever is left
+  -- a fault that is none of a budget's is one whatever is left
   entry_limit : (left other : BudgetLeft) (bs : List ℕ) (f : DecodeError) → EntryFault key val d cost extra left bs f → IsLimit f ⊎ EntryFault key val d 0 0 other bs f
   entry_limit left other bs f (inl h) = inr (inl h)
   entry_limit left other bs f (inr (e, rest, t, inl h)) = inl (subst IsLimit (sym h.1) tt)
