@@ -421,7 +421,7 @@ def write_message(world, message, messages, enums):
     else:
         made += listed_form(message, messages)
     made += extension_set(message) if message.it.extension_range else []
-    made += takes_its_cost(message)
+    made += [] if message.has_told_cost(messages) else takes_its_cost(message)
     return "\n".join(made + required.initialized(message) + getters(message, enums)) + "\n"
 
 
