@@ -19,3 +19,5 @@ mod payment;
 mod settings;
 #[cfg(test)]
 mod stock;
+#[cfg(test)]
+mod task;
