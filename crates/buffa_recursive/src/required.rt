@@ -15,14 +15,15 @@ use std::collections::BTreeMap;
 /// impl SelfAsked for Task { .. }
 /// ```
 pub trait SelfAsked {
-    /// What holds itself.
+    /// The message, as `Laid` has it.
     ghost tree: { Laying Self };
 
-    /// What is asked of a message and of those of its type in it.
+    /// What is asked of a message with those of its type in it, and of those in a member.
     ghost asking: { AskingOf tree };
 }
 
-/// What asks the messages inside.
+/// What asks the messages inside a message of the same type. A type's [`is_initialized_by`](SelfRequired::is_initialized_by) is
+/// passed it, and hands it on.
 pub trait SelfAsker<M: SelfAsked> {
     /// It may ask messages that are lower than this.
     ghost Reaches: { ℕ → Self → Type 0 };
@@ -33,19 +34,27 @@ pub trait SelfAsker<M: SelfAsked> {
         ensures { result ≡ M.asking.whole message.now };
 }
 
-/// A message that holds itself, and in which something is required.
+/// A message that holds itself, and in which something is required, of itself or of messages of other types in it.
 ///
 /// ```ignore
 /// impl SelfRequired for Task { .. }
 /// ```
 pub trait SelfRequired: SelfAsked {
-    /// Whether all that is required is there; messages of its own type are asked by `inner`.
+    /// Whether all that is required is there. The messages in a member of its own type are asked by `inner`.
+    ///
+    /// ```ignore
+    /// self.title.is_some() & list_initialized(&self.parts, inner)
+    /// ```
     fn is_initialized_by<A: SelfAsker<Self>>(&self, inner: &A) -> bool
         requires { A.Reaches (Self.tree.height self.now) inner.now }
         ensures { result ≡ Self.asking.whole self.now };
 }
 
 /// Whether all that is required is there, in each message of a list.
+///
+/// ```ignore
+/// list_initialized(&self.parts, inner)
+/// ```
 #[tactic(auto, using(crate::proofs::InitializedLemmas::listed_lacks))]
 pub fn list_initialized<M: SelfAsked, A: SelfAsker<M>>(list: &Vec<M>, inner: &A) -> bool
     requires { (h : ℕ) × (M.tree.children_height (M.tree.of_list list.now.items) < h) × A.Reaches h inner.now }
@@ -59,7 +68,11 @@ pub fn list_initialized<M: SelfAsked, A: SelfAsker<M>>(list: &Vec<M>, inner: &A)
     true
 }
 
-/// Whether all that is required is there, in a message that may be there.
+/// Whether all that is required is there, in a message that may be there: so it is where none is.
+///
+/// ```ignore
+/// one_initialized(&self.before, inner)
+/// ```
 pub fn one_initialized<M: SelfAsked, A: SelfAsker<M>>(one: &Option<Box<M>>, inner: &A) -> bool
     requires { (h : ℕ) × (M.tree.maybe_height (M.tree.of_option (option_map (λ b. b.value) one.now)) < h)
         × A.Reaches h inner.now }
@@ -72,6 +85,10 @@ pub fn one_initialized<M: SelfAsked, A: SelfAsker<M>>(one: &Option<Box<M>>, inne
 }
 
 /// Whether all that is required is there, in each message of a map.
+///
+/// ```ignore
+/// map_initialized(&self.by_day, inner)
+/// ```
 #[tactic(auto, using(crate::proofs::InitializedLemmas::mapped_all))]
 pub fn map_initialized<K: Blank + Ord, M: SelfAsked, A: SelfAsker<M>>(
     map: &BTreeMap<K, M>,
@@ -115,6 +132,10 @@ fn initialized_by<M: SelfRequired, F: Fn(&M) -> bool>(message: &M, ask: F) -> bo
 }
 
 /// Whether all that is required is there, in a message and in each message of its type in it, at any depth.
+///
+/// ```ignore
+/// tree_initialized(self)
+/// ```
 pub fn tree_initialized<M: SelfRequired>(message: &M) -> bool
     ensures { result ≡ M.asking.whole message.now }
 {
