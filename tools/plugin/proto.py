@@ -32,7 +32,7 @@ SCALARS = {
 REALS = (Field.TYPE_FLOAT, Field.TYPE_DOUBLE)
 # Calls of a message, which a getter would hide.
 CALLS = set(
-    "blank clear compute_size extendee_name is_initialized merge merge_field merge_from_slice merge_length_delimited take the_row try_encode_to_vec "
+    "blank clear compute_size extendee_name is_initialized is_initialized_by meaning_initialized merge merge_field merge_from_slice merge_length_delimited take the_row try_encode_to_vec "
     "unknown_fields unknown_fields_mut visit write_to TheLaws".split()
 )
 # As many members of a message that holds itself are proved, and as many of one in blocks.

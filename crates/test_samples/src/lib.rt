@@ -20,4 +20,8 @@ mod settings;
 #[cfg(test)]
 mod stock;
 #[cfg(test)]
+<<<<<<< HEAD
 mod wide;
+=======
+mod task;
+>>>>>>> 078f98030c2b389676bd5561562111f40e2041dc
