@@ -20,8 +20,6 @@ mod settings;
 #[cfg(test)]
 mod stock;
 #[cfg(test)]
-<<<<<<< HEAD
-mod wide;
-=======
 mod task;
->>>>>>> 078f98030c2b389676bd5561562111f40e2041dc
+#[cfg(test)]
+mod wide;
