@@ -238,7 +238,7 @@ declare("palette", 256, [
 ], True)
 declare("branch", 96, [(1, "plain", "string"), (2, "repeated", "int32"), (3, "repeated", "branch")], True)
 declare("settings", 96, [(1, "plain", "string"), (2, "ordered", ("string", "settings")), (3, "repeated", "int32")], True)
-declare("failure", 80, [(1, "plain", "string"), (2, "optional", "failure"), (3, "repeated", "int32")], True)
+declare("failure", 88, [(1, "plain", "string"), (2, "optional", "failure"), (3, "repeated", "int32")], True)
 declare("transfer", 56, [(1, "plain", "string"), (2, "plain", "int32")], True)
 declare("payment", 128, [
     (1, "plain", "int32"), (2, "case", "string"), (3, "case", "int32"), (4, "case", "transfer"), (5, "plain", "string"),

@@ -22,7 +22,8 @@ MOST_THERE, MOST_BYTES_OF_VARINT = 5, 10
 
 class Input(NamedTuple):
     """Bytes for a message, and what they are read as here and by Google's: other bytes, or None where they have to be refused. What
-    isn't told is read alike, or refused by both. `kept` is written behind here, and `cut` by Google's in its place."""
+    isn't told is read alike, or refused by both. `kept` is written behind here, and `cut` by Google's in its place, but `again` where
+    it reads what is written here."""
 
     name: str
     kind: str
@@ -32,6 +33,7 @@ class Input(NamedTuple):
     there: Optional[bytes] = None
     kept: bytes = b""
     cut: bytes = b""
+    again: bytes = b""
 
 
 def varint(number):
@@ -323,10 +325,11 @@ def cut(number):
 
 
 class Wide:
-    """Records with numbers of 64 bits for the enums of a message: what they are read as, and what is kept of them, whole or cut."""
+    """Records with numbers of 64 bits for the enums of a message: what they are read as, and what is kept of them, whole, or cut as
+    Google's does, which cuts no packed ones, nor is any packed when it is written again."""
 
     def __init__(self, chance, kind):
-        self.chance, self.encoding, self.here, self.kept, self.cut = chance, b"", b"", b"", b""
+        self.chance, self.encoding, self.here, self.kept, self.cut, self.again = chance, b"", b"", b"", b"", b""
         for field in kind.fields:
             if field.enum_type and (is_closed(field) or is_open(field)) and chance.random() < 0.6:
                 self.add(field)
@@ -344,6 +347,7 @@ class Wide:
             else:
                 self.kept += tag + varint(number)
                 self.cut += tag + varint(number if is_packed else left)
+                self.again += tag + varint(left)
 
     def number(self, field):
         """A number of 64 bits, of which the lower 32 are by chance those of a declared one."""
@@ -404,5 +408,6 @@ class Inputs:
     def numbers(self, it):
         before, behind = Wide(self.chance, self.kind), Wide(self.chance, self.kind)
         if before.encoding or behind.encoding:
-            here, kept, left = before.here + it + behind.here, before.kept + behind.kept, before.cut + behind.cut
-            yield Input(self.name, "numbers", before.encoding + it + behind.encoding, True, here, here, kept, left)
+            here, made = before.here + it + behind.here, before.encoding + it + behind.encoding
+            kept = (before.kept + behind.kept, before.cut + behind.cut, before.again + behind.again)
+            yield Input(self.name, "numbers", made, True, here, here, *kept)

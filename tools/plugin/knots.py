@@ -142,10 +142,10 @@ def layers(message):
     return {layer(k).split()[0] for k in message.members} | {"knotted", "keeps" if message.is_keeping else "skips"}
 
 
-def head(message):
+def head(message, asked):
     """What the file of a message cites besides: its members, and what it has of its own where a clause reads that."""
-    reads = {"rest_of"} if message.asked or any(k.has_getter for k in message.members) else set()
-    return [f"ghost use {TERMS_INSIDE}.{{{', '.join(ordered(layers(message) | reads))}}};"]
+    reads = {"rest_of"} if any(k.has_getter for k in message.members) else set()
+    return [f"ghost use {TERMS_INSIDE}.{{{', '.join(ordered(layers(message) | reads | asked))}}};"]
 
 
 def laid(message, cost):

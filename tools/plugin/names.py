@@ -34,6 +34,8 @@ MODULE = {
     **{it: "buffa_fields" for it in "RepeatedNested Required Set Tag UnknownFields Visitor case_reads_back kept visit_one_of".split()},
     **{it: "buffa_recursive" for it in "ByKey Keyed Laid SelfFields SelfListed SelfListing SelfMerger SelfVisitor".split()},
     **{it: "buffa_recursive" for it in "take_list take_map take_one take_one_of".split()},
+    **{it: "buffa_recursive" for it in "RequiredCases RequiredMeaning RequiredMember SelfAsked SelfAsker SelfRequired".split()},
+    **{it: "buffa_recursive" for it in "list_initialized map_initialized one_initialized tree_initialized".split()},
     "ExtensionSet": "buffa_ext",
     "Bytes": "bytes",
     "Global": "std::alloc",

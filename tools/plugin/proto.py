@@ -32,7 +32,7 @@ SCALARS = {
 REALS = (Field.TYPE_FLOAT, Field.TYPE_DOUBLE)
 # Calls of a message, which a getter would hide.
 CALLS = set(
-    "blank clear compute_size extendee_name is_initialized merge merge_field merge_from_slice merge_length_delimited take the_row try_encode_to_vec "
+    "blank clear compute_size extendee_name is_initialized is_initialized_by meaning_initialized merge merge_field merge_from_slice merge_length_delimited take the_row try_encode_to_vec "
     "unknown_fields unknown_fields_mut visit write_to TheLaws".split()
 )
 # As many members of a message that holds itself are proved, and as many of one in blocks.
@@ -150,7 +150,7 @@ class Member:
             return SCALARS[Field.TYPE_BYTES] + (False,)
         if it.type == Field.TYPE_BYTES and "shared" in self.told:
             self.needs |= {"BytesBuf", "Bytes"}
-            return "BytesBuf", "Bytes", "[u8; 0]", 32, "Bytes::new()", False
+            return "BytesBuf", "Bytes", "[u8; 0]", 40, "Bytes::new()", False
         if it.type != Field.TYPE_ENUM:
             made = SCALARS[it.type]
             self.needs |= {made[0]} | ({"String"} if made[0] == "Str" else set()) | ({made[1]} if it.type in REALS else set())
@@ -213,7 +213,7 @@ class Member:
         else:
             self.itself = "one"
             self.needs |= {"take_one"}
-            self.rust, self.cost, self.blank = f"Option<Box<{name}>>", 8, "None"
+            self.rust, self.cost, self.blank = f"Option<Box<{name}>>", 16, "None"
 
     def as_message(self):
         name = self.world.type_of(self.field, self.it.type_name)
@@ -398,6 +398,13 @@ class Message:
         if self.name.full in self.world.costs:
             return self.world.costs[self.name.full]
         return sum(k.cost_of(messages) for k in self.members) + 24 * self.is_keeping or 8
+
+    def has_told_cost(self, messages):
+        """Whether its cost is told, or that of a message that stands in it."""
+        cases = [(it, it.cost_alone) for k in self.members for it in getattr(k, "cases", [])]
+        cases += [(k, k.cost) for k in self.members if not hasattr(k, "cases")]
+        inside = [messages[k.inside[-1]] for k, cost in cases if not cost]
+        return self.name.full in self.world.costs or any(it.has_told_cost(messages) for it in inside)
 
 
 class Variants:

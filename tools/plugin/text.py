@@ -229,7 +229,7 @@ def names_of(message, fields):
     names = names.union(*[k.needs for k in members])
     names |= {"UnknownFields"} if message.is_keeping else set()
     names |= {"ExtensionSet"} if message.it.extension_range else set()
-    names |= {"Required"} if message.asked else set()
+    names |= required.names_of(message)
     names |= {"Member"} if fields else set()
     if message.holds_itself:
         names |= {"take_one_of"} if message.oneofs else set()
@@ -259,7 +259,7 @@ def head_of_message(world, message, enums):
     made += ["ghost use Rattle.std.proofs.Common.{lit<, refl};"]
     prelude = words(message, enums) | required.words(message) | ({"codes"} if message.it.extension_range else set())
     made += [f"ghost use Rattle.std.specs.Prelude.{{{', '.join(sorted(prelude))}}};"] * bool(prelude)
-    made += knots.head(message) if message.holds_itself else layers(message, fields)
+    made += knots.head(message, required.terms(message)) if message.holds_itself else layers(message, fields)
     return made + [""] + uses(world, names_of(message, fields), {i for k in message.members for i in k.imports})
 
 
@@ -271,7 +271,8 @@ def layers(message, fields):
     found += sorted(set().union(*[blocks.words(it) for it in made]))
     found += ["keep"] if message.is_keeping else ["skip"]
     found += ["one_of"] * any(isinstance(k, oneof.OneOf) for k in pieces)
-    return [f"ghost use {TERMS}.{{{', '.join(found)}}};"]
+    asked = ordered(required.terms(message))
+    return [f"ghost use {TERMS}.{{{', '.join(found)}}};"] + [f"ghost use {TERMS_INSIDE}.{{{', '.join(asked)}}};"] * bool(asked)
 
 
 def struct(message):
@@ -421,7 +422,7 @@ def write_message(world, message, messages, enums):
     else:
         made += listed_form(message, messages)
     made += extension_set(message) if message.it.extension_range else []
-    made += takes_its_cost(message)
+    made += [] if message.has_told_cost(messages) else takes_its_cost(message)
     return "\n".join(made + required.initialized(message) + getters(message, enums)) + "\n"
 
 
@@ -429,12 +430,12 @@ def write_oneof(world, one, message):
     """The file of a oneof's enum."""
     module = [it for it in (world.module, snake(one.enum)) if it]
     made = [f"//! The oneof {one.field.full}, made of {message.name.file.shown} by protoc-gen-buffa.", ""]
-    made += required.head_of_enum(one) + oneof.head(one, world.crate, module)
-    needs = oneof.uses_of_enum(one) | ({"Required"} if one.asked else set())
+    made += required.head_of_enum(one, message) + oneof.head(one, world.crate, module)
+    needs = oneof.uses_of_enum(one) | required.names_of_enum(one, message)
     made += uses(world, needs, {i for k in one.cases for i in k.imports}) + [""] + oneof.enum(one, docs)
     made += [f"impl OneOf for {one.enum} {{"] + oneof.meaning(one) + [""] + oneof.cases(one) + oneof.visit(one)
     made += oneof.take(one) + oneof.reads_back(one) + ["}"] + oneof.takes_of_groups(one)
-    return "\n".join(made + required.initialized_enum(one)) + "\n"
+    return "\n".join(made + required.initialized_enum(one, message)) + "\n"
 
 
 def cases(head, parts):

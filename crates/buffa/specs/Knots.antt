@@ -1,8 +1,10 @@
 -- Words that messages that hold themselves cite, under one name: their members, and what contracts see of them.
 pub use Rattle.buffa_wire.specs.Code.{coded_datum}
 pub use Rattle.buffa_wire.specs.Records.{Datum}
-pub use Rattle.buffa_recursive.specs.MessageTree.{Knot, coded_knot, knot_height, knot_of, most-of_list, rest_of}
+pub use Rattle.buffa_recursive.specs.MessageTree.{Knot, coded_knot, head_one, knot_height, knot_of, most-of_list, option_of, rest_of, tail_slots}
 pub use Rattle.buffa_recursive.specs.MemberList.{keeps, knotted, list_inside, map_inside, member, member_kept, member_one_of, one_inside, skips}
 pub use Rattle.buffa_fields.specs.OrCode.{coded_or}
 pub use Rattle.buffa_recursive.specs.MapTree.{most-of_map}
 pub use Rattle.buffa_recursive.specs.Model.{has, has_case, has_kept, has_list, has_map, has_none, has_one, MeaningOf, CaseMeaningOf}
+pub use Rattle.buffa_recursive.specs.Initialized.{true_if_there}
+pub use Rattle.buffa_recursive.specs.Asking.{each_asked}

@@ -45,6 +45,11 @@ pub use buffa_recursive::listing::{SelfListed, SelfListing};
 pub use buffa_recursive::maps::take_map;
 pub use buffa_recursive::merger::SelfMerger;
 pub use buffa_recursive::one_of::take_one_of;
+pub use buffa_recursive::required::{
+    SelfAsked, SelfAsker, SelfRequired, list_initialized, map_initialized, one_initialized,
+    tree_initialized,
+};
+pub use buffa_recursive::required_meaning::{RequiredCases, RequiredMeaning, RequiredMember};
 pub use buffa_recursive::takes::{take_list, take_one};
 pub use buffa_recursive::visitor::SelfVisitor;
 pub use buffa_wire::Formed;

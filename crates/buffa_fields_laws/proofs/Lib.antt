@@ -6,3 +6,4 @@ pub mod RecordLemmas
 pub mod OptionLemmas
 mod BlockLemmas
 mod SpendingLemmas
+pub mod InsideLemmas

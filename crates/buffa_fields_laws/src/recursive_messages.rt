@@ -1,12 +1,15 @@
 //! What holds of messages that hold themselves: each law is a function that does nothing.
 
-ghost use Rattle.std.specs.Prelude.{◌≡◌, ◌≤◌, ℕ, Some};
+ghost use Rattle.std.specs.Prelude.{◌≡◌, ◌≤◌, ◌↔◌, Bool, ℕ, Some, true};
 ghost use Rattle.buffa_wire.specs.Parse.{Fits};
 ghost use Rattle.buffa_wire.specs.Records.{records_of};
 ghost use Rattle.buffa_fields.specs.facts.LayoutFacts.{comes_free};
 ghost use Rattle.buffa_recursive.specs.Layers.{IsNormalLaid};
 ghost use Rattle.buffa_recursive.specs.Fixpoint.{told, told_layout};
 ghost use Rattle.buffa_recursive.specs.InnerMessages.{AreExactBy, encoding_by};
+ghost use Rattle.buffa_recursive.specs.Asking.{each_asked};
+ghost use Rattle.buffa_recursive.specs.MessageTree.{Knot};
+ghost use Rattle.buffa_fields_laws.specs.MessagesInside.{IsIn};
 
 use buffa_fields::member::Member;
 use buffa_fields::one_of::OneOf;
@@ -104,4 +107,11 @@ pub fn messages_are_their_members<M: Laid>(message: &M)
         t.normal message.now → IsNormalLaid M.COST M.laying t message.now }
     ensures is_normal { let t = told M.COST M.laying M.sound in
         IsNormalLaid M.COST M.laying t message.now → t.normal message.now }
+{}
+
+/// All that is required is there in a message that holds itself exactly where each message of its type in it, at any depth, has
+/// what is asked of it.
+pub fn what_is_asked_is_asked_of_each<W>()
+    ensures { (asked : Knot W → Bool) (t : Knot W) → ((each_asked asked).whole t ≡ true)
+        ↔ ((k : Knot W) → IsIn k t → asked k ≡ true) }
 {}

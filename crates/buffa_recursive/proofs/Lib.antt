@@ -5,3 +5,4 @@ pub mod DelimitedMergeLemmas
 pub mod MemberTakeLemmas
 pub mod MessagePassLemmas
 pub mod FieldMergeLemmas
+pub mod InitializedLemmas

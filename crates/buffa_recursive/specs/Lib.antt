@@ -14,5 +14,7 @@ pub mod RefusedFields
 pub mod MapShape
 pub mod MapTree
 pub mod Model
+pub mod Initialized
+pub mod Asking
 pub mod Terms
 pub mod facts

@@ -10,3 +10,4 @@ pub mod MemberListFacts
 pub mod ExactFacts
 pub mod MapKindFacts
 pub mod MemberPassFacts
+pub mod InitializedFacts

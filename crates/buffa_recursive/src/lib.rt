@@ -18,6 +18,8 @@ pub mod merger;
 pub mod message;
 pub mod one_of;
 mod pairs;
+pub mod required;
+pub mod required_meaning;
 mod sizer;
 mod sizes;
 pub mod takes;
@@ -32,5 +34,10 @@ pub use crate::listing::{SelfListed, SelfListing};
 pub use crate::maps::take_map;
 pub use crate::merger::SelfMerger;
 pub use crate::one_of::take_one_of;
+pub use crate::required::{
+    SelfAsked, SelfAsker, SelfRequired, list_initialized, map_initialized, one_initialized,
+    tree_initialized,
+};
+pub use crate::required_meaning::{RequiredCases, RequiredMeaning, RequiredMember};
 pub use crate::takes::{take_list, take_one};
 pub use crate::visitor::SelfVisitor;

@@ -5,12 +5,15 @@ ghost use Rattle.std.specs.Prelude.{◌≡◌, IfOk, string_bytes, vec_items};
 ghost use Rattle.buffa_map.specs.Encoding.{field_encoding, field_size, saturated};
 ghost use Rattle.buffa_map.specs.Pairs.{means};
 
-use anyhow::Error;
+use anyhow::{Error, anyhow};
 use buffa_map::map_codec::{Int32, MapCodec, Str, field_len, read_map_field, write_field};
 use buffa_wire::{Budget, DecodeContext, DecodeError, EncodeError, RECURSION_LIMIT};
 use std::alloc::Global;
 use std::collections::BTreeMap;
 use std::io::Read;
+
+// As many bytes of input are refused.
+const TOO_MANY: u64 = 1 << 20;
 
 // The map whose field the bytes are, tags and all: another field is refused.
 fn counts_of(alloc: Global, bytes: &[u8]) -> Result<BTreeMap<String, i32>, DecodeError> {
@@ -40,10 +43,19 @@ fn field_of(alloc: Global, counts: &BTreeMap<String, i32>) -> Result<Vec<u8>, En
     Ok(bytes)
 }
 
+// What stands in the standard input, if it isn't too long.
+fn input_of(rt: &HostRuntime) -> Result<Vec<u8>, Error> {
+    let mut input = Vec::new(rt.alloc());
+    rt.stdin().take(TOO_MANY).read_to_end(&mut input)?;
+    if input.len() as u64 == TOO_MANY {
+        return Err(anyhow!("the input has {TOO_MANY} bytes or more"));
+    }
+    Ok(input)
+}
+
 fn main(rt: HostRuntime) -> Result<(), Error> {
     let alloc = rt.alloc();
-    let mut input = Vec::new(alloc);
-    rt.stdin().read_to_end(&mut input)?;
+    let input = input_of(&rt)?;
     let mut counts = counts_of(alloc, &input)?;
     counts.insert(String::from_str(alloc, "pears")?, 3)?;
     for (name, count) in &counts {

@@ -133,5 +133,3 @@ impl Listing for Assorted {
 impl Formed for Assorted {
     type Form = Listed;
 }
-
-const _: () = prove!(size_of::<Assorted>() <= Assorted::COST);

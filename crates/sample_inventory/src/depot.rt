@@ -85,5 +85,3 @@ impl Listing for Depot {
 impl Formed for Depot {
     type Form = Listed;
 }
-
-const _: () = prove!(size_of::<Depot>() <= Depot::COST);

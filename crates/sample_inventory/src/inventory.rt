@@ -98,5 +98,3 @@ impl Listing for Inventory {
 impl Formed for Inventory {
     type Form = Listed;
 }
-
-const _: () = prove!(size_of::<Inventory>() <= Inventory::COST);

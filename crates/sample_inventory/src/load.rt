@@ -86,5 +86,3 @@ impl Listing for Load {
 impl Formed for Load {
     type Form = Listed;
 }
-
-const _: () = prove!(size_of::<Load>() <= Load::COST);

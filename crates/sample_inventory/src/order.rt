@@ -159,5 +159,3 @@ impl Listing for Order {
 impl Formed for Order {
     type Form = Listed;
 }
-
-const _: () = prove!(size_of::<Order>() <= Order::COST);

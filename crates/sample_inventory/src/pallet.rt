@@ -98,5 +98,3 @@ impl Listing for Pallet {
 impl Formed for Pallet {
     type Form = Listed;
 }
-
-const _: () = prove!(size_of::<Pallet>() <= Pallet::COST);

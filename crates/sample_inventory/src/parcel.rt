@@ -81,5 +81,3 @@ impl Listing for Parcel {
 impl Formed for Parcel {
     type Form = Listed;
 }
-
-const _: () = prove!(size_of::<Parcel>() <= Parcel::COST);

@@ -85,5 +85,3 @@ impl Listing for Store {
 impl Formed for Store {
     type Form = Listed;
 }
-
-const _: () = prove!(size_of::<Store>() <= Store::COST);

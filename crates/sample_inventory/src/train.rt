@@ -88,5 +88,3 @@ impl Listing for Train {
 impl Formed for Train {
     type Form = Listed;
 }
-
-const _: () = prove!(size_of::<Train>() <= Train::COST);

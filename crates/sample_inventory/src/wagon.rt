@@ -176,5 +176,3 @@ impl Listing for Wagon {
 impl Formed for Wagon {
     type Form = Listed;
 }
-
-const _: () = prove!(size_of::<Wagon>() <= Wagon::COST);

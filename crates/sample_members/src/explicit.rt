@@ -154,5 +154,3 @@ impl Listing for Explicit {
 impl Formed for Explicit {
     type Form = Listed;
 }
-
-const _: () = prove!(size_of::<Explicit>() <= Explicit::COST);

@@ -139,5 +139,3 @@ impl Listing for Implicit {
 impl Formed for Implicit {
     type Form = Listed;
 }
-
-const _: () = prove!(size_of::<Implicit>() <= Implicit::COST);

@@ -17,14 +17,16 @@ mod tests;
 
 use anyhow::{Error, anyhow};
 use buffa_descriptor::{DescriptorProto, FileDescriptorSet};
-use buffa_fields::{Blank, Message, UnknownFields};
+use buffa_fields::{Decode, UnknownFields};
 use find::message_type;
 use judge::judge;
 use lines::{fault_line, field_line};
 use rules::read_rules;
-use std::alloc::Global;
 use std::env;
 use std::io::Read;
+
+// As many bytes of input are refused.
+const TOO_MANY: u64 = 1 << 20;
 
 // The words of the call: the type's full name, and a message in hexadecimal.
 fn words_of(rt: &HostRuntime) -> Result<(String, Vec<u8>), Error> {
@@ -33,16 +35,6 @@ fn words_of(rt: &HostRuntime) -> Result<(String, Vec<u8>), Error> {
         return Err(anyhow!("usage: sample_options TYPE HEX < SET"));
     };
     Ok((name, hex::decode(rt.alloc(), hex.as_str())?))
-}
-
-fn set_of(alloc: Global, bytes: &[u8]) -> Result<FileDescriptorSet, Error> {
-    let mut set = FileDescriptorSet::blank(alloc);
-    set.merge_from_slice(alloc, bytes)?;
-    let again = set.try_encode_to_vec(alloc)?;
-    if again.as_slice() != bytes {
-        return Err(anyhow!("the set isn't written as protoc writes it"));
-    }
-    Ok(set)
 }
 
 fn judge_all(
@@ -63,12 +55,21 @@ fn judge_all(
     Ok(faults)
 }
 
+// What stands in the standard input, if it isn't too long.
+fn input_of(rt: &HostRuntime) -> Result<Vec<u8>, Error> {
+    let mut input = Vec::new(rt.alloc());
+    rt.stdin().take(TOO_MANY).read_to_end(&mut input)?;
+    if input.len() as u64 == TOO_MANY {
+        return Err(anyhow!("the input has {TOO_MANY} bytes or more"));
+    }
+    Ok(input)
+}
+
 fn main(rt: HostRuntime) -> Result<(), Error> {
     let alloc = rt.alloc();
     let (name, bytes) = words_of(&rt)?;
-    let mut input = Vec::new(alloc);
-    rt.stdin().read_to_end(&mut input)?;
-    let set = set_of(alloc, &input)?;
+    let input = input_of(&rt)?;
+    let set = FileDescriptorSet::decode_canonical(alloc, &input)?;
     let Some(message) = message_type(&set, name.as_str()) else {
         return Err(anyhow!("no message is called {name}"));
     };

@@ -86,9 +86,9 @@ impl Model for Outline {
 }
 
 impl Laid for Outline {
-    const COST: usize = 296;
+    const COST: usize = 304;
 
-    ghost COST = { 296 };
+    ghost COST = { 304 };
 
     ghost positive = { lit< tt };
 

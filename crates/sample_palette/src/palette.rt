@@ -181,5 +181,3 @@ impl Listing for Palette {
 impl Formed for Palette {
     type Form = Listed;
 }
-
-const _: () = prove!(size_of::<Palette>() <= Palette::COST);

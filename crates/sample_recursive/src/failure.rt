@@ -53,9 +53,9 @@ impl Model for Failure {
 }
 
 impl Laid for Failure {
-    const COST: usize = 80;
+    const COST: usize = 88;
 
-    ghost COST = { 80 };
+    ghost COST = { 88 };
 
     ghost positive = { lit< tt };
 

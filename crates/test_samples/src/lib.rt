@@ -20,4 +20,6 @@ mod settings;
 #[cfg(test)]
 mod stock;
 #[cfg(test)]
+mod task;
+#[cfg(test)]
 mod wide;

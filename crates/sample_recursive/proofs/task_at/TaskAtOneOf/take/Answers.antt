@@ -1,0 +1,9 @@
+use Rattle.std.proofs.Common.{rules, sym, ◌∙◌}
+use Rattle.buffa_fields.specs.Terms.{chosen}
+use Rattle.sample_recursive.proofs.task_at.TaskAtOneOf.take.Goals as goal
+
+pub returns-in_ok-it-in-6 : goal.returns-in_ok-it-in-6
+returns-in_ok-it-in-6 c =
+    let n = c.args.tag.number in
+    let is = sym c.field_number.ensures ∙ c.in-6.is in
+    chosen _ n 6 is (let read = c.in_ok-it-in-6.ensures.ok in search (rules, read))

@@ -1,0 +1,195 @@
+//! buffa.sample.Task, made of task.proto by protoc-gen-buffa.
+
+ghost use Rattle.std.proofs.Common.{lit<, refl};
+ghost use Rattle.std.specs.Prelude.{is_some, ◌&&◌};
+ghost use Rattle.buffa_recursive.specs.Terms.{each_asked, keeps, knotted, list_inside, map_inside, member, member_one_of, one_inside, rest_of, true_if_there};
+
+use crate::person::Person;
+use crate::task_at::TaskAt;
+use buffa_fields::map_codec::{Int32, Str};
+use buffa_fields::{
+    Blank, DecodeContext, DecodeError, Formed, Member, OneOf, Optional, RepeatedNested, Required,
+    Tag, UnknownFields, kept,
+};
+use buffa_recursive::{
+    ByKey, Keyed, Laid, RequiredCases, RequiredMember, SelfAsked, SelfAsker, SelfFields,
+    SelfListed, SelfListing, SelfMerger, SelfRequired, SelfVisitor, list_initialized,
+    map_initialized, one_initialized, take_list, take_map, take_one, take_one_of, tree_initialized,
+};
+use std::alloc::Global;
+use std::collections::BTreeMap;
+use std::marker::Model;
+use std::string::String;
+
+/// A task, with those that it consists of: each has a title, and each person in it a name.
+///
+/// message Task {
+///     required string title = 1;
+///     repeated Task parts = 2;
+///     optional Task before = 3;
+///     map<int32, Task> by_day = 4;
+///     repeated Person people = 5;
+///     oneof at {
+///         int32 room = 6;
+///         Person host = 7;
+///     }
+/// }
+///
+/// Read where it isn't there, too, and `is_initialized` says whether it is: title = 1.
+///
+/// `is_initialized` looks into the messages of these: parts = 2, before = 3, by_day = 4, people = 5, host = 7.
+///
+/// Written in the order of their keys: by_day = 4.
+#[derive(Drop)]
+pub struct Task {
+    pub title: Option<String>,
+    pub parts: Vec<Task>,
+    pub before: Option<Box<Task>>,
+    pub by_day: BTreeMap<i32, Task>,
+    pub people: Vec<Person>,
+    pub at: Option<TaskAt>,
+    /// The fields that aren't declared, in order.
+    pub rest: UnknownFields,
+}
+
+impl Model for Task {
+    ghost use Rattle.std.specs.Coded.{codes};
+    ghost use Rattle.std.specs.Option.{option_map};
+    ghost use Rattle.std.specs.Prelude.{List, Option, ℕ, ℤ};
+    ghost use Rattle.std.proofs.Common.{arith};
+    ghost use Rattle.buffa_fields.specs.Terms.{Datum, coded_datum, coded_or};
+    ghost use Rattle.buffa_recursive.specs.Terms.{CaseMeaningOf, Knot, MeaningOf, coded_knot, has, has_case, has_kept, has_list, has_map, has_one, knot_height, knot_of, most-of_list, most-of_map};
+
+    ghost Value = { Knot (
+        Option (List ℕ) × (
+        List ℤ × (
+        MeaningOf ⟦<RepeatedNested<Person> as Member>⟧.shape × (
+        CaseMeaningOf ⟦<TaskAt as OneOf>⟧.cases × List (ℕ × Datum))))) };
+
+    ghost coded = { Prim.hlevel (codes, coded_datum, coded_knot, coded_or) };
+
+    ghost view = { λ m. knot_of (
+        has (⟦<Optional<Str> as Member>⟧.shape.meaning m.title) (
+        has_list m.parts.items (
+        has_one (option_map (λ b. b.value) m.before) (
+        has_map ⟦<i32 as Blank>⟧.meaning m.by_day.entries (
+        has (⟦<RepeatedNested<Person> as Member>⟧.shape.meaning m.people) (
+        has_case ⟦<TaskAt as OneOf>⟧.cases m.at (has_kept m.rest.records))))))) };
+
+    ghost size = { knot_height };
+
+    ghost size_decreases = { λ m h. Prim.grind (
+      arith,
+      most-of_list m.parts.items,
+      most-of_map ⟦<i32 as Blank>⟧.meaning m.by_day.entries,
+    ) };
+}
+
+impl Laid for Task {
+    const COST: usize = 216;
+
+    ghost COST = { 216 };
+
+    ghost positive = { lit< tt };
+
+    ghost laying = { knotted (
+        member 1 ⟦<Optional<Str> as Member>⟧.shape (
+        list_inside 2 (
+        one_inside 3 (
+        map_inside 4 ⟦<ByKey<Int32> as Keyed>⟧.keys (
+        member 5 ⟦<RepeatedNested<Person> as Member>⟧.shape (
+        member_one_of ⟦<TaskAt as OneOf>⟧.cases keeps)))))) };
+
+    ghost sound = { λ w. refl };
+}
+
+impl SelfFields for Task {
+    fn visit<V: SelfVisitor<Task>>(&self, visitor: &mut V) {
+        visitor.visit::<Optional<Str>>(1, &self.title);
+        visitor.visit_list(2, &self.parts);
+        visitor.visit_one(3, &self.before);
+        visitor.visit_map::<Int32>(4, &self.by_day);
+        visitor.visit::<RepeatedNested<Person>>(5, &self.people);
+        visitor.visit_one_of(&self.at);
+        visitor.visit_kept(&self.rest);
+    }
+
+    fn take<I: SelfMerger<Task>>(
+        &mut self,
+        alloc: Global,
+        tag: Tag,
+        buf: &mut &[u8],
+        ctx: DecodeContext<'_>,
+        inner: &I,
+    ) -> Result<(), DecodeError> {
+        match tag.field_number() {
+            1 => Optional::<Str>::merge(&mut self.title, alloc, tag, buf, ctx),
+            2 => take_list(&mut self.parts, alloc, tag, buf, ctx, inner),
+            3 => take_one(&mut self.before, alloc, tag, buf, ctx, inner),
+            4 => take_map::<Int32, Task, I>(&mut self.by_day, alloc, tag, buf, ctx, inner),
+            5 => RepeatedNested::<Person>::merge(&mut self.people, alloc, tag, buf, ctx),
+            6 => take_one_of(&mut self.at, alloc, tag, buf, ctx),
+            7 => take_one_of(&mut self.at, alloc, tag, buf, ctx),
+            _ => kept::keep(alloc, &mut self.rest, tag, buf, ctx),
+        }
+    }
+}
+
+impl Blank for Task {
+    type Meaning = Task;
+
+    ghost meaning = { λ m. m };
+
+    ghost blank_is = { ⟦<Task as Laid>⟧.laying.into ⟦<Task as Laid>⟧.laying.blank };
+
+    fn blank(alloc: Global) -> Task {
+        Task {
+            title: None,
+            parts: Vec::new(alloc),
+            before: None,
+            by_day: BTreeMap::new(alloc),
+            people: Vec::new(alloc),
+            at: None,
+            rest: UnknownFields::new(alloc),
+        }
+    }
+}
+
+impl SelfListing for Task {
+    ghost means = { λ m. refl };
+
+    ghost starts = { refl };
+}
+
+impl Formed for Task {
+    type Form = SelfListed;
+}
+
+const _: () = prove!(size_of::<Task>() <= Task::COST);
+
+impl SelfAsked for Task {
+    ghost tree = { ⟦<Task as Laid>⟧.laying };
+
+    ghost asking = { each_asked (λ m. is_some (rest_of m).0.0 &&
+        ⟦<RepeatedNested<Person> as RequiredMember>⟧.meant (rest_of m).0.1.1.0 &&
+        true_if_there ⟦<TaskAt as RequiredCases>⟧.meant (rest_of m).0.1.1.1.0) };
+}
+
+impl SelfRequired for Task {
+    fn is_initialized_by<I: SelfAsker<Task>>(&self, inner: &I) -> bool {
+        self.title.is_some()
+            & RepeatedNested::<Person>::part_initialized(&self.people)
+            & TaskAt::case_initialized(&self.at)
+            & list_initialized(&self.parts, inner)
+            & one_initialized(&self.before, inner)
+            & map_initialized(&self.by_day, inner)
+    }
+}
+
+impl Required for Task {
+    ghost initialized = { ⟦<Task as SelfAsked>⟧.asking.whole };
+
+    fn is_initialized(&self) -> bool {
+        tree_initialized(self)
+    }
+}
