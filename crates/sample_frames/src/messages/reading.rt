@@ -88,3 +88,5 @@ impl Listing for Reading {
 impl Formed for Reading {
     type Form = Listed;
 }
+
+const _: () = prove!(size_of::<Reading>() <= Reading::COST);
