@@ -6,6 +6,8 @@
 #[cfg(test)]
 mod failure;
 #[cfg(test)]
+mod frames;
+#[cfg(test)]
 mod held;
 #[cfg(test)]
 mod measure;

@@ -1,0 +1,3 @@
+//! What protoc-gen-buffa made of readings.proto.
+
+pub mod reading;
