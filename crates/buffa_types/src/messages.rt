@@ -1,0 +1,17 @@
+//! What protoc-gen-buffa made of google/protobuf/any.proto, google/protobuf/duration.proto, google/protobuf/empty.proto, google/protobuf/field_mask.proto, google/protobuf/source_context.proto, google/protobuf/timestamp.proto, google/protobuf/wrappers.proto.
+
+pub mod any;
+pub mod bool_value;
+pub mod bytes_value;
+pub mod double_value;
+pub mod duration;
+pub mod empty;
+pub mod field_mask;
+pub mod float_value;
+pub mod int32_value;
+pub mod int64_value;
+pub mod source_context;
+pub mod string_value;
+pub mod timestamp;
+pub mod u_int32_value;
+pub mod u_int64_value;
