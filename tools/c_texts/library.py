@@ -1,0 +1,71 @@
+"""What a library for other languages has: its messages, and the members that calls tell."""
+from google.protobuf.descriptor_pb2 import FieldDescriptorProto as Field
+
+from blocks import blocks
+from names import snake
+from oneof import OneOf
+
+# What a number is in C, in Rust, and in Python's ctypes.
+NUMBERS = {
+    "i32": ("int32_t", "i32", "c_int32"),
+    "i64": ("int64_t", "i64", "c_int64"),
+    "u32": ("uint32_t", "u32", "c_uint32"),
+    "u64": ("uint64_t", "u64", "c_uint64"),
+    "bool": ("bool", "bool", "c_bool"),
+}
+REALS = {"FloatBits": ("u32", "f32"), "DoubleBits": ("u64", "f64")}
+# Names of exports beside those of members.
+CALLS = set("check check_within canonical room is_canonical".split())
+
+
+class Told:
+    """A member that a call tells: a number, or bytes that are copied into the caller's room."""
+
+    def __init__(self, message, member, at):
+        self.member, self.number_of_field = member, member.number
+        self.is_optional = member.rust.startswith("Option<")
+        held = member.rust[7:-1] if self.is_optional else member.rust
+        self.is_text = held in ("String", "Vec<u8>", "Bytes")
+        self.is_utf8 = held == "String"
+        self.is_enum = held.startswith("EnumValue<")
+        self.real = REALS.get(held, ("", ""))[1]
+        self.number = "i32" if self.is_enum else REALS.get(held, (held,))[0]
+        self.path = "m" + ".1" * at + ".0"
+        self.name = member.name.rstrip("_")
+        self.name += "_" * (self.name in CALLS or self.name in message.told_names)
+
+    @property
+    def said(self):
+        return self.member.field.said
+
+
+def is_told(member):
+    """Whether a call can tell it: a single number, text, bytes or open enum."""
+    if isinstance(member, OneOf) or member.itself or member.is_encoded or member.it.label == Field.LABEL_REPEATED:
+        return False
+    held = member.rust[7:-1] if member.rust.startswith("Option<") else member.rust
+    return held in NUMBERS or held in REALS or held in ("String", "Vec<u8>", "Bytes") or held.startswith("EnumValue<")
+
+
+class Gate:
+    """A message, and what calls say of its bytes."""
+
+    def __init__(self, world, message, types):
+        self.rust, self.snake, self.full = message.rust, snake(message.rust), message.name.full
+        self.prefix = self.snake.rstrip("_")
+        self.path = "::".join([types, self.snake])
+        self.file, self.said, self.is_asked = message.name.file.shown, message.name.said, bool(message.asked)
+        self.told, self.told_names = [], set()
+        if not message.holds_itself and not blocks(message):
+            for at, member in enumerate(message.members):
+                if is_told(member):
+                    self.told.append(Told(self, member, at))
+                    self.told_names.add(self.told[-1].name)
+
+
+class Library:
+    """All that a run makes: the crate's name, its messages, and the .proto files that they are from."""
+
+    def __init__(self, crate, gates):
+        self.crate, self.gates = crate, gates
+        self.files = sorted({it.file for it in gates})
