@@ -5,10 +5,12 @@
 
 The bytes are those of the rows of vectors/ that are of a payment or a transfer, each front of them, and so many made of them
 at random. From C each request for memory is refused in turn, and pages that nothing may touch or write stand around the
-caller's memory (tests/c_library.c). Some rows go through valgrind, and through the module of Python and the crate of Rust, which are
-made by `make`. `rt lib` makes the library, where it isn't there or is older than its sources; it proves sample_payment_c, and none of
-the crates below that are built. Needs gcc and python3; what needs rustc or valgrind is left out, and told, where that isn't.
-The status is 1 on any difference.
+caller's memory (tests/c_library.c). Some rows go through valgrind, through the module of Python, and through the examples, that of Rust
+over its crate; `make` builds these. What is checked in has to be what tools/c_library writes.
+
+`rt lib` makes the library, where it isn't there or is older than its sources. That proves sample_payment_c, and none of the crates
+below whose libraries stand. Needs gcc, make and python3; what needs protoc, rustc or valgrind is left out, and told, where that
+isn't there. The status is 1 on any difference.
 """
 import importlib.util
 import os
@@ -115,6 +117,12 @@ def built():
         subprocess.run(["rt", "lib"], cwd=CRATE, check=True, stdout=subprocess.DEVNULL)
 
 
+def is_as_made():
+    """Whether what is checked in is what c_library writes, where protoc is there to say it."""
+    words = [f"{TOP}/tools/c_library", "--check", "--types", "sample_payment", "-I../sample_payment", "../sample_payment/payment.proto", "Payment", "Transfer"]
+    return not shutil.which("protoc") or subprocess.run(words, cwd=CRATE).returncode == 0
+
+
 def lines_of(calls):
     return "".join(f"{kind} {text.hex() or '-'} {' '.join(map(str, limits))}\n" for kind, text, limits in calls)
 
@@ -175,6 +183,7 @@ def of_example(kind, text):
 def main(seed, count):
     built()
     calls, differences = inputs(seed, count), Differences()
+    differences.found += not is_as_made()
     told = [wanted(*it) for it in calls]
     some = random.Random(seed).sample(range(len(calls)), min(300, len(calls)))
     few = [calls[it] for it in some]
@@ -183,6 +192,7 @@ def main(seed, count):
         subprocess.run(["make", "-s", f"PROVED={LIBRARY}"], cwd=f"{room}/library", check=True)
         words = ["gcc", "-O1", "-g", "-Wall", "-Wextra", "-Werror", f"-I{room}/library", "-o", f"{room}/calls", f"{TOP}/tests/c_library.c", LIBRARY]
         subprocess.run(words, check=True)
+        subprocess.run(["gcc", "-fsyntax-only", "-x", "c++", "-Wall", "-Wextra", "-Werror", f"{room}/library/{NAME}.h"], check=True)
         differences.compare("from C", calls, from_c(room, calls), told)
         differences.compare("from Python", few, from_python(room, few), [told[it] for it in some])
         payments = [it for it in few if it[0] == "payment"][:20]
@@ -194,7 +204,7 @@ def main(seed, count):
         if shutil.which("valgrind"):
             before = ["valgrind", "-q", "--error-exitcode=9", "--leak-check=full"]
             differences.compare("under valgrind", few, from_c(room, few, (), before), [told[it] for it in some])
-    absent = [it for it in ("rustc", "valgrind") if not shutil.which(it)]
+    absent = [it for it in ("protoc", "rustc", "valgrind") if not shutil.which(it)]
     print(f"the library in C: {len(calls)} calls, {differences.found} differences" + (f"; not there: {', '.join(absent)}" if absent else ""))
     return 1 if differences.found else 0
 
