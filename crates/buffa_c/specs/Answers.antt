@@ -1,6 +1,6 @@
 -- What the numbers say that a call answers a program in another language. The limits, and what bytes mean and cost, are those of
 -- `Message::merge`, for a blank message.
-use Rattle.std.specs.Prelude.{◌≡◌, ◌≢◌, ◌↔◌, ◌<◌, ◌≤◌, ◌^◌, ◌-◌, ℕ, List, length, Bool, true, false, Option, Some, IsSome}
+use Rattle.std.specs.Prelude.{◌≡◌, ◌≢◌, ◌<◌, ◌≤◌, ◌^◌, ◌-◌, ℕ, List, length, Bool, true, false, Option, Some, IsSome}
 use Rattle.buffa_bytes.specs.declared.error.DecodeError.{DecodeError}
 use Rattle.buffa_bytes.specs.declared.error.DecodeError.TheVariants.{UnexpectedEof, VarintTooLong, InvalidFieldNumber, InvalidWireType, WireTypeMismatch, InvalidUtf8, MessageTooLarge, RecursionLimitExceeded, UnknownFieldLimitExceeded, ElementMemoryLimitExceeded, InvalidEndGroup, InvalidMessageSet, UnexpectedField, OutOfMemory}
 use Rattle.buffa_wire.specs.BudgetLeft.{BudgetLeft, Lacks}
