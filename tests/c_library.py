@@ -8,10 +8,11 @@ at random. From C each request for memory is refused in turn, and pages that not
 caller's memory (tests/c_library.c). Some rows go through valgrind, through the module of Python, and through the examples, that of Rust
 over its crate; `make` builds these. What is checked in has to be what tools/c_library writes.
 
-`rt lib` makes the library, where it isn't there or is older than its sources. That proves sample_payment_c, and none of the crates
-below whose libraries stand. Needs gcc, make and python3; what needs protoc, rustc or valgrind is left out, and told, where that
+Where the library isn't there, or is older than its sources, `rt lib` makes one in a repository of its own, in out/, which takes what is built
+here of the crates below, also by `rt ci`. That proves sample_payment_c. Needs gcc, make and python3; what needs protoc, rustc or valgrind is left out, and told, where that
 isn't there. The status is 1 on any difference.
 """
+import importlib.machinery
 import importlib.util
 import os
 import random
@@ -37,6 +38,7 @@ USUAL = (rules.MOST_BYTES, rules.MOST_LEVELS, rules.MOST_UNKNOWN, rules.MOST_UNI
 # The members that a call tells: the place of the number, and that of the text.
 TOLD = {"payment": (0, 4), "transfer": (1, 0)}
 OLD = -777
+BELOW = ["sample_payment", "buffa_c"]
 SECONDS = 300
 
 
@@ -110,11 +112,32 @@ def inputs(seed, count):
     return sorted(made)
 
 
-def built():
-    """Makes the library, where it isn't there or a source is newer."""
-    sources = [f"{at}/{it}" for name in (NAME, "sample_payment", "buffa_c") for at, _, files in os.walk(f"{TOP}/crates/{name}/src") for it in files]
-    if not os.path.exists(LIBRARY) or os.path.getmtime(LIBRARY) < max(map(os.path.getmtime, sources)):
-        subprocess.run(["rt", "lib"], cwd=CRATE, check=True, stdout=subprocess.DEVNULL)
+def vendor():
+    """tools/vendor as a module."""
+    loader = importlib.machinery.SourceFileLoader("vendor", f"{TOP}/tools/vendor")
+    made = importlib.util.module_from_spec(importlib.util.spec_from_loader("vendor", loader))
+    loader.exec_module(made)
+    return made
+
+
+def built(room):
+    """The library: the one that stands, or one that is made in a repository of its own, with what is built of the crates below."""
+    sources = [f"{at}/{it}" for name in (NAME, *BELOW) for at, _, files in os.walk(f"{TOP}/crates/{name}/src") for it in files]
+    if os.path.exists(LIBRARY) and os.path.getmtime(LIBRARY) > max(map(os.path.getmtime, sources)):
+        return LIBRARY
+    tool = vendor()
+    lines = tool.crates_below([NAME])
+    for name in lines:
+        tool.copy_crate(name, f"{room}/crates/{name}")
+    tool.write_lines(lines, f"{room}/crates.txt")
+    shutil.copy(f"{TOP}/HANDLES", room)
+    absent = [it for it in tool.copy_built([it for it in lines if it != NAME], room, os.link) if it != NAME]
+    if absent:
+        print(f"the library in C: not built here, and proved anew: {' '.join(absent)}", flush=True)
+    ran = subprocess.run(["rt", "lib", "--jobs", "1"], cwd=f"{room}/crates/{NAME}", capture_output=True, text=True)
+    if ran.returncode:
+        sys.exit(f"the library in C: rt lib ended with status {ran.returncode}: {ran.stdout[-3000:]}")
+    return f"{room}/crates/{NAME}/out/lib{NAME}.a"
 
 
 def is_as_made():
@@ -180,30 +203,35 @@ def of_example(kind, text):
     return f"refused {message}" if isinstance(message, int) else message_text(kind, message).hex()
 
 
+def see_examples(room, payments, differences):
+    """Runs the examples."""
+    examples = {"example in C": [f"{room}/library/out/example"], "example in Python": [sys.executable, f"{room}/library/example.py"]}
+    if shutil.which("rustc"):
+        examples["example in Rust"] = [f"{room}/library/out/example_rust"]
+    for name, program in examples.items():
+        differences.compare(name, payments, from_example(program, payments), [of_example(kind, text) for kind, text, _ in payments])
+
+
 def main(seed, count):
-    built()
     calls, differences = inputs(seed, count), Differences()
     differences.found += not is_as_made()
     told = [wanted(*it) for it in calls]
     some = random.Random(seed).sample(range(len(calls)), min(300, len(calls)))
-    few = [calls[it] for it in some]
-    with tempfile.TemporaryDirectory() as room:
+    few, few_told = [calls[it] for it in some], [told[it] for it in some]
+    os.makedirs(f"{TOP}/out", exist_ok=True)
+    with tempfile.TemporaryDirectory(dir=f"{TOP}/out") as room:
+        library = built(room)
         shutil.copytree(f"{CRATE}/library", f"{room}/library", ignore=shutil.ignore_patterns("out"))
-        subprocess.run(["make", "-s", f"PROVED={LIBRARY}"], cwd=f"{room}/library", check=True)
-        words = ["gcc", "-O1", "-g", "-Wall", "-Wextra", "-Werror", f"-I{room}/library", "-o", f"{room}/calls", f"{TOP}/tests/c_library.c", LIBRARY]
+        subprocess.run(["make", "-s", f"PROVED={library}"], cwd=f"{room}/library", check=True)
+        words = ["gcc", "-O1", "-g", "-Wall", "-Wextra", "-Werror", f"-I{room}/library", "-o", f"{room}/calls", f"{TOP}/tests/c_library.c", library]
         subprocess.run(words, check=True)
         subprocess.run(["gcc", "-fsyntax-only", "-x", "c++", "-Wall", "-Wextra", "-Werror", f"{room}/library/{NAME}.h"], check=True)
         differences.compare("from C", calls, from_c(room, calls), told)
-        differences.compare("from Python", few, from_python(room, few), [told[it] for it in some])
-        payments = [it for it in few if it[0] == "payment"][:20]
-        examples = {"example in C": [f"{room}/library/out/example"], "example in Python": [sys.executable, f"{room}/library/example.py"]}
-        if shutil.which("rustc"):
-            examples["example in Rust"] = [f"{room}/library/out/example_rust"]
-        for name, program in examples.items():
-            differences.compare(name, payments, from_example(program, payments), [of_example(kind, text) for kind, text, _ in payments])
+        differences.compare("from Python", few, from_python(room, few), few_told)
+        see_examples(room, [it for it in few if it[0] == "payment"][:20], differences)
         if shutil.which("valgrind"):
             before = ["valgrind", "-q", "--error-exitcode=9", "--leak-check=full"]
-            differences.compare("under valgrind", few, from_c(room, few, (), before), [told[it] for it in some])
+            differences.compare("under valgrind", few, from_c(room, few, (), before), few_told)
     absent = [it for it in ("protoc", "rustc", "valgrind") if not shutil.which(it)]
     print(f"the library in C: {len(calls)} calls, {differences.found} differences" + (f"; not there: {', '.join(absent)}" if absent else ""))
     return 1 if differences.found else 0

@@ -2,6 +2,7 @@
 from text import WIDTH, use_line
 
 LONGEST = 120
+DEPTH = "RECURSION_LIMIT"
 WITHIN = "record { longest = longest; depth = depth; unknown = unknown; units = units }"
 
 
@@ -77,7 +78,7 @@ def check_body(gate, limits):
 
 def check(gate):
     whole = ", with all that is required" if gate.is_asked else ""
-    made = export([f"Whether the bytes are accepted as `{gate.rust}`{whole}."], f"{gate.prefix}_check", [], checks(gate, "usual", "usual.depth"), check_body(gate, "Limits::usual()"))
+    made = export([f"Whether the bytes are accepted as `{gate.rust}`{whole}."], f"{gate.prefix}_check", [], checks(gate, "USUAL", DEPTH), check_body(gate, "USUAL"))
     more = ["longest: usize", "depth: u32", "unknown: usize", "units: usize"]
     body = ["let limits = Limits {", "    longest,", "    depth,", "    unknown,", "    units,", "};"] + check_body(gate, "limits")
     docs = [f"Whether the bytes are accepted as `{gate.rust}`{whole}, under limits of the caller's."]
@@ -85,27 +86,27 @@ def check(gate):
 
 
 def encodings(gate):
-    name, pieces = gate.prefix, [meant(gate, "usual.depth"), cost(gate, "usual.depth"), spec(gate, "encoding"), "usual", "bytes.now"]
+    name, pieces = gate.prefix, [meant(gate, DEPTH), cost(gate, DEPTH), spec(gate, "encoding"), "USUAL", "bytes.now"]
     made = export(
         [f"The encoding of the `{gate.rust}` that the bytes mean, at the front of `out`."],
         f"{name}_canonical",
         ["out: &mut [u8]", "written: &mut usize"],
         clause("Rewrites", pieces + ["result", "out.old", "out.new", "written.new"]),
-        [f"canonical::<{gate.rust}>(alloc, bytes, Limits::usual(), out, written)"],
+        [f"canonical::<{gate.rust}>(alloc, bytes, USUAL, out, written)"],
     )
     made += export(
         [f"How many bytes `{name}_canonical` writes."],
         f"{name}_room",
         ["room: &mut usize"],
         clause("Measures", pieces + ["result", "room.new"]),
-        [f"room_of::<{gate.rust}>(alloc, bytes, Limits::usual(), room)"],
+        [f"room_of::<{gate.rust}>(alloc, bytes, USUAL, room)"],
     )
     return made + export(
         [f"Whether the bytes are the encoding of the `{gate.rust}` that they mean, each of them."],
         f"{name}_is_canonical",
         [],
         clause("ChecksCanonical", pieces + ["result"]),
-        [f"is_canonical::<{gate.rust}>(alloc, bytes, Limits::usual())"],
+        [f"is_canonical::<{gate.rust}>(alloc, bytes, USUAL)"],
     )
 
 
@@ -115,8 +116,8 @@ def tells(gate, told):
     get = f"(option_map (λ m. {told.path}{'.1' if told.is_enum and not told.is_optional else ''}) meant)"
     if told.is_enum and told.is_optional:
         get = f"(option_map (λ m. option_map (λ v. v.1) {told.path}) meant)"
-    head = f"let meant = {meant(gate, 'usual.depth')[1:-1]} in"
-    lines = ["    ensures { " + head] + filled("        ", [f"{word} meant", cost(gate, "usual.depth"), "usual", "bytes.now", get, "result", *left(told)], " }", "")
+    head = f"let meant = {meant(gate, DEPTH)[1:-1]} in"
+    lines = ["    ensures { " + head] + filled("        ", [f"{word} meant", cost(gate, DEPTH), "USUAL", "bytes.now", get, "result", *left(told)], " }", "")
     docs = [f"The member `{told.name}` of the `{gate.rust}` that the bytes mean{', if it is there' if told.is_optional else ''}."]
     return export(docs, f"{gate.prefix}_{told.name}", parameters(told), lines, tell_body(gate, told))
 
@@ -142,7 +143,7 @@ def taken(told, of):
 def tell_body(gate, told):
     member = f"message.{told.member.name}"
     made = ["*there = false;"] * told.is_optional + ["*written = 0;"] * told.is_text
-    made += [f"match read::<{gate.rust}>(alloc, bytes, Limits::usual()) {{"]
+    made += [f"match read::<{gate.rust}>(alloc, bytes, USUAL) {{"]
     if not told.is_optional and told.is_text:
         made += [f"    Ok(message) => put({taken(told, member)}, out, written),"]
     elif not told.is_optional:
@@ -164,13 +165,13 @@ def text(gate):
     body = "\n".join(made)
     head = [f"//! `{gate.rust}` for programs in other languages, made of {gate.file} by c_library.", ""]
     head += ["ghost use Rattle.std.specs.Prelude.{option_map};"] * ("option_map" in body)
-    head += [f"ghost use Rattle.buffa_c.specs.Answers.{{{'ChecksWhole' if gate.is_asked else 'Checks'}, NumbersFault, usual}};"]
+    head += [f"ghost use Rattle.buffa_c.specs.Answers.{{{'ChecksWhole' if gate.is_asked else 'Checks'}, NumbersFault}};"]
     head += ["ghost use Rattle.buffa_c.specs.Encodings.{ChecksCanonical, Measures, Rewrites};"]
     used = [it for it in ("CopiesBytes", "CopiesBytesIf", "TellsNumber", "TellsNumberIf") if f" {it} meant" in body]
     head += [f"ghost use Rattle.buffa_c.specs.Members.{{{', '.join(used)}}};"] * bool(used)
-    calls = {"Limits", "canonical", "is_canonical", "room_of"} | {it for it in ("check", "put", "read") if f"{it}::<" in body or f" {it}(" in body}
+    calls = {"Limits", "USUAL", "canonical", "is_canonical", "room_of"} | {it for it in ("check", "put", "read") if f"{it}::<" in body or f" {it}(" in body}
     calls |= {it for it in ("ACCEPTED", "MISSING_REQUIRED") if it in body}
-    modules = {"buffa_c": calls, "buffa_fields": {"Blank", "MessageSpec"} | ({"Required"} if gate.is_asked else set()), gate.path: {gate.rust}, "std::alloc": {"Global"}}
+    modules = {"buffa_c": calls, "buffa_fields": {"Blank", "MessageSpec", "RECURSION_LIMIT"} | ({"Required"} if gate.is_asked else set()), gate.path: {gate.rust}, "std::alloc": {"Global"}}
     uses = []
     for module in sorted(modules, key=lambda it: (not it.startswith("crate::"), it)):
         uses += use_line(module, sorted(modules[module]))

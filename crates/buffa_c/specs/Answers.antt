@@ -1,6 +1,6 @@
 -- What the numbers say that a call answers a program in another language. The limits, and what bytes mean and cost, are those of
 -- `Message::merge`, for a blank message.
-use Rattle.std.specs.Prelude.{◌≡◌, ◌≢◌, ◌<◌, ◌≤◌, ◌^◌, ◌-◌, ℕ, List, length, Bool, true, false, Option, Some, IsSome}
+use Rattle.std.specs.Prelude.{◌≡◌, ◌≢◌, ◌<◌, ◌≤◌, ℕ, List, length, Bool, true, false, Option, Some, IsSome}
 use Rattle.buffa_bytes.specs.declared.error.DecodeError.{DecodeError}
 use Rattle.buffa_bytes.specs.declared.error.DecodeError.TheVariants.{UnexpectedEof, VarintTooLong, InvalidFieldNumber, InvalidWireType, WireTypeMismatch, InvalidUtf8, MessageTooLarge, RecursionLimitExceeded, UnknownFieldLimitExceeded, ElementMemoryLimitExceeded, InvalidEndGroup, InvalidMessageSet, UnexpectedField, OutOfMemory}
 use Rattle.buffa_wire.specs.BudgetLeft.{BudgetLeft, Lacks}
@@ -24,10 +24,6 @@ number_of_fault (InvalidEndGroup _) = 11
 number_of_fault (InvalidMessageSet _) = 12
 number_of_fault (UnexpectedField _) = 13
 number_of_fault OutOfMemory = OUT_OF_MEMORY
-
--- where nothing else is said
-abbrev pub usual : Limits
-usual = record { longest = 2 ^ 31 - 1; depth = 100; unknown = 1000000; units = 2 ^ 28 }
 
 -- what the limits let reading spend
 abbrev pub budget_of : Limits → BudgetLeft
@@ -74,9 +70,9 @@ pub record ChecksWhole {X M : Type 0} (meant : Option X) (cost : BudgetLeft) (me
   pub missing : answer ≡ MISSING_REQUIRED → HasRequired meant cost meaning initialized limits bytes false
   pub other : answer ≢ ACCEPTED → answer ≢ MISSING_REQUIRED → AreRefused meant cost limits bytes answer
 
--- of which fault the number is, where it is that of a fault: the one at the first field or tag that is
--- refused, as the message's type says of it
-abbrev pub NumbersFault : {X : Type 0} → (ℕ → X → List ℕ → Option X) → (ℕ → List ℕ → BudgetLeft) → FieldRefused X → X → Limits → List ℕ → ℕ → Type 0
-NumbersFault {X} merged cost Refused blank limits bytes answer =
-    answer ≢ ACCEPTED → answer < TOO_LONG →
-    (e : DecodeError) × (m : X) × (answer ≡ number_of_fault e) × Stands merged cost Refused limits.depth blank bytes (budget_of limits) e m
+-- of which fault the number is, where it is that of a fault: the one at the first field or tag that is refused, as the
+-- message's type says of it
+pub record NumbersFault {X : Type 0} (merged : ℕ → X → List ℕ → Option X) (cost : ℕ → List ℕ → BudgetLeft) (Refused : FieldRefused X) (blank : X) (limits : Limits) (bytes : List ℕ) (answer : ℕ) : Type 0 where
+  pub which :
+      answer ≢ ACCEPTED → answer < TOO_LONG →
+      (e : DecodeError) × (m : X) × (answer ≡ number_of_fault e) × Stands merged cost Refused limits.depth blank bytes (budget_of limits) e m

@@ -20,7 +20,7 @@ use std::alloc::Global;
 /// the room is as it was, and 0 bytes were written.
 ///
 /// ```ignore
-/// canonical::<Payment>(alloc, bytes, Limits::usual(), room, written)
+/// canonical::<Payment>(alloc, bytes, USUAL, room, written)
 /// ```
 pub fn canonical<M: Message + Drop>(
     alloc: Global,
@@ -49,7 +49,7 @@ pub fn canonical<M: Message + Drop>(
 /// It answers as [`canonical`] does where the room is large enough. Where that isn't [`ACCEPTED`], the room is 0.
 ///
 /// ```ignore
-/// room_of::<Payment>(alloc, bytes, Limits::usual(), room)
+/// room_of::<Payment>(alloc, bytes, USUAL, room)
 /// ```
 pub fn room_of<M: Message + Drop>(
     alloc: Global,
@@ -84,7 +84,7 @@ pub fn room_of<M: Message + Drop>(
 /// where they are refused; or [`OUT_OF_MEMORY`].
 ///
 /// ```ignore
-/// is_canonical::<Payment>(alloc, bytes, Limits::usual())
+/// is_canonical::<Payment>(alloc, bytes, USUAL)
 /// ```
 pub fn is_canonical<M: Message + Drop>(alloc: Global, bytes: &[u8], limits: Limits) -> u32
     ensures { ChecksCanonical (M.merged limits.depth M.blank_is bytes.now) (M.cost limits.depth bytes.now) M.encoding limits

@@ -4,7 +4,7 @@
 //! A static library has an export for each call and each of its messages. It calls what is here, and states the contract again.
 //!
 //! ```ignore
-//! check::<Payment>(alloc, bytes, Limits::usual())
+//! check::<Payment>(alloc, bytes, USUAL)
 //! ```
 #![tactic(auto)]
 
@@ -20,5 +20,5 @@ pub use answer::{
 };
 pub use copying::put;
 pub use encoding::{canonical, is_canonical, room_of};
-pub use limits::Limits;
+pub use limits::{Limits, USUAL};
 pub use reading::{check, read};

@@ -1,7 +1,7 @@
 //! What a caller allows bytes that are read.
 
 ghost use Rattle.std.specs.Prelude.{◌≡◌};
-ghost use Rattle.buffa_c.specs.Answers.{budget_of, usual};
+ghost use Rattle.buffa_c.specs.Answers.{budget_of};
 
 use buffa_wire::message::MAX_MESSAGE_BYTES;
 use buffa_wire::{
@@ -25,23 +25,19 @@ pub struct Limits {
     pub units: usize,
 }
 
-impl Limits {
-    /// Those where nothing else is said: [`MAX_MESSAGE_BYTES`], [`RECURSION_LIMIT`] and a default budget.
-    ///
-    /// ```ignore
-    /// check::<Payment>(alloc, bytes, Limits::usual())
-    /// ```
-    pub fn usual() -> Limits
-        ensures { result ≡ usual }
-    {
-        Limits {
-            longest: MAX_MESSAGE_BYTES as usize,
-            depth: RECURSION_LIMIT,
-            unknown: DEFAULT_UNKNOWN_FIELD_LIMIT,
-            units: DEFAULT_ELEMENT_MEMORY_LIMIT,
-        }
-    }
+/// The limits where nothing else is said: [`MAX_MESSAGE_BYTES`], [`RECURSION_LIMIT`] and a default budget.
+///
+/// ```ignore
+/// check::<Payment>(alloc, bytes, USUAL)
+/// ```
+pub const USUAL: Limits = Limits {
+    longest: MAX_MESSAGE_BYTES as usize,
+    depth: RECURSION_LIMIT,
+    unknown: DEFAULT_UNKNOWN_FIELD_LIMIT,
+    units: DEFAULT_ELEMENT_MEMORY_LIMIT,
+};
 
+impl Limits {
     /// What reading may spend.
     ///
     /// ```ignore

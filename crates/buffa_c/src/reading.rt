@@ -15,7 +15,7 @@ use std::alloc::Global;
 /// `Decode::decode_within`.
 ///
 /// ```ignore
-/// let payment = match read::<Payment>(alloc, bytes, Limits::usual()) { .. }
+/// let payment = match read::<Payment>(alloc, bytes, USUAL) { .. }
 /// ```
 pub fn read<M: Message + Drop>(alloc: Global, bytes: &[u8], limits: Limits) -> Result<M, u32>
     ensures message { IfOk result (λ m. M.merged limits.depth M.blank_is bytes.now ≡ Some (M.meaning m)) }
@@ -40,7 +40,7 @@ pub fn read<M: Message + Drop>(alloc: Global, bytes: &[u8], limits: Limits) -> R
 /// say, if memory doesn't run out.
 ///
 /// ```ignore
-/// check::<Payment>(alloc, bytes, Limits::usual())
+/// check::<Payment>(alloc, bytes, USUAL)
 /// ```
 pub fn check<M: Message + Drop>(alloc: Global, bytes: &[u8], limits: Limits) -> u32
     ensures answer { Checks (M.merged limits.depth M.blank_is bytes.now) (M.cost limits.depth bytes.now) limits bytes.now

@@ -1,24 +1,25 @@
 //! `Payment` for programs in other languages, made of payment.proto by c_library.
 
 ghost use Rattle.std.specs.Prelude.{option_map};
-ghost use Rattle.buffa_c.specs.Answers.{Checks, NumbersFault, usual};
+ghost use Rattle.buffa_c.specs.Answers.{Checks, NumbersFault};
 ghost use Rattle.buffa_c.specs.Encodings.{ChecksCanonical, Measures, Rewrites};
 ghost use Rattle.buffa_c.specs.Members.{CopiesBytes, TellsNumber};
 
-use buffa_c::{ACCEPTED, Limits, canonical, check, is_canonical, put, read, room_of};
-use buffa_fields::{Blank, MessageSpec};
+use buffa_c::{ACCEPTED, Limits, USUAL, canonical, check, is_canonical, put, read, room_of};
+use buffa_fields::{Blank, MessageSpec, RECURSION_LIMIT};
 use sample_payment::payment::Payment;
 use std::alloc::Global;
 
 /// Whether the bytes are accepted as `Payment`.
 #[unsafe(no_mangle)]
 pub extern "C" fn payment_check(alloc: Global, bytes: &[u8]) -> u32
-    ensures answer { Checks (⟦<Payment as MessageSpec>⟧.merged usual.depth ⟦<Payment as Blank>⟧.blank_is bytes.now)
-        (⟦<Payment as MessageSpec>⟧.cost usual.depth bytes.now) usual bytes.now result }
+    ensures answer { Checks
+        (⟦<Payment as MessageSpec>⟧.merged RECURSION_LIMIT ⟦<Payment as Blank>⟧.blank_is bytes.now)
+        (⟦<Payment as MessageSpec>⟧.cost RECURSION_LIMIT bytes.now) USUAL bytes.now result }
     ensures which { NumbersFault ⟦<Payment as MessageSpec>⟧.merged ⟦<Payment as MessageSpec>⟧.cost
-        ⟦<Payment as MessageSpec>⟧.Refused ⟦<Payment as Blank>⟧.blank_is usual bytes.now result }
+        ⟦<Payment as MessageSpec>⟧.Refused ⟦<Payment as Blank>⟧.blank_is USUAL bytes.now result }
 {
-    check::<Payment>(alloc, bytes, Limits::usual())
+    check::<Payment>(alloc, bytes, USUAL)
 }
 
 /// Whether the bytes are accepted as `Payment`, under limits of the caller's.
@@ -55,41 +56,42 @@ pub extern "C" fn payment_canonical(
     out: &mut [u8],
     written: &mut usize,
 ) -> u32
-    ensures { Rewrites (⟦<Payment as MessageSpec>⟧.merged usual.depth ⟦<Payment as Blank>⟧.blank_is bytes.now)
-        (⟦<Payment as MessageSpec>⟧.cost usual.depth bytes.now) ⟦<Payment as MessageSpec>⟧.encoding usual bytes.now
-        result out.old out.new written.new }
+    ensures { Rewrites (⟦<Payment as MessageSpec>⟧.merged RECURSION_LIMIT ⟦<Payment as Blank>⟧.blank_is bytes.now)
+        (⟦<Payment as MessageSpec>⟧.cost RECURSION_LIMIT bytes.now) ⟦<Payment as MessageSpec>⟧.encoding USUAL
+        bytes.now result out.old out.new written.new }
 {
-    canonical::<Payment>(alloc, bytes, Limits::usual(), out, written)
+    canonical::<Payment>(alloc, bytes, USUAL, out, written)
 }
 
 /// How many bytes `payment_canonical` writes.
 #[unsafe(no_mangle)]
 pub extern "C" fn payment_room(alloc: Global, bytes: &[u8], room: &mut usize) -> u32
-    ensures { Measures (⟦<Payment as MessageSpec>⟧.merged usual.depth ⟦<Payment as Blank>⟧.blank_is bytes.now)
-        (⟦<Payment as MessageSpec>⟧.cost usual.depth bytes.now) ⟦<Payment as MessageSpec>⟧.encoding usual bytes.now
-        result room.new }
+    ensures { Measures (⟦<Payment as MessageSpec>⟧.merged RECURSION_LIMIT ⟦<Payment as Blank>⟧.blank_is bytes.now)
+        (⟦<Payment as MessageSpec>⟧.cost RECURSION_LIMIT bytes.now) ⟦<Payment as MessageSpec>⟧.encoding USUAL
+        bytes.now result room.new }
 {
-    room_of::<Payment>(alloc, bytes, Limits::usual(), room)
+    room_of::<Payment>(alloc, bytes, USUAL, room)
 }
 
 /// Whether the bytes are the encoding of the `Payment` that they mean, each of them.
 #[unsafe(no_mangle)]
 pub extern "C" fn payment_is_canonical(alloc: Global, bytes: &[u8]) -> u32
-    ensures { ChecksCanonical (⟦<Payment as MessageSpec>⟧.merged usual.depth ⟦<Payment as Blank>⟧.blank_is bytes.now)
-        (⟦<Payment as MessageSpec>⟧.cost usual.depth bytes.now) ⟦<Payment as MessageSpec>⟧.encoding usual bytes.now
-        result }
+    ensures { ChecksCanonical
+        (⟦<Payment as MessageSpec>⟧.merged RECURSION_LIMIT ⟦<Payment as Blank>⟧.blank_is bytes.now)
+        (⟦<Payment as MessageSpec>⟧.cost RECURSION_LIMIT bytes.now) ⟦<Payment as MessageSpec>⟧.encoding USUAL
+        bytes.now result }
 {
-    is_canonical::<Payment>(alloc, bytes, Limits::usual())
+    is_canonical::<Payment>(alloc, bytes, USUAL)
 }
 
 /// The member `amount` of the `Payment` that the bytes mean.
 #[unsafe(no_mangle)]
 pub extern "C" fn payment_amount(alloc: Global, bytes: &[u8], value: &mut i32) -> u32
-    ensures { let meant = ⟦<Payment as MessageSpec>⟧.merged usual.depth ⟦<Payment as Blank>⟧.blank_is bytes.now in
-        TellsNumber meant (⟦<Payment as MessageSpec>⟧.cost usual.depth bytes.now) usual bytes.now
+    ensures { let meant = ⟦<Payment as MessageSpec>⟧.merged RECURSION_LIMIT ⟦<Payment as Blank>⟧.blank_is bytes.now in
+        TellsNumber meant (⟦<Payment as MessageSpec>⟧.cost RECURSION_LIMIT bytes.now) USUAL bytes.now
         (option_map (λ m. m.0) meant) result value.old value.new }
 {
-    match read::<Payment>(alloc, bytes, Limits::usual()) {
+    match read::<Payment>(alloc, bytes, USUAL) {
         Ok(message) => {
             *value = message.amount;
             ACCEPTED
@@ -106,12 +108,12 @@ pub extern "C" fn payment_note(
     out: &mut [u8],
     written: &mut usize,
 ) -> u32
-    ensures { let meant = ⟦<Payment as MessageSpec>⟧.merged usual.depth ⟦<Payment as Blank>⟧.blank_is bytes.now in
-        CopiesBytes meant (⟦<Payment as MessageSpec>⟧.cost usual.depth bytes.now) usual bytes.now
+    ensures { let meant = ⟦<Payment as MessageSpec>⟧.merged RECURSION_LIMIT ⟦<Payment as Blank>⟧.blank_is bytes.now in
+        CopiesBytes meant (⟦<Payment as MessageSpec>⟧.cost RECURSION_LIMIT bytes.now) USUAL bytes.now
         (option_map (λ m. m.1.1.0) meant) result out.old out.new written.new }
 {
     *written = 0;
-    match read::<Payment>(alloc, bytes, Limits::usual()) {
+    match read::<Payment>(alloc, bytes, USUAL) {
         Ok(message) => put(message.note.as_bytes(), out, written),
         Err(answer) => answer,
     }

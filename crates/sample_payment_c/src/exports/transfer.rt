@@ -1,24 +1,25 @@
 //! `Transfer` for programs in other languages, made of payment.proto by c_library.
 
 ghost use Rattle.std.specs.Prelude.{option_map};
-ghost use Rattle.buffa_c.specs.Answers.{Checks, NumbersFault, usual};
+ghost use Rattle.buffa_c.specs.Answers.{Checks, NumbersFault};
 ghost use Rattle.buffa_c.specs.Encodings.{ChecksCanonical, Measures, Rewrites};
 ghost use Rattle.buffa_c.specs.Members.{CopiesBytes, TellsNumber};
 
-use buffa_c::{ACCEPTED, Limits, canonical, check, is_canonical, put, read, room_of};
-use buffa_fields::{Blank, MessageSpec};
+use buffa_c::{ACCEPTED, Limits, USUAL, canonical, check, is_canonical, put, read, room_of};
+use buffa_fields::{Blank, MessageSpec, RECURSION_LIMIT};
 use sample_payment::transfer::Transfer;
 use std::alloc::Global;
 
 /// Whether the bytes are accepted as `Transfer`.
 #[unsafe(no_mangle)]
 pub extern "C" fn transfer_check(alloc: Global, bytes: &[u8]) -> u32
-    ensures answer { Checks (⟦<Transfer as MessageSpec>⟧.merged usual.depth ⟦<Transfer as Blank>⟧.blank_is bytes.now)
-        (⟦<Transfer as MessageSpec>⟧.cost usual.depth bytes.now) usual bytes.now result }
+    ensures answer { Checks
+        (⟦<Transfer as MessageSpec>⟧.merged RECURSION_LIMIT ⟦<Transfer as Blank>⟧.blank_is bytes.now)
+        (⟦<Transfer as MessageSpec>⟧.cost RECURSION_LIMIT bytes.now) USUAL bytes.now result }
     ensures which { NumbersFault ⟦<Transfer as MessageSpec>⟧.merged ⟦<Transfer as MessageSpec>⟧.cost
-        ⟦<Transfer as MessageSpec>⟧.Refused ⟦<Transfer as Blank>⟧.blank_is usual bytes.now result }
+        ⟦<Transfer as MessageSpec>⟧.Refused ⟦<Transfer as Blank>⟧.blank_is USUAL bytes.now result }
 {
-    check::<Transfer>(alloc, bytes, Limits::usual())
+    check::<Transfer>(alloc, bytes, USUAL)
 }
 
 /// Whether the bytes are accepted as `Transfer`, under limits of the caller's.
@@ -55,32 +56,32 @@ pub extern "C" fn transfer_canonical(
     out: &mut [u8],
     written: &mut usize,
 ) -> u32
-    ensures { Rewrites (⟦<Transfer as MessageSpec>⟧.merged usual.depth ⟦<Transfer as Blank>⟧.blank_is bytes.now)
-        (⟦<Transfer as MessageSpec>⟧.cost usual.depth bytes.now) ⟦<Transfer as MessageSpec>⟧.encoding usual bytes.now
-        result out.old out.new written.new }
+    ensures { Rewrites (⟦<Transfer as MessageSpec>⟧.merged RECURSION_LIMIT ⟦<Transfer as Blank>⟧.blank_is bytes.now)
+        (⟦<Transfer as MessageSpec>⟧.cost RECURSION_LIMIT bytes.now) ⟦<Transfer as MessageSpec>⟧.encoding USUAL
+        bytes.now result out.old out.new written.new }
 {
-    canonical::<Transfer>(alloc, bytes, Limits::usual(), out, written)
+    canonical::<Transfer>(alloc, bytes, USUAL, out, written)
 }
 
 /// How many bytes `transfer_canonical` writes.
 #[unsafe(no_mangle)]
 pub extern "C" fn transfer_room(alloc: Global, bytes: &[u8], room: &mut usize) -> u32
-    ensures { Measures (⟦<Transfer as MessageSpec>⟧.merged usual.depth ⟦<Transfer as Blank>⟧.blank_is bytes.now)
-        (⟦<Transfer as MessageSpec>⟧.cost usual.depth bytes.now) ⟦<Transfer as MessageSpec>⟧.encoding usual bytes.now
-        result room.new }
+    ensures { Measures (⟦<Transfer as MessageSpec>⟧.merged RECURSION_LIMIT ⟦<Transfer as Blank>⟧.blank_is bytes.now)
+        (⟦<Transfer as MessageSpec>⟧.cost RECURSION_LIMIT bytes.now) ⟦<Transfer as MessageSpec>⟧.encoding USUAL
+        bytes.now result room.new }
 {
-    room_of::<Transfer>(alloc, bytes, Limits::usual(), room)
+    room_of::<Transfer>(alloc, bytes, USUAL, room)
 }
 
 /// Whether the bytes are the encoding of the `Transfer` that they mean, each of them.
 #[unsafe(no_mangle)]
 pub extern "C" fn transfer_is_canonical(alloc: Global, bytes: &[u8]) -> u32
     ensures { ChecksCanonical
-        (⟦<Transfer as MessageSpec>⟧.merged usual.depth ⟦<Transfer as Blank>⟧.blank_is bytes.now)
-        (⟦<Transfer as MessageSpec>⟧.cost usual.depth bytes.now) ⟦<Transfer as MessageSpec>⟧.encoding usual bytes.now
-        result }
+        (⟦<Transfer as MessageSpec>⟧.merged RECURSION_LIMIT ⟦<Transfer as Blank>⟧.blank_is bytes.now)
+        (⟦<Transfer as MessageSpec>⟧.cost RECURSION_LIMIT bytes.now) ⟦<Transfer as MessageSpec>⟧.encoding USUAL
+        bytes.now result }
 {
-    is_canonical::<Transfer>(alloc, bytes, Limits::usual())
+    is_canonical::<Transfer>(alloc, bytes, USUAL)
 }
 
 /// The member `to` of the `Transfer` that the bytes mean.
@@ -91,12 +92,12 @@ pub extern "C" fn transfer_to(
     out: &mut [u8],
     written: &mut usize,
 ) -> u32
-    ensures { let meant = ⟦<Transfer as MessageSpec>⟧.merged usual.depth ⟦<Transfer as Blank>⟧.blank_is bytes.now in
-        CopiesBytes meant (⟦<Transfer as MessageSpec>⟧.cost usual.depth bytes.now) usual bytes.now
+    ensures { let meant = ⟦<Transfer as MessageSpec>⟧.merged RECURSION_LIMIT ⟦<Transfer as Blank>⟧.blank_is bytes.now in
+        CopiesBytes meant (⟦<Transfer as MessageSpec>⟧.cost RECURSION_LIMIT bytes.now) USUAL bytes.now
         (option_map (λ m. m.0) meant) result out.old out.new written.new }
 {
     *written = 0;
-    match read::<Transfer>(alloc, bytes, Limits::usual()) {
+    match read::<Transfer>(alloc, bytes, USUAL) {
         Ok(message) => put(message.to.as_bytes(), out, written),
         Err(answer) => answer,
     }
@@ -105,11 +106,11 @@ pub extern "C" fn transfer_to(
 /// The member `day` of the `Transfer` that the bytes mean.
 #[unsafe(no_mangle)]
 pub extern "C" fn transfer_day(alloc: Global, bytes: &[u8], value: &mut i32) -> u32
-    ensures { let meant = ⟦<Transfer as MessageSpec>⟧.merged usual.depth ⟦<Transfer as Blank>⟧.blank_is bytes.now in
-        TellsNumber meant (⟦<Transfer as MessageSpec>⟧.cost usual.depth bytes.now) usual bytes.now
+    ensures { let meant = ⟦<Transfer as MessageSpec>⟧.merged RECURSION_LIMIT ⟦<Transfer as Blank>⟧.blank_is bytes.now in
+        TellsNumber meant (⟦<Transfer as MessageSpec>⟧.cost RECURSION_LIMIT bytes.now) USUAL bytes.now
         (option_map (λ m. m.1.0) meant) result value.old value.new }
 {
-    match read::<Transfer>(alloc, bytes, Limits::usual()) {
+    match read::<Transfer>(alloc, bytes, USUAL) {
         Ok(message) => {
             *value = message.day;
             ACCEPTED
