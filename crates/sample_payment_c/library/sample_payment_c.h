@@ -7,7 +7,7 @@
    - No two of the pointers of a call overlap.
    - One heap: the program's malloc, realloc and free, by heap.c (or the kit's liblibc_c.a), which align each block to 16.
    - No call from a signal handler, nor from the forked child of a process with threads.
-   - Stack: 256 KiB at the usual depth of 100, and as much more as a greater depth of yours asks for.
+   - Stack: leave 1 MiB at the usual depth of 100, and more for a greater one. Groups that nested 100 deep took 33 KB.
 
    Several threads may call at once. A call keeps no pointer, and frees all that it asked for before it returns.
 
