@@ -1,16 +1,44 @@
 //! The encoding of the message that bytes mean.
 
-ghost use Rattle.std.specs.Prelude.{};
+ghost use Rattle.std.specs.Prelude.{◌≡◌, ◌≢◌, ◌<◌, ◌≤◌, ◌^◌, length, IfErr, IfOk, OnOk};
 ghost use Rattle.buffa_c.specs.Encodings.{ChecksCanonical, Measures, Rewrites};
 
-use crate::answer::{ACCEPTED, NOT_CANONICAL, OUT_OF_MEMORY, TOO_LARGE};
+use crate::answer::{ACCEPTED, NO_ROOM, NOT_CANONICAL, OUT_OF_MEMORY, TOO_LARGE};
 use crate::copying::put;
 use crate::limits::Limits;
 use crate::reading::read;
-use buffa_bytes::EncodeError;
 use buffa_wire::message::MAX_MESSAGE_BYTES;
 use buffa_wire::{Message, SizeCache};
 use std::alloc::Global;
+
+// The encoding of a message, where it has at most so many bytes; else the number of why not. Its memory is asked for at once.
+fn encoded<M: Message>(alloc: Global, message: &M, most: usize) -> Result<Vec<u8>, u32>
+    ensures encoding { IfOk result (λ v. v.items ≡ M.encoding (M.meaning message.now)) }
+    ensures small { OnOk result (length (M.encoding (M.meaning message.now)) < 2 ^ 31) }
+    ensures fits { OnOk result (length (M.encoding (M.meaning message.now)) ≤ most) }
+    ensures large { IfErr result (λ n. n ≡ TOO_LARGE → 2 ^ 31 ≤ length (M.encoding (M.meaning message.now))) }
+    ensures long { IfErr result (λ n. n ≡ NO_ROOM → (length (M.encoding (M.meaning message.now)) < 2 ^ 31)
+        × (most < length (M.encoding (M.meaning message.now)))) }
+    ensures other { IfErr result (λ n. n ≢ TOO_LARGE → n ≢ NO_ROOM → n ≡ OUT_OF_MEMORY) }
+{
+    let mut cache = SizeCache::new(alloc);
+    let Ok(size) = message.compute_size(&mut cache) else {
+        return Err(OUT_OF_MEMORY);
+    };
+    if size > MAX_MESSAGE_BYTES {
+        return Err(TOO_LARGE);
+    }
+    if size as usize > most {
+        return Err(NO_ROOM);
+    }
+    let Ok(mut encoding) = Vec::with_capacity(alloc, size as usize) else {
+        return Err(OUT_OF_MEMORY);
+    };
+    match message.write_to(&mut cache, &mut encoding) {
+        Ok(()) => Ok(encoding),
+        Err(_) => Err(OUT_OF_MEMORY),
+    }
+}
 
 /// Writes the encoding of the message that the bytes mean to the front of the room, and says how many bytes it has. It is the
 /// canonical spelling of the message.
@@ -37,10 +65,9 @@ pub fn canonical<M: Message + Drop>(
         Ok(message) => message,
         Err(answer) => return answer,
     };
-    match message.try_encode_to_vec(alloc) {
+    match encoded(alloc, &message, room.len()) {
         Ok(encoding) => put(&encoding, room, written),
-        Err(EncodeError::MessageTooLarge) => TOO_LARGE,
-        Err(_) => OUT_OF_MEMORY,
+        Err(answer) => answer,
     }
 }
 
@@ -94,7 +121,7 @@ pub fn is_canonical<M: Message + Drop>(alloc: Global, bytes: &[u8], limits: Limi
         Ok(message) => message,
         Err(answer) => return answer,
     };
-    match message.try_encode_to_vec(alloc) {
+    match encoded(alloc, &message, bytes.len()) {
         Ok(encoding) => {
             if encoding.as_slice() == bytes {
                 ACCEPTED
@@ -102,7 +129,7 @@ pub fn is_canonical<M: Message + Drop>(alloc: Global, bytes: &[u8], limits: Limi
                 NOT_CANONICAL
             }
         }
-        Err(EncodeError::MessageTooLarge) => NOT_CANONICAL,
-        Err(_) => OUT_OF_MEMORY,
+        Err(OUT_OF_MEMORY) => OUT_OF_MEMORY,
+        Err(_) => NOT_CANONICAL,
     }
 }

@@ -17,6 +17,8 @@ use std::alloc::Global;
 /// ```ignore
 /// let payment = match read::<Payment>(alloc, bytes, USUAL) { .. }
 /// ```
+// Where a call has it inlined, the message isn't moved.
+#[inline(always)]
 pub fn read<M: Message + Drop>(alloc: Global, bytes: &[u8], limits: Limits) -> Result<M, u32>
     ensures message { IfOk result (λ m. M.merged limits.depth M.blank_is bytes.now ≡ Some (M.meaning m)) }
     ensures accepted { OnOk result (AreAccepted (M.merged limits.depth M.blank_is bytes.now) (M.cost limits.depth bytes.now)
