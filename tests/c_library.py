@@ -5,13 +5,15 @@
 
 The bytes are those of the rows of vectors/ that are of a payment or a transfer, each front of them, and so many made of them
 at random. From C each request for memory is refused in turn, and pages that nothing may touch or write stand around the
-caller's memory (tests/c_library.c). Some rows go through valgrind, through the module of Python, and through the examples, that of Rust
-over its crate; `make` builds these. What is checked in has to be what tools/c_library writes.
+caller's memory (tests/c_library.c). Some rows go through valgrind, through the module of Python, and through the examples, that of
+Rust over its crate; `make` builds these. What is checked in has to be what tools/c_library writes, and what it writes of the cases
+of the plugin has to be read by gcc, python3 and rustc.
 
-Where the library isn't there, or is older than its sources, `rt lib` makes one in a repository of its own, in out/, which takes what is built
-here of the crates below, also by `rt ci`. That proves sample_payment_c. Needs gcc, make and python3; what needs protoc, rustc or valgrind is left out, and told, where that
-isn't there. The status is 1 on any difference.
+Where the library isn't there, or is older than its sources, `rt lib` makes one in a repository of its own, in out/, which takes
+what is built here of the crates below, also by `rt ci`. That proves sample_payment_c. Needs gcc, make and python3; what needs
+protoc, rustc or valgrind is left out, and told, where that isn't there. The status is 1 on any difference.
 """
+import glob
 import importlib.machinery
 import importlib.util
 import os
@@ -40,6 +42,7 @@ TOLD = {"payment": (0, 4), "transfer": (1, 0)}
 OLD = -777
 BELOW = ["sample_payment", "buffa_c"]
 SECONDS = 300
+HEADER = ["-fsyntax-only", "-Wall", "-Wextra", "-Werror", "-x"]
 
 
 def read(kind, text, limits):
@@ -212,6 +215,25 @@ def see_examples(room, payments, differences):
         differences.compare(name, payments, from_example(program, payments), [of_example(kind, text) for kind, text, _ in payments])
 
 
+def see_cases(room):
+    """How many of the plugin's cases have a library whose header, module or crate isn't read by its language's compiler."""
+    failed = 0
+    for proto in sorted(glob.glob(f"{TOP}/tools/cases/*.proto")) if shutil.which("protoc") else []:
+        name = f"case_{os.path.basename(proto)[:-6]}"
+        os.makedirs(f"{room}/{name}")
+        how = {"cwd": f"{room}/{name}", "capture_output": True, "text": True}
+        ran = [subprocess.run([f"{TOP}/tools/c_library", f"-I{TOP}/tools/cases", proto, "--all"], **how)]
+        ran += [subprocess.run(["gcc", *HEADER, kind, f"library/{name}.h"], **how) for kind in ("c", "c++")]
+        ran += [subprocess.run([sys.executable, "-c", f"compile(open('library/{name}.py').read(), '', 'exec')"], **how)]
+        if shutil.which("rustc"):
+            words = ["rustc", "--edition=2021", "--crate-type=lib", "--emit=metadata", "-Anon_snake_case", "-o", "made", "library/rust/src/lib.rs"]
+            ran += [subprocess.run(words, **how)]
+        for it in (it for it in ran if it.returncode):
+            failed += 1
+            print(f"  {name}: {' '.join(it.args[:2])} ended with status {it.returncode}: {it.stderr[-500:]}")
+    return failed
+
+
 def main(seed, count):
     calls, differences = inputs(seed, count), Differences()
     differences.found += not is_as_made()
@@ -225,7 +247,7 @@ def main(seed, count):
         subprocess.run(["make", "-s", f"PROVED={library}"], cwd=f"{room}/library", check=True)
         words = ["gcc", "-O1", "-g", "-Wall", "-Wextra", "-Werror", f"-I{room}/library", "-o", f"{room}/calls", f"{TOP}/tests/c_library.c", library]
         subprocess.run(words, check=True)
-        subprocess.run(["gcc", "-fsyntax-only", "-x", "c++", "-Wall", "-Wextra", "-Werror", f"{room}/library/{NAME}.h"], check=True)
+        differences.found += see_cases(room)
         differences.compare("from C", calls, from_c(room, calls), told)
         differences.compare("from Python", few, from_python(room, few), few_told)
         see_examples(room, [it for it in few if it[0] == "payment"][:20], differences)

@@ -60,20 +60,7 @@ def checks(gate, limits, depth):
 
 
 def check_body(gate, limits):
-    if not gate.is_asked:
-        return [f"check::<{gate.rust}>(alloc, bytes, {limits})"]
-    return [
-        f"match read::<{gate.rust}>(alloc, bytes, {limits}) {{",
-        "    Ok(message) => {",
-        "        if message.is_initialized() {",
-        "            ACCEPTED",
-        "        } else {",
-        "            MISSING_REQUIRED",
-        "        }",
-        "    }",
-        "    Err(answer) => answer,",
-        "}",
-    ]
+    return [f"{'check_whole' if gate.is_asked else 'check'}::<{gate.rust}>(alloc, bytes, {limits})"]
 
 
 def check(gate):
@@ -113,13 +100,14 @@ def encodings(gate):
 def tells(gate, told):
     """The call that tells a member."""
     word = ("CopiesBytes" if told.is_text else "TellsNumber") + ("If" if told.is_optional else "")
-    get = f"(option_map (λ m. {told.path}{'.1' if told.is_enum and not told.is_optional else ''}) meant)"
+    member = f"{told.path}{'.1' if told.is_enum and not told.is_optional else ''}"
     if told.is_enum and told.is_optional:
-        get = f"(option_map (λ m. option_map (λ v. v.1) {told.path}) meant)"
-    head = f"let meant = {meant(gate, DEPTH)[1:-1]} in"
-    lines = ["    ensures { " + head] + filled("        ", [f"{word} meant", cost(gate, DEPTH), "USUAL", "bytes.now", get, "result", *left(told)], " }", "")
+        member = f"option_map (λ v. v.1) {told.path}"
+    checks = [meant(gate, DEPTH), cost(gate, DEPTH), "USUAL", "bytes.now result"]
+    clauses = clause("ChecksRoom" if told.is_text else "Checks", checks, "answer ")
+    clauses += clause(word, [f"(option_map (λ m. {member})", meant(gate, DEPTH) + ")", " ".join(["result", *left(told)])], "told ")
     docs = [f"The member `{told.name}` of the `{gate.rust}` that the bytes mean{', if it is there' if told.is_optional else ''}."]
-    return export(docs, f"{gate.prefix}_{told.name}", parameters(told), lines, tell_body(gate, told))
+    return export(docs, f"{gate.prefix}_{told.name}", parameters(told), clauses, tell_body(gate, told))
 
 
 def left(told):
@@ -165,12 +153,13 @@ def text(gate):
     body = "\n".join(made)
     head = [f"//! `{gate.rust}` for programs in other languages, made of {gate.file} by c_library.", ""]
     head += ["ghost use Rattle.std.specs.Prelude.{option_map};"] * ("option_map" in body)
-    head += [f"ghost use Rattle.buffa_c.specs.Answers.{{{'ChecksWhole' if gate.is_asked else 'Checks'}, NumbersFault}};"]
+    answers = ["Checks"] * (" Checks " in body or " Checks\n" in body) + ["ChecksWhole"] * gate.is_asked
+    head += [f"ghost use Rattle.buffa_c.specs.Answers.{{{', '.join(answers)}, NumbersFault}};"]
     head += ["ghost use Rattle.buffa_c.specs.Encodings.{ChecksCanonical, Measures, Rewrites};"]
-    used = [it for it in ("CopiesBytes", "CopiesBytesIf", "TellsNumber", "TellsNumberIf") if f" {it} meant" in body]
+    used = [it for it in ("ChecksRoom", "CopiesBytes", "CopiesBytesIf", "TellsNumber", "TellsNumberIf") if f"{{ {it} " in body or f"{{ {it}\n" in body]
     head += [f"ghost use Rattle.buffa_c.specs.Members.{{{', '.join(used)}}};"] * bool(used)
-    calls = {"Limits", "USUAL", "canonical", "is_canonical", "room_of"} | {it for it in ("check", "put", "read") if f"{it}::<" in body or f" {it}(" in body}
-    calls |= {it for it in ("ACCEPTED", "MISSING_REQUIRED") if it in body}
+    calls = {"Limits", "USUAL", "canonical", "is_canonical", "room_of"} | {it for it in ("check", "check_whole", "put", "read") if f"{it}::<" in body or f" {it}(" in body}
+    calls |= {it for it in ("ACCEPTED",) if it in body}
     modules = {"buffa_c": calls, "buffa_fields": {"Blank", "MessageSpec", "RECURSION_LIMIT"} | ({"Required"} if gate.is_asked else set()), gate.path: {gate.rust}, "std::alloc": {"Global"}}
     uses = []
     for module in sorted(modules, key=lambda it: (not it.startswith("crate::"), it)):

@@ -2,7 +2,7 @@
 from google.protobuf.descriptor_pb2 import FieldDescriptorProto as Field
 
 from blocks import blocks
-from names import snake
+from names import KEYWORDS, snake
 from oneof import OneOf
 
 # What a number is in C, in Rust, and in Python's ctypes.
@@ -14,15 +14,15 @@ NUMBERS = {
     "bool": ("bool", "bool", "c_bool"),
 }
 REALS = {"FloatBits": ("u32", "f32"), "DoubleBits": ("u64", "f64")}
-# Names of exports beside those of members.
-CALLS = set("check check_within canonical room is_canonical".split())
+# The calls of each message beside those of its members.
+CALLS = "check check_within canonical room is_canonical".split()
 
 
 class Told:
     """A member that a call tells: a number, or bytes that are copied into the caller's room."""
 
-    def __init__(self, message, member, at):
-        self.member, self.number_of_field = member, member.number
+    def __init__(self, gate, member, at):
+        self.member = member
         self.is_optional = member.rust.startswith("Option<")
         held = member.rust[7:-1] if self.is_optional else member.rust
         self.is_text = held in ("String", "Vec<u8>", "Bytes")
@@ -32,11 +32,11 @@ class Told:
         self.number = "i32" if self.is_enum else REALS.get(held, (held,))[0]
         self.path = "m" + ".1" * at + ".0"
         self.name = member.name.rstrip("_")
-        self.name += "_" * (self.name in CALLS or self.name in message.told_names)
-
-    @property
-    def said(self):
-        return self.member.field.said
+        while f"{gate.prefix}_{self.name}" in gate.taken:
+            self.name += "_"
+        gate.taken.add(f"{gate.prefix}_{self.name}")
+        # What it is called in Rust, in a module of its message.
+        self.name_in_rust = self.name + "_" * (self.name in KEYWORDS)
 
 
 def is_told(member):
@@ -50,22 +50,25 @@ def is_told(member):
 class Gate:
     """A message, and what calls say of its bytes."""
 
-    def __init__(self, world, message, types):
-        self.rust, self.snake, self.full = message.rust, snake(message.rust), message.name.full
+    def __init__(self, message, types):
+        self.message, self.rust, self.snake, self.full = message, message.rust, snake(message.rust), message.name.full
         self.prefix = self.snake.rstrip("_")
-        self.path = "::".join([types, self.snake])
-        self.file, self.said, self.is_asked = message.name.file.shown, message.name.said, bool(message.asked)
-        self.told, self.told_names = [], set()
-        if not message.holds_itself and not blocks(message):
-            for at, member in enumerate(message.members):
-                if is_told(member):
-                    self.told.append(Told(self, member, at))
-                    self.told_names.add(self.told[-1].name)
+        self.path, self.file = "::".join([types, self.snake]), message.name.file.shown
+        self.is_asked, self.told = bool(message.asked), []
+
+    def find_told(self, taken):
+        """Finds the members that calls tell, and gives each call a name that no other export has."""
+        self.taken = taken
+        if not self.message.holds_itself and not blocks(self.message):
+            self.told = [Told(self, member, at) for at, member in enumerate(self.message.members) if is_told(member)]
 
 
 class Library:
     """All that a run makes: the crate's name, its messages, and the .proto files that they are from."""
 
-    def __init__(self, crate, gates):
-        self.crate, self.gates = crate, gates
-        self.files = sorted({it.file for it in gates})
+    def __init__(self, crate, messages, types):
+        self.crate, self.gates = crate, [Gate(it, types) for it in messages]
+        self.files = sorted({it.file for it in self.gates})
+        taken = {f"{gate.prefix}_{name}" for gate in self.gates for name in CALLS}
+        for gate in self.gates:
+            gate.find_told(taken)

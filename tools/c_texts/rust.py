@@ -86,7 +86,7 @@ def declared(gate, numbers):
 def told_as(told):
     """The type of a member that is told, and what makes it of what the library told."""
     if told.is_text:
-        return ("String", "text({})?") if told.is_utf8 else ("Vec<u8>", "{}")
+        return ("String", "super::text({})?") if told.is_utf8 else ("Vec<u8>", "{}")
     return (told.real, f"{told.real}::from_bits({{}})") if told.real else (told.number, "{}")
 
 
@@ -96,14 +96,14 @@ def tell(gate, told):
     answer = f"Option<{kind}>" if told.is_optional else kind
     there, passed = ("let mut there = false;", "&mut there, ") if told.is_optional else ("", "")
     made = [f"    /// The member `{told.name}` of what the bytes mean{', if it is there' if told.is_optional else ''}."]
-    made += [f"    pub fn {told.name}(bytes: &[u8]) -> Result<{answer}, Refused> {{"] + [f"        {there}"] * told.is_optional
+    made += [f"    pub fn {told.name_in_rust}(bytes: &[u8]) -> Result<{answer}, Refused> {{"] + [f"        {there}"] * told.is_optional
     if told.is_text:
         call = f"{gate.prefix}_{told.name}(bytes.as_ptr(), bytes.len(), {passed}out.as_mut_ptr(), out.len(), written)"
-        made += ["        let value = copied(bytes.len(), |out, written| unsafe {", f"            {call}", "        })?;"]
+        made += ["        let value = super::copied(bytes.len(), |out, written| unsafe {", f"            {call}", "        })?;"]
     else:
         zero = "false" if told.number == "bool" else "0"
         made += [f"        let mut value = {zero};"]
-        made += [f"        answered(unsafe {{ {gate.prefix}_{told.name}(bytes.as_ptr(), bytes.len(), {passed}&mut value) }})?;"]
+        made += [f"        super::answered(unsafe {{ {gate.prefix}_{told.name}(bytes.as_ptr(), bytes.len(), {passed}&mut value) }})?;"]
     value = make.format("value")
     if told.is_optional:
         return made + [f"        Ok(if there {{ Some({value}) }} else {{ None }})", "    }", ""]
@@ -112,18 +112,18 @@ def tell(gate, told):
 
 def module(gate, numbers):
     name, args = gate.prefix, "bytes.as_ptr(), bytes.len()"
-    made = ["", f"/// `{gate.full}`.", f"pub mod {gate.snake} {{", "    use super::*;", "", '    extern "C" {', *declared(gate, numbers), "    }", ""]
+    made = ["", f"/// `{gate.full}`.", f"pub mod {gate.snake} {{", "    use super::{Limits, NO_ROOM, Refused};", "", '    extern "C" {', *declared(gate, numbers), "    }", ""]
     made += ["    /// Whether the bytes are accepted, under the usual limits.", "    pub fn check(bytes: &[u8]) -> Result<(), Refused> {"]
-    made += [f"        answered(unsafe {{ {name}_check({args}) }})", "    }", ""]
+    made += [f"        super::answered(unsafe {{ {name}_check({args}) }})", "    }", ""]
     made += ["    /// The same under limits of yours.", "    pub fn check_within(bytes: &[u8], limits: Limits) -> Result<(), Refused> {"]
     made += ["        let Limits { longest, depth, unknown, units } = limits;"]
-    made += [f"        answered(unsafe {{ {name}_check_within({args}, longest, depth, unknown, units) }})", "    }", ""]
+    made += [f"        super::answered(unsafe {{ {name}_check_within({args}, longest, depth, unknown, units) }})", "    }", ""]
     made += ["    /// Whether the bytes are the encoding of what they mean.", "    pub fn is_canonical(bytes: &[u8]) -> Result<(), Refused> {"]
-    made += [f"        answered(unsafe {{ {name}_is_canonical({args}) }})", "    }", ""]
+    made += [f"        super::answered(unsafe {{ {name}_is_canonical({args}) }})", "    }", ""]
     made += ["    /// How many bytes `canonical` answers.", "    pub fn room(bytes: &[u8]) -> Result<usize, Refused> {", "        let mut room = 0;"]
-    made += [f"        answered(unsafe {{ {name}_room({args}, &mut room) }})?;", "        Ok(room)", "    }", ""]
+    made += [f"        super::answered(unsafe {{ {name}_room({args}, &mut room) }})?;", "        Ok(room)", "    }", ""]
     made += ["    /// The encoding of what the bytes mean.", "    pub fn canonical(bytes: &[u8]) -> Result<Vec<u8>, Refused> {"]
-    made += ["        let into = |room| copied(room, |out, written| unsafe {", f"            {name}_canonical({args}, out.as_mut_ptr(), out.len(), written)", "        });"]
+    made += ["        let into = |room| super::copied(room, |out, written| unsafe {", f"            {name}_canonical({args}, out.as_mut_ptr(), out.len(), written)", "        });"]
     made += ["        match into(bytes.len()) {", "            Err(Refused(NO_ROOM)) => into(room(bytes)?),", "            made => made,", "        }", "    }", ""]
     for told in gate.told:
         made += tell(gate, told)

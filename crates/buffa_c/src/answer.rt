@@ -4,7 +4,7 @@ ghost use Rattle.std.specs.Prelude.{◌≡◌, ◌<◌};
 ghost use Rattle.buffa_bytes.specs.declared.error.DecodeError.TheVariants as decoding;
 ghost use Rattle.buffa_c.specs.Answers.{number_of_fault};
 
-use buffa_bytes::DecodeError;
+use buffa_fields::DecodeError;
 
 /// All is well: the bytes are accepted, and what was asked for is told.
 ///

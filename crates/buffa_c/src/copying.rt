@@ -1,6 +1,5 @@
 //! Bytes into a caller's room.
 
-ghost use Rattle.std.specs.Prelude.{};
 ghost use Rattle.buffa_c.specs.Encodings.{Puts};
 
 use crate::answer::{ACCEPTED, NO_ROOM};

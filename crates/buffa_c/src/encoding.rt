@@ -7,8 +7,7 @@ use crate::answer::{ACCEPTED, NO_ROOM, NOT_CANONICAL, OUT_OF_MEMORY, TOO_LARGE};
 use crate::copying::put;
 use crate::limits::Limits;
 use crate::reading::read;
-use buffa_wire::message::MAX_MESSAGE_BYTES;
-use buffa_wire::{Message, SizeCache};
+use buffa_fields::{MAX_MESSAGE_BYTES, Message, SizeCache};
 use std::alloc::Global;
 
 // The encoding of a message, where it has at most so many bytes; else the number of why not. Its memory is asked for at once.

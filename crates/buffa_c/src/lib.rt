@@ -21,4 +21,4 @@ pub use answer::{
 pub use copying::put;
 pub use encoding::{canonical, is_canonical, room_of};
 pub use limits::{Limits, USUAL};
-pub use reading::{check, read};
+pub use reading::{check, check_whole, read};

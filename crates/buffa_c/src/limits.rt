@@ -3,9 +3,9 @@
 ghost use Rattle.std.specs.Prelude.{◌≡◌};
 ghost use Rattle.buffa_c.specs.Answers.{budget_of};
 
-use buffa_wire::message::MAX_MESSAGE_BYTES;
-use buffa_wire::{
-    Budget, DEFAULT_ELEMENT_MEMORY_LIMIT, DEFAULT_UNKNOWN_FIELD_LIMIT, RECURSION_LIMIT,
+use buffa_fields::{
+    Budget, DEFAULT_ELEMENT_MEMORY_LIMIT, DEFAULT_UNKNOWN_FIELD_LIMIT, MAX_MESSAGE_BYTES,
+    RECURSION_LIMIT,
 };
 
 /// What a caller allows bytes that are read.

@@ -1,11 +1,11 @@
 //! Whether bytes are accepted, and the message that they mean.
 
 ghost use Rattle.std.specs.Prelude.{◌≡◌, IfErr, IfOk, OnOk, Some};
-ghost use Rattle.buffa_c.specs.Answers.{Checks, AreAccepted, AreRefused, NumbersFault};
+ghost use Rattle.buffa_c.specs.Answers.{AreAccepted, AreRefused, Checks, ChecksWhole, NumbersFault};
 
-use crate::answer::{ACCEPTED, TOO_LONG, fault_number};
+use crate::answer::{ACCEPTED, MISSING_REQUIRED, TOO_LONG, fault_number};
 use crate::limits::Limits;
-use buffa_wire::{Decode, Message};
+use buffa_fields::{Decode, Message, Required};
 use std::alloc::Global;
 
 /// The message that the bytes mean, under the limits.
@@ -51,6 +51,30 @@ pub fn check<M: Message + Drop>(alloc: Global, bytes: &[u8], limits: Limits) -> 
 {
     match read::<M>(alloc, bytes, limits) {
         Ok(_) => ACCEPTED,
+        Err(answer) => answer,
+    }
+}
+
+/// Whether the bytes are accepted under the limits, and have all that is required: [`ACCEPTED`], or the number of why not.
+///
+/// It is [`MISSING_REQUIRED`] where [`check`] accepts the bytes, and `is_initialized` says that something is missing.
+///
+/// ```ignore
+/// match read::<M>(alloc, bytes, limits) { .. } // is_initialized of what is read
+/// ```
+pub fn check_whole<M: Message + Required + Drop>(alloc: Global, bytes: &[u8], limits: Limits) -> u32
+    ensures answer { ChecksWhole (M.merged limits.depth M.blank_is bytes.now) (M.cost limits.depth bytes.now) M.meaning
+        M.initialized limits bytes.now result }
+    ensures which { NumbersFault M.merged M.cost M.Refused M.blank_is limits bytes.now result }
+{
+    match read::<M>(alloc, bytes, limits) {
+        Ok(message) => {
+            if message.is_initialized() {
+                ACCEPTED
+            } else {
+                MISSING_REQUIRED
+            }
+        }
         Err(answer) => answer,
     }
 }

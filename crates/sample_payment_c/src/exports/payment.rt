@@ -3,7 +3,7 @@
 ghost use Rattle.std.specs.Prelude.{option_map};
 ghost use Rattle.buffa_c.specs.Answers.{Checks, NumbersFault};
 ghost use Rattle.buffa_c.specs.Encodings.{ChecksCanonical, Measures, Rewrites};
-ghost use Rattle.buffa_c.specs.Members.{CopiesBytes, TellsNumber};
+ghost use Rattle.buffa_c.specs.Members.{ChecksRoom, CopiesBytes, TellsNumber};
 
 use buffa_c::{ACCEPTED, Limits, USUAL, canonical, check, is_canonical, put, read, room_of};
 use buffa_fields::{Blank, MessageSpec, RECURSION_LIMIT};
@@ -87,9 +87,12 @@ pub extern "C" fn payment_is_canonical(alloc: Global, bytes: &[u8]) -> u32
 /// The member `amount` of the `Payment` that the bytes mean.
 #[unsafe(no_mangle)]
 pub extern "C" fn payment_amount(alloc: Global, bytes: &[u8], value: &mut i32) -> u32
-    ensures { let meant = ⟦<Payment as MessageSpec>⟧.merged RECURSION_LIMIT ⟦<Payment as Blank>⟧.blank_is bytes.now in
-        TellsNumber meant (⟦<Payment as MessageSpec>⟧.cost RECURSION_LIMIT bytes.now) USUAL bytes.now
-        (option_map (λ m. m.0) meant) result value.old value.new }
+    ensures answer { Checks
+        (⟦<Payment as MessageSpec>⟧.merged RECURSION_LIMIT ⟦<Payment as Blank>⟧.blank_is bytes.now)
+        (⟦<Payment as MessageSpec>⟧.cost RECURSION_LIMIT bytes.now) USUAL bytes.now result }
+    ensures told { TellsNumber (option_map (λ m. m.0)
+        (⟦<Payment as MessageSpec>⟧.merged RECURSION_LIMIT ⟦<Payment as Blank>⟧.blank_is bytes.now))
+        result value.old value.new }
 {
     match read::<Payment>(alloc, bytes, USUAL) {
         Ok(message) => {
@@ -108,9 +111,12 @@ pub extern "C" fn payment_note(
     out: &mut [u8],
     written: &mut usize,
 ) -> u32
-    ensures { let meant = ⟦<Payment as MessageSpec>⟧.merged RECURSION_LIMIT ⟦<Payment as Blank>⟧.blank_is bytes.now in
-        CopiesBytes meant (⟦<Payment as MessageSpec>⟧.cost RECURSION_LIMIT bytes.now) USUAL bytes.now
-        (option_map (λ m. m.1.1.0) meant) result out.old out.new written.new }
+    ensures answer { ChecksRoom
+        (⟦<Payment as MessageSpec>⟧.merged RECURSION_LIMIT ⟦<Payment as Blank>⟧.blank_is bytes.now)
+        (⟦<Payment as MessageSpec>⟧.cost RECURSION_LIMIT bytes.now) USUAL bytes.now result }
+    ensures told { CopiesBytes (option_map (λ m. m.1.1.0)
+        (⟦<Payment as MessageSpec>⟧.merged RECURSION_LIMIT ⟦<Payment as Blank>⟧.blank_is bytes.now))
+        result out.old out.new written.new }
 {
     *written = 0;
     match read::<Payment>(alloc, bytes, USUAL) {

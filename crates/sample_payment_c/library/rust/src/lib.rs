@@ -112,7 +112,7 @@ pub const TOO_LARGE: u32 = 19;
 
 /// `buffa.sample.Payment`.
 pub mod payment {
-    use super::*;
+    use super::{Limits, NO_ROOM, Refused};
 
     extern "C" {
         fn payment_check(bytes: *const u8, bytes_len: usize) -> u32;
@@ -126,30 +126,30 @@ pub mod payment {
 
     /// Whether the bytes are accepted, under the usual limits.
     pub fn check(bytes: &[u8]) -> Result<(), Refused> {
-        answered(unsafe { payment_check(bytes.as_ptr(), bytes.len()) })
+        super::answered(unsafe { payment_check(bytes.as_ptr(), bytes.len()) })
     }
 
     /// The same under limits of yours.
     pub fn check_within(bytes: &[u8], limits: Limits) -> Result<(), Refused> {
         let Limits { longest, depth, unknown, units } = limits;
-        answered(unsafe { payment_check_within(bytes.as_ptr(), bytes.len(), longest, depth, unknown, units) })
+        super::answered(unsafe { payment_check_within(bytes.as_ptr(), bytes.len(), longest, depth, unknown, units) })
     }
 
     /// Whether the bytes are the encoding of what they mean.
     pub fn is_canonical(bytes: &[u8]) -> Result<(), Refused> {
-        answered(unsafe { payment_is_canonical(bytes.as_ptr(), bytes.len()) })
+        super::answered(unsafe { payment_is_canonical(bytes.as_ptr(), bytes.len()) })
     }
 
     /// How many bytes `canonical` answers.
     pub fn room(bytes: &[u8]) -> Result<usize, Refused> {
         let mut room = 0;
-        answered(unsafe { payment_room(bytes.as_ptr(), bytes.len(), &mut room) })?;
+        super::answered(unsafe { payment_room(bytes.as_ptr(), bytes.len(), &mut room) })?;
         Ok(room)
     }
 
     /// The encoding of what the bytes mean.
     pub fn canonical(bytes: &[u8]) -> Result<Vec<u8>, Refused> {
-        let into = |room| copied(room, |out, written| unsafe {
+        let into = |room| super::copied(room, |out, written| unsafe {
             payment_canonical(bytes.as_ptr(), bytes.len(), out.as_mut_ptr(), out.len(), written)
         });
         match into(bytes.len()) {
@@ -161,22 +161,22 @@ pub mod payment {
     /// The member `amount` of what the bytes mean.
     pub fn amount(bytes: &[u8]) -> Result<i32, Refused> {
         let mut value = 0;
-        answered(unsafe { payment_amount(bytes.as_ptr(), bytes.len(), &mut value) })?;
+        super::answered(unsafe { payment_amount(bytes.as_ptr(), bytes.len(), &mut value) })?;
         Ok(value)
     }
 
     /// The member `note` of what the bytes mean.
     pub fn note(bytes: &[u8]) -> Result<String, Refused> {
-        let value = copied(bytes.len(), |out, written| unsafe {
+        let value = super::copied(bytes.len(), |out, written| unsafe {
             payment_note(bytes.as_ptr(), bytes.len(), out.as_mut_ptr(), out.len(), written)
         })?;
-        text(value)
+        super::text(value)
     }
 }
 
 /// `buffa.sample.Transfer`.
 pub mod transfer {
-    use super::*;
+    use super::{Limits, NO_ROOM, Refused};
 
     extern "C" {
         fn transfer_check(bytes: *const u8, bytes_len: usize) -> u32;
@@ -190,30 +190,30 @@ pub mod transfer {
 
     /// Whether the bytes are accepted, under the usual limits.
     pub fn check(bytes: &[u8]) -> Result<(), Refused> {
-        answered(unsafe { transfer_check(bytes.as_ptr(), bytes.len()) })
+        super::answered(unsafe { transfer_check(bytes.as_ptr(), bytes.len()) })
     }
 
     /// The same under limits of yours.
     pub fn check_within(bytes: &[u8], limits: Limits) -> Result<(), Refused> {
         let Limits { longest, depth, unknown, units } = limits;
-        answered(unsafe { transfer_check_within(bytes.as_ptr(), bytes.len(), longest, depth, unknown, units) })
+        super::answered(unsafe { transfer_check_within(bytes.as_ptr(), bytes.len(), longest, depth, unknown, units) })
     }
 
     /// Whether the bytes are the encoding of what they mean.
     pub fn is_canonical(bytes: &[u8]) -> Result<(), Refused> {
-        answered(unsafe { transfer_is_canonical(bytes.as_ptr(), bytes.len()) })
+        super::answered(unsafe { transfer_is_canonical(bytes.as_ptr(), bytes.len()) })
     }
 
     /// How many bytes `canonical` answers.
     pub fn room(bytes: &[u8]) -> Result<usize, Refused> {
         let mut room = 0;
-        answered(unsafe { transfer_room(bytes.as_ptr(), bytes.len(), &mut room) })?;
+        super::answered(unsafe { transfer_room(bytes.as_ptr(), bytes.len(), &mut room) })?;
         Ok(room)
     }
 
     /// The encoding of what the bytes mean.
     pub fn canonical(bytes: &[u8]) -> Result<Vec<u8>, Refused> {
-        let into = |room| copied(room, |out, written| unsafe {
+        let into = |room| super::copied(room, |out, written| unsafe {
             transfer_canonical(bytes.as_ptr(), bytes.len(), out.as_mut_ptr(), out.len(), written)
         });
         match into(bytes.len()) {
@@ -224,16 +224,16 @@ pub mod transfer {
 
     /// The member `to` of what the bytes mean.
     pub fn to(bytes: &[u8]) -> Result<String, Refused> {
-        let value = copied(bytes.len(), |out, written| unsafe {
+        let value = super::copied(bytes.len(), |out, written| unsafe {
             transfer_to(bytes.as_ptr(), bytes.len(), out.as_mut_ptr(), out.len(), written)
         })?;
-        text(value)
+        super::text(value)
     }
 
     /// The member `day` of what the bytes mean.
     pub fn day(bytes: &[u8]) -> Result<i32, Refused> {
         let mut value = 0;
-        answered(unsafe { transfer_day(bytes.as_ptr(), bytes.len(), &mut value) })?;
+        super::answered(unsafe { transfer_day(bytes.as_ptr(), bytes.len(), &mut value) })?;
         Ok(value)
     }
 }
