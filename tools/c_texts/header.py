@@ -35,7 +35,7 @@ OWED = """What a caller owes, which nothing checks:
 Several threads may call at once. A call keeps no pointer, and frees all that it asked for before it returns.
 
 An answer is 0, BUFFA_ACCEPTED, or says why not. Where it isn't 0, out and what a number is told in are as they were, and
-*written, *room and *there are 0."""
+*written and *room are 0. So is *there, but with BUFFA_NO_ROOM."""
 
 HEAP = """/* What a library asks of the heap, over malloc, realloc and free. */
 #include <stddef.h>

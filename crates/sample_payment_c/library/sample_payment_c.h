@@ -12,7 +12,7 @@
    Several threads may call at once. A call keeps no pointer, and frees all that it asked for before it returns.
 
    An answer is 0, BUFFA_ACCEPTED, or says why not. Where it isn't 0, out and what a number is told in are as they were, and
-   *written, *room and *there are 0. */
+   *written and *room are 0. So is *there, but with BUFFA_NO_ROOM. */
 #ifndef SAMPLE_PAYMENT_C_H
 #define SAMPLE_PAYMENT_C_H
 #include <stdbool.h>
