@@ -137,8 +137,8 @@ def tell_body(gate, told):
     elif not told.is_optional:
         made += ["    Ok(message) => {", f"        *value = {taken(told, member)};", "        ACCEPTED", "    }"]
     elif told.is_text:
-        made += [f"    Ok(message) => match &{member} {{", "        Some(held) => {", "            *there = true;"]
-        made += [f"            put({taken(told, 'held')}, out, written)", "        }", "        None => ACCEPTED,", "    },"]
+        made += [f"    Ok(message) => match &{member} {{", f"        Some(held) => put_some({taken(told, 'held')}, there, out, written),"]
+        made += ["        None => ACCEPTED,", "    },"]
     else:
         made += [f"    Ok(message) => {{", f"        if let Some(held) = {'&' if told.is_enum else ''}{member} {{", "            *there = true;"]
         made += [f"            *value = {taken(told, 'held')};", "        }", "        ACCEPTED", "    }"]
@@ -158,7 +158,7 @@ def text(gate):
     head += ["ghost use Rattle.buffa_c.specs.Encodings.{ChecksCanonical, Measures, Rewrites};"]
     used = [it for it in ("ChecksRoom", "CopiesBytes", "CopiesBytesIf", "TellsNumber", "TellsNumberIf") if f"{{ {it} " in body or f"{{ {it}\n" in body]
     head += [f"ghost use Rattle.buffa_c.specs.Members.{{{', '.join(used)}}};"] * bool(used)
-    calls = {"Limits", "USUAL", "canonical", "is_canonical", "room_of"} | {it for it in ("check", "check_whole", "put", "read") if f"{it}::<" in body or f" {it}(" in body}
+    calls = {"Limits", "USUAL", "canonical", "is_canonical", "room_of"} | {it for it in ("check", "check_whole", "put", "put_some", "read") if f"{it}::<" in body or f" {it}(" in body}
     calls |= {it for it in ("ACCEPTED",) if it in body}
     modules = {"buffa_c": calls, "buffa_fields": {"Blank", "MessageSpec", "RECURSION_LIMIT"} | ({"Required"} if gate.is_asked else set()), gate.path: {gate.rust}, "std::alloc": {"Global"}}
     uses = []

@@ -18,7 +18,7 @@ pub use answer::{
     ACCEPTED, MISSING_REQUIRED, NO_ROOM, NOT_CANONICAL, OUT_OF_MEMORY, TOO_LARGE, TOO_LONG,
     fault_number,
 };
-pub use copying::put;
+pub use copying::{put, put_some};
 pub use encoding::{canonical, is_canonical, room_of};
 pub use limits::{Limits, USUAL};
 pub use reading::{check, check_whole, read};
