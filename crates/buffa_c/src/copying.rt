@@ -1,6 +1,6 @@
 //! Bytes into a caller's room.
 
-ghost use Rattle.std.specs.Prelude.{Some};
+ghost use Rattle.std.specs.Prelude.{◌≡◌, ◌≢◌, Some};
 ghost use Rattle.buffa_c.specs.Encodings.{Puts};
 ghost use Rattle.buffa_c.specs.Members.{CopiesBytes, CopiesBytesIf};
 
@@ -35,7 +35,8 @@ pub fn put(bytes: &[u8], room: &mut [u8], written: &mut usize) -> u32
 /// put(bytes, room, written)
 /// ```
 pub fn put_some(bytes: &[u8], there: &mut bool, room: &mut [u8], written: &mut usize) -> u32
-    ensures { CopiesBytesIf (Some (Some bytes.now)) result there.new room.old room.new written.new }
+    ensures copies { CopiesBytesIf (Some (Some bytes.now)) result there.new room.old room.new written.new }
+    ensures full { result ≢ ACCEPTED → result ≡ NO_ROOM }
 {
     *there = true;
     put(bytes, room, written)
