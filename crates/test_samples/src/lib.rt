@@ -12,11 +12,15 @@ mod held;
 #[cfg(test)]
 mod measure;
 #[cfg(test)]
+mod names;
+#[cfg(test)]
 mod outline;
 #[cfg(test)]
 mod palette;
 #[cfg(test)]
 mod payment;
+#[cfg(test)]
+mod printed;
 #[cfg(test)]
 mod settings;
 #[cfg(test)]

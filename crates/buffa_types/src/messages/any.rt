@@ -17,7 +17,7 @@ use std::string::String;
 ///     string type_url = 1;
 ///     bytes value = 2;
 /// }
-#[derive(Drop)]
+#[derive(Debug, Drop)]
 pub struct Any {
     /// Which type it is: the full name of the message, such as `google.protobuf.Duration`, behind the last `/`. What stands
     /// before the `/` is as a rule `type.googleapis.com`.
@@ -91,3 +91,8 @@ impl Formed for Any {
 }
 
 const _: () = prove!(size_of::<Any>() <= Any::COST);
+
+impl Any {
+    /// The full name of the message.
+    pub const FULL_NAME: &'static str = "google.protobuf.Any";
+}

@@ -15,7 +15,7 @@ use std::alloc::Global;
 /// message BoolValue {
 ///     bool value = 1;
 /// }
-#[derive(Drop)]
+#[derive(Debug, Drop)]
 pub struct BoolValue {
     /// The value.
     pub value: bool,
@@ -82,3 +82,8 @@ impl Formed for BoolValue {
 }
 
 const _: () = prove!(size_of::<BoolValue>() <= BoolValue::COST);
+
+impl BoolValue {
+    /// The full name of the message.
+    pub const FULL_NAME: &'static str = "google.protobuf.BoolValue";
+}

@@ -15,7 +15,7 @@ use std::alloc::Global;
 /// message BytesValue {
 ///     bytes value = 1;
 /// }
-#[derive(Drop)]
+#[derive(Debug, Drop)]
 pub struct BytesValue {
     /// The value.
     pub value: Vec<u8>,
@@ -82,3 +82,8 @@ impl Formed for BytesValue {
 }
 
 const _: () = prove!(size_of::<BytesValue>() <= BytesValue::COST);
+
+impl BytesValue {
+    /// The full name of the message.
+    pub const FULL_NAME: &'static str = "google.protobuf.BytesValue";
+}

@@ -15,7 +15,7 @@ use std::alloc::Global;
 /// message DoubleValue {
 ///     double value = 1;
 /// }
-#[derive(Drop)]
+#[derive(Debug, Drop)]
 pub struct DoubleValue {
     /// The value.
     pub value: DoubleBits,
@@ -82,3 +82,8 @@ impl Formed for DoubleValue {
 }
 
 const _: () = prove!(size_of::<DoubleValue>() <= DoubleValue::COST);
+
+impl DoubleValue {
+    /// The full name of the message.
+    pub const FULL_NAME: &'static str = "google.protobuf.DoubleValue";
+}

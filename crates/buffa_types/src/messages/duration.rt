@@ -16,7 +16,7 @@ use std::alloc::Global;
 ///     int64 seconds = 1;
 ///     int32 nanos = 2;
 /// }
-#[derive(Drop)]
+#[derive(Debug, Drop)]
 pub struct Duration {
     /// The whole seconds, -315,576,000,000 to 315,576,000,000.
     pub seconds: i64,
@@ -89,3 +89,8 @@ impl Formed for Duration {
 }
 
 const _: () = prove!(size_of::<Duration>() <= Duration::COST);
+
+impl Duration {
+    /// The full name of the message.
+    pub const FULL_NAME: &'static str = "google.protobuf.Duration";
+}

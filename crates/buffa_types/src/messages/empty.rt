@@ -13,7 +13,7 @@ use std::alloc::Global;
 ///
 /// message Empty {
 /// }
-#[derive(Drop)]
+#[derive(Debug, Drop)]
 pub struct Empty {
     /// The fields that aren't declared, in order.
     pub rest: UnknownFields,
@@ -72,3 +72,8 @@ impl Formed for Empty {
 }
 
 const _: () = prove!(size_of::<Empty>() <= Empty::COST);
+
+impl Empty {
+    /// The full name of the message.
+    pub const FULL_NAME: &'static str = "google.protobuf.Empty";
+}

@@ -16,7 +16,7 @@ use std::string::String;
 /// message FieldMask {
 ///     repeated string paths = 1;
 /// }
-#[derive(Drop)]
+#[derive(Debug, Drop)]
 pub struct FieldMask {
     /// A path for each: the names of fields from the outermost one on, with a dot between them, such as `author.name`.
     pub paths: Vec<String>,
@@ -83,3 +83,8 @@ impl Formed for FieldMask {
 }
 
 const _: () = prove!(size_of::<FieldMask>() <= FieldMask::COST);
+
+impl FieldMask {
+    /// The full name of the message.
+    pub const FULL_NAME: &'static str = "google.protobuf.FieldMask";
+}

@@ -15,7 +15,7 @@ use std::alloc::Global;
 /// message FloatValue {
 ///     float value = 1;
 /// }
-#[derive(Drop)]
+#[derive(Debug, Drop)]
 pub struct FloatValue {
     /// The value.
     pub value: FloatBits,
@@ -82,3 +82,8 @@ impl Formed for FloatValue {
 }
 
 const _: () = prove!(size_of::<FloatValue>() <= FloatValue::COST);
+
+impl FloatValue {
+    /// The full name of the message.
+    pub const FULL_NAME: &'static str = "google.protobuf.FloatValue";
+}

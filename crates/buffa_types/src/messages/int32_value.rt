@@ -15,7 +15,7 @@ use std::alloc::Global;
 /// message Int32Value {
 ///     int32 value = 1;
 /// }
-#[derive(Drop)]
+#[derive(Debug, Drop)]
 pub struct Int32Value {
     /// The value.
     pub value: i32,
@@ -82,3 +82,8 @@ impl Formed for Int32Value {
 }
 
 const _: () = prove!(size_of::<Int32Value>() <= Int32Value::COST);
+
+impl Int32Value {
+    /// The full name of the message.
+    pub const FULL_NAME: &'static str = "google.protobuf.Int32Value";
+}

@@ -15,7 +15,7 @@ use std::alloc::Global;
 /// message Int64Value {
 ///     int64 value = 1;
 /// }
-#[derive(Drop)]
+#[derive(Debug, Drop)]
 pub struct Int64Value {
     /// The value.
     pub value: i64,
@@ -82,3 +82,8 @@ impl Formed for Int64Value {
 }
 
 const _: () = prove!(size_of::<Int64Value>() <= Int64Value::COST);
+
+impl Int64Value {
+    /// The full name of the message.
+    pub const FULL_NAME: &'static str = "google.protobuf.Int64Value";
+}

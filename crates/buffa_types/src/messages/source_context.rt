@@ -16,7 +16,7 @@ use std::string::String;
 /// message SourceContext {
 ///     string file_name = 1;
 /// }
-#[derive(Drop)]
+#[derive(Debug, Drop)]
 pub struct SourceContext {
     /// The name of the .proto file, from the folder in which protoc looks for imports.
     pub file_name: String,
@@ -83,3 +83,8 @@ impl Formed for SourceContext {
 }
 
 const _: () = prove!(size_of::<SourceContext>() <= SourceContext::COST);
+
+impl SourceContext {
+    /// The full name of the message.
+    pub const FULL_NAME: &'static str = "google.protobuf.SourceContext";
+}

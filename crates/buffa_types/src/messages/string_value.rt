@@ -16,7 +16,7 @@ use std::string::String;
 /// message StringValue {
 ///     string value = 1;
 /// }
-#[derive(Drop)]
+#[derive(Debug, Drop)]
 pub struct StringValue {
     /// The value.
     pub value: String,
@@ -83,3 +83,8 @@ impl Formed for StringValue {
 }
 
 const _: () = prove!(size_of::<StringValue>() <= StringValue::COST);
+
+impl StringValue {
+    /// The full name of the message.
+    pub const FULL_NAME: &'static str = "google.protobuf.StringValue";
+}

@@ -17,7 +17,7 @@ use std::alloc::Global;
 ///     int64 seconds = 1;
 ///     int32 nanos = 2;
 /// }
-#[derive(Drop)]
+#[derive(Debug, Drop)]
 pub struct Timestamp {
     /// The whole seconds since 1970-01-01T00:00:00Z, -62,135,596,800 to 253,402,300,799: less than 0 before it.
     pub seconds: i64,
@@ -90,3 +90,8 @@ impl Formed for Timestamp {
 }
 
 const _: () = prove!(size_of::<Timestamp>() <= Timestamp::COST);
+
+impl Timestamp {
+    /// The full name of the message.
+    pub const FULL_NAME: &'static str = "google.protobuf.Timestamp";
+}

@@ -15,7 +15,7 @@ use std::alloc::Global;
 /// message UInt32Value {
 ///     uint32 value = 1;
 /// }
-#[derive(Drop)]
+#[derive(Debug, Drop)]
 pub struct UInt32Value {
     /// The value.
     pub value: u32,
@@ -82,3 +82,8 @@ impl Formed for UInt32Value {
 }
 
 const _: () = prove!(size_of::<UInt32Value>() <= UInt32Value::COST);
+
+impl UInt32Value {
+    /// The full name of the message.
+    pub const FULL_NAME: &'static str = "google.protobuf.UInt32Value";
+}

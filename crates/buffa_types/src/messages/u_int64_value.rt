@@ -15,7 +15,7 @@ use std::alloc::Global;
 /// message UInt64Value {
 ///     uint64 value = 1;
 /// }
-#[derive(Drop)]
+#[derive(Debug, Drop)]
 pub struct UInt64Value {
     /// The value.
     pub value: u64,
@@ -82,3 +82,8 @@ impl Formed for UInt64Value {
 }
 
 const _: () = prove!(size_of::<UInt64Value>() <= UInt64Value::COST);
+
+impl UInt64Value {
+    /// The full name of the message.
+    pub const FULL_NAME: &'static str = "google.protobuf.UInt64Value";
+}

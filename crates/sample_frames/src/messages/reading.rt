@@ -17,7 +17,7 @@ use std::string::String;
 ///     string sensor = 1;
 ///     sint32 value = 2;
 /// }
-#[derive(Drop)]
+#[derive(Debug, Drop)]
 pub struct Reading {
     /// The sensor's name.
     pub sensor: String,
@@ -90,3 +90,8 @@ impl Formed for Reading {
 }
 
 const _: () = prove!(size_of::<Reading>() <= Reading::COST);
+
+impl Reading {
+    /// The full name of the message.
+    pub const FULL_NAME: &'static str = "buffa.sample.Reading";
+}
