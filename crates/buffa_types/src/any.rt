@@ -40,7 +40,7 @@ impl Any {
     }
 
     /// Whether its message is of the type with this full name: the name stands behind the last `/` of the URL. What stands
-    /// before that `/` isn't looked at. A URL without a `/` names no type, and so does nothing a name with one.
+    /// before that `/` isn't looked at. A URL without a `/` names no type, and no type has a name with one.
     ///
     /// ```ignore
     /// let is_duration = packed.is("google.protobuf.Duration");

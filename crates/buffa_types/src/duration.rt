@@ -75,7 +75,7 @@ impl Duration {
     /// Whether the seconds and the nanoseconds are in range, as [`Duration::new`] has it: what was read needn't be.
     ///
     /// ```ignore
-    /// if !order.delay.is_valid() { .. }
+    /// let is_valid = delay.is_valid();
     /// ```
     pub fn is_valid(&self) -> bool
         ensures { IsTrue result ↔ IsDuration self.now.seconds self.now.nanos }
@@ -86,7 +86,7 @@ impl Duration {
     /// How many nanoseconds long it is: less than 0 where it goes back. It may be out of range.
     ///
     /// ```ignore
-    /// let nanoseconds = order.delay.as_nanos();
+    /// let nanoseconds = delay.as_nanos();
     /// ```
     pub fn as_nanos(&self) -> i128
         ensures { result ≡ nanoseconds self.now.seconds self.now.nanos }

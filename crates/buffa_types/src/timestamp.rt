@@ -61,7 +61,7 @@ impl Timestamp {
     /// Whether the seconds and the nanoseconds are in range, as [`Timestamp::new`] has it: what was read needn't be.
     ///
     /// ```ignore
-    /// if !order.placed.is_valid() { .. }
+    /// let is_valid = placed.is_valid();
     /// ```
     pub fn is_valid(&self) -> bool
         ensures { IsTrue result ↔ IsTimestamp self.now.seconds self.now.nanos }
@@ -72,7 +72,7 @@ impl Timestamp {
     /// How many nanoseconds it is behind 1970-01-01T00:00:00Z: less than 0 before it. It may be out of range.
     ///
     /// ```ignore
-    /// let nanoseconds = order.placed.as_nanosecond();
+    /// let nanoseconds = placed.as_nanosecond();
     /// ```
     pub fn as_nanosecond(&self) -> i128
         ensures { result ≡ nanoseconds self.now.seconds self.now.nanos }
