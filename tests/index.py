@@ -40,7 +40,7 @@ def read(path):
 
 def listed():
     """The crates, in the order of crates.txt."""
-    return [it.partition(":")[0] for it in read("crates.txt").split("\n") if it.strip() and not it.startswith("#")]
+    return [it.partition(":")[0].split()[0] for it in read("crates.txt").split("\n") if it.strip() and not it.startswith("#")]
 
 
 def files_of(crate, part, end):

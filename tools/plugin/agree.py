@@ -1,8 +1,8 @@
 #!/usr/bin/python3
-"""Says where the messages of one set of descriptors aren't those of another: agree.py OURS THEIRS.
+"""Says where the messages of one set of descriptors aren't those of another: agree.py [--whole] OURS THEIRS.
 
 Each field of ours has to be there, with the same number, label, type and default; and each of theirs here, but for the
-fields of options, and for the messages that ours doesn't have.
+fields of options, and for the messages that ours doesn't have. With --whole ours has all of them. The files have one syntax.
 """
 import sys
 
@@ -24,12 +24,16 @@ def fields_of(file):
             add(full, inner)
 
     for each in files:
+        found[each.package] = {"syntax": each.syntax}
         for message in each.message_type:
             add(each.package, message)
     return found
 
 
-def differences(ours, theirs):
+def differences(ours, theirs, is_whole):
+    for name in theirs:
+        if is_whole and name not in ours:
+            yield f"{name}: ours isn't there"
     for name, fields in ours.items():
         for field, what in fields.items():
             if theirs.get(name, {}).get(field) != what:
@@ -40,6 +44,7 @@ def differences(ours, theirs):
 
 
 if __name__ == "__main__":
-    found = list(differences(fields_of(sys.argv[1]), fields_of(sys.argv[2])))
+    ours, theirs = map(fields_of, sys.argv[-2:])
+    found = list(differences(ours, theirs, "--whole" in sys.argv[1:-2]))
     print("\n".join(found))
     sys.exit(1 if found else 0)

@@ -1,14 +1,17 @@
-"""A getter for each member with a declared default: what the member holds, or the default where nothing is there."""
+"""A getter for each optional member: what the member holds, or its default where nothing is there."""
 import struct
 
 from google.protobuf.descriptor_pb2 import FieldDescriptorProto as Field
 
 import knots
 from files import clean
+from names import TAKEN
 
+LONGEST = 120
 ESCAPES = {"n": 10, "r": 13, "t": 9, '"': 34, "'": 39, "\\": 92}
 TEXTS = (Field.TYPE_STRING, Field.TYPE_BYTES)
 REALS = (Field.TYPE_FLOAT, Field.TYPE_DOUBLE)
+OTHERS = (Field.TYPE_MESSAGE, Field.TYPE_GROUP, Field.TYPE_ENUM)
 
 
 def unescaped(text):
@@ -50,9 +53,37 @@ def in_contract(codes):
     return f"({' ∷ '.join(map(str, codes))} ∷ [])", {"[]", "◌∷◌"}
 
 
+def has_getter(member):
+    """Whether a member has a getter: one that is optional, and holds neither a message nor an encoding, nor bytes that are shared."""
+    if not member.rust.startswith("Option<") or member.is_case or member.itself or member.told & {"optional", "shared"}:
+        return False
+    if member.it.type != Field.TYPE_ENUM:
+        return member.it.type not in OTHERS
+    # A clause about a closed enum cites the crate that the enum stands in.
+    return bool(member.world.crate) or is_open(member) or not member.world.module_of(full_of(member)).startswith("crate")
+
+
+def is_open(member):
+    return member.rust.startswith("Option<EnumValue<")
+
+
+def full_of(member):
+    """The full name of the type of a member that is an enum."""
+    return member.it.type_name.lstrip(".")
+
+
+def said_by(member, enums):
+    """The default, as a descriptor has it: the declared one, or that of the type."""
+    if member.it.HasField("default_value"):
+        return member.it.default_value
+    if member.it.type == Field.TYPE_ENUM:
+        return enums[full_of(member)].name.it.value[0].name
+    return "" if member.it.type in TEXTS else "false" if member.it.type == Field.TYPE_BOOL else "0"
+
+
 def scalar(member):
     """The default of a number or a bool: as the language has it, as contracts have it, and the words in that."""
-    said = member.it.default_value
+    said = said_by(member, None)
     if member.it.type == Field.TYPE_BOOL:
         word = "true" if said == "true" else "false"
         return word, word, {word}
@@ -65,7 +96,7 @@ def scalar(member):
 
 def bits(member):
     """The default of a real number as its bits, as protoc has it: the nearest double, and for a float the nearest float to that."""
-    number = float(member.it.default_value)
+    number = float(said_by(member, None))
     if member.it.type == Field.TYPE_DOUBLE:
         return struct.unpack("<Q", struct.pack("<d", number))[0]
     try:
@@ -75,14 +106,14 @@ def bits(member):
 
 
 def variant(member, enums):
-    """The default of an enum: its type, and the value."""
-    full = member.it.type_name.lstrip(".")
-    return member.world.types[full], enums[full].by_name[member.it.default_value][1]
+    """The default of an enum, as the name of the value."""
+    return enums[full_of(member)].by_name[said_by(member, enums)][1]
 
 
 def number_of(member, enums):
-    """The number of the default of an enum."""
-    return enums[member.it.type_name.lstrip(".")].by_name[member.it.default_value][0].it.number
+    """The number of the default of an enum, as contracts write it."""
+    number = enums[full_of(member)].by_name[said_by(member, enums)][0].it.number
+    return f"pos {number}" if number >= 0 else f"negsuc {-number - 1}"
 
 
 def with_getter(message):
@@ -90,12 +121,19 @@ def with_getter(message):
 
 
 def variants_used(message, enums):
-    """By their enums, the values that are defaults."""
+    """By their enums, the values of closed enums that are defaults."""
     found = {}
     for member in with_getter(message):
-        if member.it.type == Field.TYPE_ENUM and not message.holds_itself:
-            found.setdefault(member.it.type_name.lstrip("."), set()).add(variant(member, enums)[1])
+        if member.it.type == Field.TYPE_ENUM and not is_open(member) and not message.holds_itself:
+            found.setdefault(full_of(member), set()).add(variant(member, enums))
     return found
+
+
+def in_clause(message, full, value, enums):
+    """What a clause calls a value of an enum: a type that the file imports may have the name, and so may a value of another enum."""
+    others = [it for other, of in variants_used(message, enums).items() if other != full for it in of]
+    is_taken = value in {*message.world.types.values(), *TAKEN, *others}
+    return f"{value}Of{message.world.types[full]}" if is_taken else value
 
 
 def declared(world, full):
@@ -109,14 +147,15 @@ def words(message, enums):
     """The words of std that the clauses of the getters have."""
     found = {"◌≡◌", "unwrap_or"} if with_getter(message) else set()
     for member in with_getter(message):
-        if member.it.type in TEXTS:
-            found |= in_contract(codes_of(member))[1] | (set() if message.holds_itself else {"option_map"})
-            found |= {"string_bytes"} if is_text(member) and not message.holds_itself else set()
-        elif member.it.type in REALS:
-            found |= set() if message.holds_itself else {"option_map"}
-        elif member.it.type == Field.TYPE_ENUM and message.holds_itself:
-            found |= {"pos" if number_of(member, enums) >= 0 else "negsuc"}
-        elif member.it.type != Field.TYPE_ENUM:
+        kind, mapped = member.it.type, set() if message.holds_itself else {"option_map"}
+        if kind in TEXTS:
+            found |= in_contract(codes_of(member))[1] | mapped | ({"string_bytes"} if is_text(member) and mapped else set())
+        elif kind in REALS:
+            found |= mapped
+        elif kind == Field.TYPE_ENUM:
+            found |= {number_of(member, enums).split()[0]} if message.holds_itself or is_open(member) else set()
+            found |= {"true"} | mapped if is_open(member) else set()
+        else:
             found |= scalar(member)[2]
     return found
 
@@ -127,7 +166,7 @@ def is_text(member):
 
 
 def codes_of(member):
-    said = member.it.default_value
+    said = said_by(member, None)
     return unescaped(said) if member.it.type == Field.TYPE_BYTES else list(said.encode())
 
 
@@ -150,11 +189,27 @@ def real_getter(member, held):
     return rust, f"result.bits ≡ unwrap_or {held} {number}", body
 
 
+def enum_getter(message, member, held, enums):
+    """A getter of an enum: its type, its clause, and the lines of its body."""
+    rust, value = member.rust[len("Option<") : -1], variant(member, enums)
+    name = member.world.types[full_of(member)]
+    if is_open(member):
+        clause = f"⟦<{rust} as Blank>⟧.meaning result ≡ unwrap_or {held} (true, {number_of(member, enums)})"
+        return rust, clause, [f"match &self.{member.name} {{", "    Some(it) => *it,", f"    None => EnumValue::Known({name}::{value}),", "}"]
+    if message.holds_itself:
+        clause = f"⟦<{rust} as Blank>⟧.meaning result ≡ unwrap_or {held} ({number_of(member, enums)})"
+    else:
+        clause = f"result ≡ unwrap_or {held} {in_clause(message, full_of(member), value, enums)}"
+    return rust, clause, [f"self.{member.name}.unwrap_or({name}::{value})"]
+
+
 def held_by(message, member, at):
     """What a message, which contracts call `at`, has for a member."""
     if message.holds_itself:
         return f"(rest_of {at}){knots.at(message, member)}"
     held = f"{at}.{member.in_contract}"
+    if member.it.type == Field.TYPE_ENUM and is_open(member):
+        return f"(option_map ⟦<{member.rust[len('Option<') : -1]} as Blank>⟧.meaning {held})"
     part = "(λ it. it.bits)" if member.it.type in REALS else "string_bytes" if is_text(member) else "(λ it. it.items)"
     return f"(option_map {part} {held})" if member.it.type in (*TEXTS, *REALS) else held
 
@@ -166,31 +221,33 @@ def getter(message, member, at, enums):
         rust, clause, body = text_getter(member, held)
     elif member.it.type in REALS:
         rust, clause, body = real_getter(member, held)
+    elif member.it.type == Field.TYPE_ENUM:
+        rust, clause, body = enum_getter(message, member, held, enums)
     else:
-        rust = member.rust[len("Option<") : -1]
-        if member.it.type == Field.TYPE_ENUM:
-            value, means = f"{rust}::{variant(member, enums)[1]}", variant(member, enums)[1]
-        else:
-            value, means, _ = scalar(member)
-        result = "result"
-        if member.it.type == Field.TYPE_ENUM and message.holds_itself:
-            number = number_of(member, enums)
-            result = f"⟦<{rust} as Blank>⟧.meaning result"
-            means = f"(pos {number})" if number >= 0 else f"(negsuc {-number - 1})"
-        clause, body = f"{result} ≡ unwrap_or {held} {means}", [f"self.{name}.unwrap_or({value})"]
-    made = [f"    /// `{name}`, or its default where it isn't there: {clean(member.default())}.", f"    pub fn {member.getter}(&self) -> {rust}"]
-    return made + [f"        ensures is {{ {clause} }}", "    {"] + [f"        {it}" for it in body] + ["    }"]
+        rust, (value, means, _) = member.rust[len("Option<") : -1], scalar(member)
+        clause, body = f"result ≡ unwrap_or {held} {means}", [f"self.{name}.unwrap_or({value})"]
+    default = member.default() if member.it.HasField("default_value") else said_by(member, enums) or "empty"
+    said = "its default" if member.it.HasField("default_value") else "the default of its type"
+    made = [f"    /// `{name}`, or {said} where it isn't there: {clean(default)}.", f"    pub fn {member.getter}(&self) -> {rust}"]
+    is_long = len(clause) > LONGEST - len("        ensures is {  }")
+    lines = [f"        ensures is {{ {clause} }}"]
+    if is_long:
+        left, _, right = clause.partition(" ≡ ")
+        lines = [f"        ensures is {{ {left}", f"            ≡ {right} }}"]
+    return made + lines + ["    {"] + [f"        {it}" for it in body] + ["    }"]
+
+
+def uses(message, enums):
+    """The lines of an impl by which the clauses of its getters know the values of enums."""
+    made = []
+    for full, of in variants_used(message, enums).items():
+        called = {it: in_clause(message, full, it, enums) for it in sorted(of)}
+        names = [it if name == it else f"{it} as {name}" for it, name in called.items()]
+        made.append(f"    ghost use {declared(message.world, full)}.{{{', '.join(names)}}};")
+    return sorted(made)
 
 
 def getters(message, enums):
-    """An impl with the getters of a message, if it has any."""
-    members = with_getter(message)
-    if not members:
-        return []
-    made = ["", f"impl {message.rust} {{"]
-    uses = sorted(f"    ghost use {declared(message.world, full)}.{{{', '.join(sorted(of))}}};" for full, of in variants_used(message, enums).items())
-    made += uses + [""] * bool(uses)
+    """The getters of a message, one after the other."""
     at = "self.entry.now" if any(k.name == "now" for k in message.members) else "self.now"
-    for member in members:
-        made += getter(message, member, at, enums) + [""] * (member is not members[-1])
-    return made + ["}"]
+    return [getter(message, member, at, enums) for member in with_getter(message)]

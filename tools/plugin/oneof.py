@@ -2,6 +2,7 @@
 import math
 
 from depths import own_depth
+from derived import derives
 from names import EITHER, TAKEN, TERMS, variant
 
 # As many cases of one oneof are written.
@@ -98,7 +99,7 @@ def head(one, crate, module):
 def enum(one, docs):
     """The enum, with what the .proto says of it and of its cases."""
     made = docs(one.field.said + [""] * bool(one.field.said) + one.declared())
-    made += ["#[derive(Drop)]", f"pub enum {one.enum} {{"]
+    made += [derives(one), f"pub enum {one.enum} {{"]
     for case in one.cases:
         made += docs(case.field.said, "    ") + [f"    {case.variant}({case.value}),"]
     return made + ["}", ""]

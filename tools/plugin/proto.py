@@ -7,6 +7,7 @@ from google.protobuf.descriptor_pb2 import FieldDescriptorProto as Field
 from blocks import blocks
 from depths import DEEPEST_STRUCT, own_depth
 from files import Name, Refused, clean, quoted
+from getters import has_getter
 from names import ESCAPED, TAKEN, is_variant, member, snake, variant
 from oneof import MOST_CASES, OneOf
 from world import FIELD_KEYS, MESSAGES
@@ -32,8 +33,9 @@ SCALARS = {
 REALS = (Field.TYPE_FLOAT, Field.TYPE_DOUBLE)
 # Calls of a message, which a getter would hide.
 CALLS = set(
-    "blank clear compute_size extendee_name is_initialized is_initialized_by meaning_initialized merge merge_field merge_from_slice merge_length_delimited take the_row try_encode_to_vec "
-    "unknown_fields unknown_fields_mut visit write_to TheLaws".split()
+    "blank clear compute_size decode_canonical decode_from_slice decode_within extendee_name field_name is_initialized is_initialized_by "
+    "meaning_initialized merge merge_field merge_from_slice merge_length_delimited take the_row try_encode_to_vec unknown_fields "
+    "unknown_fields_mut visit write_to thelaws".split()
 )
 # As many members of a message that holds itself are proved, and as many of one in blocks.
 MOST = 60
@@ -77,8 +79,9 @@ class Member:
         else:
             self.as_value()
         self.imports, self.own_depth = self.inside, own_depth(self.means)
-        self.has_getter = self.see_default()
-        self.getter = self.name + "_" if self.name in CALLS else self.name
+        self.see_default()
+        self.has_getter = has_getter(self)
+        self.getter = self.name + "_" if is_call(self.name.lower()) else self.name
 
     def see_bytes(self, entry):
         """Whether its texts are held as bytes, and whether a map's keys stay texts: those of an ordered map do, as no bytes are ordered."""
@@ -96,20 +99,18 @@ class Member:
         return kinds[-1] == Field.TYPE_STRING or not self.has_text_keys
 
     def see_default(self):
-        """Whether there is a getter, which says the declared default."""
+        """Refuses a declared default that no getter can say, and tells of one that none says."""
         said = self.it.default_value
         if not self.it.HasField("default_value") or "optional" in self.told:
-            return False
+            return
         if not self.is_default(said):
             self.field.refuse(f"its default is none of its type ({clean(said)})")
         if self.it.type == Field.TYPE_ENUM and not self.world.crate:
             self.field.refuse("the clause of its default cites the crate that it stands in", "say crate=NAME")
         if "implicit" in self.told and said not in ("0", "false", ""):
             self.field.refuse(f"its default isn't that of its type ({self.default()})", "take implicit= away")
-        has = not self.rust.startswith("Option<EnumValue<") and not self.is_case and "implicit" not in self.told and "shared" not in self.told
-        if not has and "implicit" not in self.told:
+        if not has_getter(self) and "implicit" not in self.told:
             self.world.tell(f"{self.field.at()}: it has no getter for its default ({self.default()})")
-        return has
 
     def is_default(self, said):
         """Whether a declared default is of the field's type."""
@@ -292,6 +293,11 @@ def tell_unnamed(world, field, name):
     """Says how a member is called, where a .proto gives it a name that none can have."""
     if not field.it.name.strip("_"):
         world.tell(f"{field.at()}: it is called {name}, since no member can be called {field.it.name}")
+
+
+def is_call(name):
+    """Whether a message has a call of this name."""
+    return name in CALLS or re.fullmatch(r"field_name_[0-9]+", name) is not None
 
 
 def is_case(field):

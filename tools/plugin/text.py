@@ -2,10 +2,12 @@
 import re
 
 import blocks
+import getters
 import knots
+import labels
 import oneof
 import required
-from getters import declared, getters, variants_used, words
+from derived import derives
 from names import MODULE, TERMS, TERMS_INSIDE, ordered, place, snake
 
 WIDTH = 100
@@ -28,13 +30,13 @@ def uses(world, names, own):
     return made
 
 
-def use_line(module, names):
+def use_line(module, names, word="use"):
     if len(names) == 1:
-        return [f"use {module}::{names[0]};"]
-    line = f"use {module}::{{{', '.join(names)}}};"
+        return [f"{word} {module}::{names[0]};"]
+    line = f"{word} {module}::{{{', '.join(names)}}};"
     if len(line) < WIDTH - 1:
         return [line]
-    made, row = [f"use {module}::{{"], "   "
+    made, row = [f"{word} {module}::{{"], "   "
     for at, name in enumerate(names):
         # the comma of the last one isn't counted
         if len(row) + len(name) + (1 if at + 1 == len(names) else 2) >= WIDTH:
@@ -85,6 +87,7 @@ def message_docs(message):
     for said, fields in remarks(message):
         if fields:
             made += ["", f"{said}: " + ", ".join(f"{f.name} = {f.number}" for f in fields) + "."]
+    made += ["", "It has no `==`, since it holds itself, or a message in it does."] * (bool(message.world.equal) and not message.is_compared)
     made += ["", "Its extensions are those of its `rest`."] * bool(message.rest)
     made += ["", "A MessageSet: its Items are among the fields that aren't declared, each a group of number 1."] * message.is_set
     return docs(made + [] if message.is_keeping else made + ["", "The fields that aren't declared are passed over."])
@@ -257,7 +260,7 @@ def head_of_message(world, message, enums):
     fields = [k for k in message.members if not isinstance(k, oneof.OneOf) and not k.itself]
     made = [f"//! {message.name.full}, made of {message.name.file.shown} by protoc-gen-buffa.", ""]
     made += ["ghost use Rattle.std.proofs.Common.{lit<, refl};"]
-    prelude = words(message, enums) | required.words(message) | ({"codes"} if message.it.extension_range else set())
+    prelude = required.words(message) | ({"codes"} if message.it.extension_range else set())
     made += [f"ghost use Rattle.std.specs.Prelude.{{{', '.join(sorted(prelude))}}};"] * bool(prelude)
     made += knots.head(message, required.terms(message)) if message.holds_itself else layers(message, fields)
     return made + [""] + uses(world, names_of(message, fields), {i for k in message.members for i in k.imports})
@@ -282,14 +285,14 @@ def struct(message):
         parts += docs(member.field.said, "    ") + [f"    pub {member.name}: {member.rust},"]
     rest = message.rest or "UnknownFields"
     parts += ["    /// The fields that aren't declared, in order.", f"    pub rest: {rest},"] * message.is_keeping
-    made += ["#[derive(Drop)]", f"pub struct {message.rust} {{"]
+    made += [derives(message), f"pub struct {message.rust} {{"]
     made = made + parts + ["}"] if parts else made[:-1] + [f"pub struct {message.rust} {{}}"]
     return made + rest_of(message) if message.rest else made
 
 
 def rest_of(message):
     """What the extensions of a message that holds itself are set in: its calls need a struct whose contracts see its fields."""
-    made = ["", f"/// The fields of a `{message.rust}` that aren't declared, in order, with its extensions.", "#[derive(Drop)]"]
+    made = ["", f"/// The fields of a `{message.rust}` that aren't declared, in order, with its extensions.", "#[derive(Debug, Drop)]"]
     return made + [f"pub struct {message.rest} {{", "    /// The fields.", "    pub fields: UnknownFields,", "}"]
 
 
@@ -423,7 +426,36 @@ def write_message(world, message, messages, enums):
         made += listed_form(message, messages)
     made += extension_set(message) if message.it.extension_range else []
     made += [] if message.has_told_cost(messages) else takes_its_cost(message)
-    return "\n".join(made + required.initialized(message) + getters(message, enums)) + "\n"
+    return "\n".join(made + required.initialized(message) + own_calls(message, enums)) + "\n"
+
+
+def own_calls(message, enums):
+    """The impl of a message's own calls: what it and its fields are called, and its getters."""
+    words = getters.words(message, enums) | labels.words_of_message(message)
+    uses = [prelude_line(words)] * bool(words) + labels.uses_of_message(message) + getters.uses(message, enums)
+    return own_impl(message.rust, uses, labels.of_message(message) + getters.getters(message, enums))
+
+
+def prelude_line(words):
+    """The line of an impl by which its clauses have words of std."""
+    return f"    ghost use Rattle.std.specs.Prelude.{{{', '.join(sorted(words))}}};"
+
+
+def own_impl(name, uses, parts):
+    """An impl of some parts, with a blank line between them."""
+    made = ["", f"impl {name} {{", *uses, *[""] * bool(uses)]
+    for at, part in enumerate(parts):
+        made += [""] * (at > 0) + part
+    return made + ["}"]
+
+
+def write_module(files, modules, types):
+    """The file that names those of a run, and hands on their types."""
+    by_file, apart = labels.handed_on(types)
+    made = [f"//! What protoc-gen-buffa made of {files}."]
+    made += ["//!", f"//! The names of these differ in capital letters alone, so each is named with its file: {', '.join(apart)}."] * bool(apart)
+    made += [""] + [f"pub mod {it};" for it in modules] + [""] * bool(by_file)
+    return "\n".join(made + [line for file, names in by_file.items() for line in use_line(file, names, "pub use")]) + "\n"
 
 
 def write_oneof(world, one, message):
@@ -469,7 +501,7 @@ def write_enum(world, enum):
     name, values = enum.rust, enum.values
     numbers = {n for _, n, _ in values}
     plain = ["None", "Some", "if◌then◌else◌"] + ["negsuc"] * any(n < 0 for n in numbers) + ["pos"] * any(n >= 0 for n in numbers)
-    variants = f"{declared(world, enum.name.full)}.{{{', '.join(v for v, _, _ in values)}}}"
+    variants = f"{getters.declared(world, enum.name.full)}.{{{', '.join(v for v, _, _ in values)}}}"
     made = [f"//! {enum.name.full}, made of {enum.name.file.shown} by protoc-gen-buffa.", ""]
     made += [f"ghost use Rattle.std.specs.Prelude.{{{', '.join(plain)}, refl}};", "ghost use Rattle.std.specs.Ordering.{int_eq};", ""]
     made += uses(world, {"Blank", "Enumeration", "Global"}, ()) + [""]
@@ -490,4 +522,5 @@ def write_enum(world, enum):
     made += ["    fn to_i32(&self) -> i32 {", "        match self {"] + [f"            {name}::{v} => {n}," for v, n, _ in values]
     stays = [f"{v} ↦ refl" for v, _, _ in values]
     made += ["        }", "    }", ""] + cases("ghost stays =", stays) + ["", "    ghost blank_declared = { refl };", "}"]
+    made += own_impl(name, labels.uses_of_enum(enum, variants), labels.of_enum(enum))
     return "\n".join(made) + "\n"

@@ -11,6 +11,11 @@ from names import LONGEST_FILE, camel, is_free_type, snake
 FIELD_KEYS = ("bytes", "delimited", "encoded", "implicit", "optional", "ordered", "shared")
 MESSAGES = (Field.TYPE_MESSAGE, Field.TYPE_GROUP)
 PATH = re.compile(r"[a-z_][a-z0-9_]*(::[a-z_][a-z0-9_]*)*")
+# The module that has the well-known types, and the files of which they are.
+WELL_KNOWN = "buffa_types::messages"
+WELL_KNOWN_FILES = {
+    f"google/protobuf/{it}.proto" for it in ("any", "duration", "empty", "field_mask", "source_context", "timestamp", "wrappers")
+}
 
 
 class World:
@@ -22,6 +27,9 @@ class World:
         files = [File(it) for it in request.proto_file]
         self.by_name = {it.name: it for it in files}
         self.asked = [it for it in files if it.name in request.file_to_generate]
+        named = set(self.mapped) | {it.name for it in self.asked}
+        self.taken = set() if self.well_known == "here" else WELL_KNOWN_FILES & set(self.by_name) - named
+        self.mapped.update((name, WELL_KNOWN) for name in self.taken)
         self.found = {it.full: it for f in files for it in f.messages + f.enums}
         self.entries = {name: entry for f in files for name, entry in f.entries.items()}
         self.oneofs = {}
@@ -59,7 +67,8 @@ class World:
         self.notes.append(f"protoc-gen-buffa: {line}\n")
 
     def read_parameters(self, text):
-        self.crate, self.module, self.maps, self.strings = folder_name(), "messages", "", ""
+        self.crate, self.module = folder_name(), "messages"
+        self.equal = self.maps = self.names = self.strings = self.well_known = ""
         self.left, self.dropping, self.costs, self.renamed, self.mapped = set(), set(), {}, {}, {}
         self.fields = {key: set() for key in FIELD_KEYS}
         for word in filter(None, text.split(",")):
@@ -81,7 +90,7 @@ class World:
             self.mapped[file] = path
         elif key in ("crate", "module") and re.fullmatch(r"[a-z_][a-z0-9_]*", value) or word == "module=":
             setattr(self, key, value)
-        elif (key, value) in (("maps", "ordered"), ("strings", "bytes")):
+        elif (key, value) in (("equal", "all"), ("maps", "ordered"), ("names", "all"), ("strings", "bytes"), ("well_known", "here")):
             setattr(self, key, value)
         else:
             raise Refused(f"no parameter is {clean(word)}: PLUGIN --help lists them all")
@@ -99,6 +108,9 @@ class World:
         told += [("type, field or value", name) for name in set(self.renamed) - known - values]
         for kind, name in sorted(told):
             self.refused.append(Refused(f"no {kind} is called {clean(name)} in these files"))
+        for name in sorted((self.left - messages).union(self.dropping, self.costs, self.renamed, *self.fields.values())):
+            if self.is_taken(name):
+                self.refused.append(Refused(f"{clean(name)}: it is taken as it is from {WELL_KNOWN}: say well_known=here, too, and it is made here"))
 
     def is_left(self, it):
         return it.full in self.left or (it.outer is not None and self.is_left(it.outer))
@@ -106,6 +118,10 @@ class World:
     def is_mapped(self, full):
         """Whether a type is taken from a module that has it."""
         return self.found[full].file.name in self.mapped
+
+    def is_taken(self, name):
+        """Whether this is the full name of a well-known type that is taken from its crate, or of something in one."""
+        return any(name == it.full or name.startswith(f"{it.full}.") for at in self.taken for it in self.by_name[at].messages)
 
     def target(self, field):
         """The message or enum that a field holds, in a map too, where it isn't left out."""

@@ -7,7 +7,7 @@ mod tests;
 
 ghost use Rattle.std.specs.Prelude.{◌≡◌, IfOk, Some, option_map, string_bytes, vec_items};
 
-use crate::messages::error_info::ErrorInfo;
+use crate::messages::ErrorInfo;
 use anyhow::Error;
 use buffa_fields::{Blank, Decode, Message, MessageSpec, RECURSION_LIMIT};
 use std::alloc::Global;
@@ -33,5 +33,6 @@ fn main(rt: HostRuntime) -> Result<(), Error> {
     info.domain = String::from_str(alloc, "example.com")?;
     let encoding = info.try_encode_to_vec(alloc)?;
     println!(rt; "{}, now {} bytes", info.reason, encoding.len())?;
+    println!(rt; "{info:?}")?;
     Ok(())
 }

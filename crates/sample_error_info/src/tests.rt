@@ -1,6 +1,6 @@
 //! An `ErrorInfo` that `protoc` wrote, and a field that it doesn't declare.
 
-use crate::messages::error_info::ErrorInfo;
+use crate::messages::ErrorInfo;
 use crate::with_domain;
 use buffa_fields::Decode;
 use std::test::Fail;

@@ -24,7 +24,7 @@ use std::alloc::Global;
 ///     map<int64, State> states = 7;
 ///     bytes shared = 8;
 /// }
-#[derive(Drop)]
+#[derive(Debug, Drop)]
 pub struct Assorted {
     pub data: Option<Vec<u8>>,
     pub state: Option<EnumValue<State>>,
@@ -132,4 +132,32 @@ impl Listing for Assorted {
 
 impl Formed for Assorted {
     type Form = Listed;
+}
+
+impl Assorted {
+    ghost use Rattle.std.specs.Prelude.{[], option_map, pos, true, unwrap_or, ◌≡◌};
+
+    /// The full name of the message.
+    pub const FULL_NAME: &'static str = "buffa.sample.Assorted";
+
+    /// `data`, or the default of its type where it isn't there: empty.
+    pub fn data(&self) -> &[u8]
+        ensures is { result.now ≡ unwrap_or (option_map (λ it. it.items) self.now.«data») [] }
+    {
+        match &self.data {
+            Some(it) => it.as_slice(),
+            None => b"",
+        }
+    }
+
+    /// `state`, or the default of its type where it isn't there: OPEN.
+    pub fn state(&self) -> EnumValue<State>
+        ensures is { ⟦<EnumValue<State> as Blank>⟧.meaning result
+            ≡ unwrap_or (option_map ⟦<EnumValue<State> as Blank>⟧.meaning self.now.state) (true, pos 0) }
+    {
+        match &self.state {
+            Some(it) => *it,
+            None => EnumValue::Known(State::Open),
+        }
+    }
 }

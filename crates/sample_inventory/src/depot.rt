@@ -20,7 +20,7 @@ use std::string::String;
 /// }
 ///
 /// The fields that aren't declared are passed over.
-#[derive(Drop)]
+#[derive(Debug, Drop)]
 pub struct Depot {
     pub city: String,
     pub parcels: Vec<Parcel>,
@@ -84,4 +84,9 @@ impl Listing for Depot {
 
 impl Formed for Depot {
     type Form = Listed;
+}
+
+impl Depot {
+    /// The full name of the message.
+    pub const FULL_NAME: &'static str = "buffa.sample.Depot";
 }

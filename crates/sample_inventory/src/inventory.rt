@@ -19,7 +19,7 @@ use std::string::String;
 ///     optional bool listed = 3;
 ///     map<string, int32> counts = 5;
 /// }
-#[derive(Drop)]
+#[derive(Debug, Drop)]
 pub struct Inventory {
     pub total: i32,
     pub note: String,
@@ -97,4 +97,18 @@ impl Listing for Inventory {
 
 impl Formed for Inventory {
     type Form = Listed;
+}
+
+impl Inventory {
+    ghost use Rattle.std.specs.Prelude.{false, unwrap_or, ◌≡◌};
+
+    /// The full name of the message.
+    pub const FULL_NAME: &'static str = "buffa.sample.Inventory";
+
+    /// `listed`, or the default of its type where it isn't there: false.
+    pub fn listed(&self) -> bool
+        ensures is { result ≡ unwrap_or self.now.listed false }
+    {
+        self.listed.unwrap_or(false)
+    }
 }

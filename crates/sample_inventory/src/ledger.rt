@@ -22,7 +22,7 @@ use std::string::String;
 /// }
 ///
 /// Written in the order of their keys: balances = 1, pages = 2, seals = 3.
-#[derive(Drop)]
+#[derive(Debug, Drop)]
 pub struct Ledger {
     pub balances: BTreeMap<String, i32>,
     pub pages: BTreeMap<i32, Inventory>,
@@ -109,3 +109,8 @@ impl Formed for Ledger {
 }
 
 const _: () = prove!(size_of::<Ledger>() <= Ledger::COST);
+
+impl Ledger {
+    /// The full name of the message.
+    pub const FULL_NAME: &'static str = "buffa.sample.Ledger";
+}

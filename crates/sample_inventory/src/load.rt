@@ -17,7 +17,7 @@ use std::string::String;
 ///     optional int32 weight = 1;
 ///     optional string mark = 2;
 /// }
-#[derive(Drop)]
+#[derive(Debug, Drop)]
 pub struct Load {
     pub weight: Option<i32>,
     pub mark: Option<String>,
@@ -85,4 +85,28 @@ impl Listing for Load {
 
 impl Formed for Load {
     type Form = Listed;
+}
+
+impl Load {
+    ghost use Rattle.std.specs.Prelude.{[], option_map, pos, string_bytes, unwrap_or, ◌≡◌};
+
+    /// The full name of the message.
+    pub const FULL_NAME: &'static str = "buffa.sample.Load";
+
+    /// `weight`, or the default of its type where it isn't there: 0.
+    pub fn weight(&self) -> i32
+        ensures is { result ≡ unwrap_or self.now.weight (pos 0) }
+    {
+        self.weight.unwrap_or(0)
+    }
+
+    /// `mark`, or the default of its type where it isn't there: empty.
+    pub fn mark(&self) -> &str
+        ensures is { result.now ≡ unwrap_or (option_map string_bytes self.now.mark) [] }
+    {
+        match &self.mark {
+            Some(it) => it.as_str(),
+            None => "",
+        }
+    }
 }

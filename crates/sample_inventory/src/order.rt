@@ -30,7 +30,7 @@ use std::string::String;
 /// }
 ///
 /// The fields that aren't declared are passed over.
-#[derive(Drop)]
+#[derive(Debug, Drop)]
 pub struct Order {
     pub id: i64,
     pub note: String,
@@ -158,4 +158,42 @@ impl Listing for Order {
 
 impl Formed for Order {
     type Form = Listed;
+}
+
+impl Order {
+    ghost use Rattle.std.specs.Prelude.{[], false, option_map, pos, string_bytes, unwrap_or, ◌≡◌};
+
+    /// The full name of the message.
+    pub const FULL_NAME: &'static str = "buffa.sample.Order";
+
+    /// `gift`, or the default of its type where it isn't there: false.
+    pub fn gift(&self) -> bool
+        ensures is { result ≡ unwrap_or self.now.gift false }
+    {
+        self.gift.unwrap_or(false)
+    }
+
+    /// `code`, or the default of its type where it isn't there: empty.
+    pub fn code(&self) -> &str
+        ensures is { result.now ≡ unwrap_or (option_map string_bytes self.now.code) [] }
+    {
+        match &self.code {
+            Some(it) => it.as_str(),
+            None => "",
+        }
+    }
+
+    /// `stamp`, or the default of its type where it isn't there: 0.
+    pub fn stamp(&self) -> u64
+        ensures is { result ≡ unwrap_or self.now.stamp 0 }
+    {
+        self.stamp.unwrap_or(0)
+    }
+
+    /// `floor`, or the default of its type where it isn't there: 0.
+    pub fn floor(&self) -> i32
+        ensures is { result ≡ unwrap_or self.now.floor (pos 0) }
+    {
+        self.floor.unwrap_or(0)
+    }
 }

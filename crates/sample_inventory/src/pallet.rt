@@ -23,7 +23,7 @@ use std::string::String;
 /// Written as groups: stock = 2, layers = 3.
 ///
 /// The fields that aren't declared are passed over.
-#[derive(Drop)]
+#[derive(Debug, Drop)]
 pub struct Pallet {
     pub mark: String,
     pub stock: Option<Inventory>,
@@ -97,4 +97,9 @@ impl Listing for Pallet {
 
 impl Formed for Pallet {
     type Form = Listed;
+}
+
+impl Pallet {
+    /// The full name of the message.
+    pub const FULL_NAME: &'static str = "buffa.sample.Pallet";
 }

@@ -19,7 +19,7 @@ use std::alloc::Global;
 /// }
 ///
 /// The fields that aren't declared are passed over.
-#[derive(Drop)]
+#[derive(Debug, Drop)]
 pub struct Parcel {
     pub id: i64,
     pub stock: Option<Inventory>,
@@ -80,4 +80,9 @@ impl Listing for Parcel {
 
 impl Formed for Parcel {
     type Form = Listed;
+}
+
+impl Parcel {
+    /// The full name of the message.
+    pub const FULL_NAME: &'static str = "buffa.sample.Parcel";
 }

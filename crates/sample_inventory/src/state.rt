@@ -56,3 +56,8 @@ impl Enumeration for State {
 
     ghost blank_declared = { refl };
 }
+
+impl State {
+    /// The full name of the enum.
+    pub const FULL_NAME: &'static str = "buffa.sample.State";
+}

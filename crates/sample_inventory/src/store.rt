@@ -20,7 +20,7 @@ use std::string::String;
 /// }
 ///
 /// The fields that aren't declared are passed over.
-#[derive(Drop)]
+#[derive(Debug, Drop)]
 pub struct Store {
     pub name: String,
     pub shelves: Map<String, Inventory>,
@@ -84,4 +84,9 @@ impl Listing for Store {
 
 impl Formed for Store {
     type Form = Listed;
+}
+
+impl Store {
+    /// The full name of the message.
+    pub const FULL_NAME: &'static str = "buffa.sample.Store";
 }

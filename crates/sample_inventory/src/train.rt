@@ -19,7 +19,7 @@ use std::alloc::Global;
 /// }
 ///
 /// The fields that aren't declared are passed over.
-#[derive(Drop)]
+#[derive(Debug, Drop)]
 pub struct Train {
     pub wagons: Map<i32, Wagon>,
     pub spares: Vec<Wagon>,
@@ -87,4 +87,9 @@ impl Listing for Train {
 
 impl Formed for Train {
     type Form = Listed;
+}
+
+impl Train {
+    /// The full name of the message.
+    pub const FULL_NAME: &'static str = "buffa.sample.Train";
 }

@@ -37,7 +37,7 @@ use std::string::String;
 /// Written as groups: frame = 3, beams = 4.
 ///
 /// Written in the order of their keys: berths = 6, axles = 13.
-#[derive(Drop)]
+#[derive(Debug, Drop)]
 pub struct Wagon {
     pub load: Option<Load>,
     pub loads: Vec<Load>,
@@ -175,4 +175,32 @@ impl Listing for Wagon {
 
 impl Formed for Wagon {
     type Form = Listed;
+}
+
+impl Wagon {
+    ghost use Rattle.std.specs.Prelude.{[], option_map, pos, string_bytes, true, unwrap_or, ◌≡◌};
+
+    /// The full name of the message.
+    pub const FULL_NAME: &'static str = "buffa.sample.Wagon";
+
+    /// `name`, or the default of its type where it isn't there: empty.
+    pub fn name(&self) -> &str
+        ensures is { result.now ≡ unwrap_or (option_map string_bytes self.now.name) [] }
+    {
+        match &self.name {
+            Some(it) => it.as_str(),
+            None => "",
+        }
+    }
+
+    /// `state`, or the default of its type where it isn't there: OPEN.
+    pub fn state(&self) -> EnumValue<State>
+        ensures is { ⟦<EnumValue<State> as Blank>⟧.meaning result
+            ≡ unwrap_or (option_map ⟦<EnumValue<State> as Blank>⟧.meaning self.now.state) (true, pos 0) }
+    {
+        match &self.state {
+            Some(it) => *it,
+            None => EnumValue::Known(State::Open),
+        }
+    }
 }

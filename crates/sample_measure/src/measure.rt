@@ -1,7 +1,7 @@
 //! buffa.sample.Measure, made of measure.proto by protoc-gen-buffa.
 
 ghost use Rattle.std.proofs.Common.{lit<, refl};
-ghost use Rattle.std.specs.Prelude.{codes, is_some, option_map, string_bytes, unwrap_or, ◌&&◌, ◌≡◌};
+ghost use Rattle.std.specs.Prelude.{is_some, ◌&&◌};
 ghost use Rattle.buffa_fields.specs.Terms.{field, field_kept, keep};
 
 use crate::spot::Spot;
@@ -32,7 +32,7 @@ use std::string::String;
 /// Read where it isn't there, too, and `is_initialized` says whether it is: station = 1.
 ///
 /// `is_initialized` looks into the messages of these: spot = 7, nearby = 8.
-#[derive(Drop)]
+#[derive(Debug, Drop)]
 pub struct Measure {
     pub station: Option<String>,
     pub value: Option<DoubleBits>,
@@ -168,7 +168,49 @@ impl Required for Measure {
 }
 
 impl Measure {
+    ghost use Rattle.std.specs.Prelude.{None, Some, [], codes, if◌then◌else◌, option_map, string_bytes, unwrap_or, ◌==◌, ◌≡◌};
     ghost use Rattle.sample_measure.specs.declared.unit.Unit.TheVariants.{Metre};
+
+    /// The full name of the message.
+    pub const FULL_NAME: &'static str = "buffa.sample.Measure";
+
+    /// The name in the `.proto` of the field that has this number; none where the message has no member for it.
+    pub fn field_name(number: u32) -> Option<&'static str>
+        ensures { option_map (λ name. name.now) result ≡ (
+            if number == 1 then Some (codes "station") else
+            if number == 2 then Some (codes "value") else
+            if number == 3 then Some (codes "unit") else
+            if number == 4 then Some (codes "gusts") else
+            if number == 5 then Some (codes "levels") else
+            if number == 6 then Some (codes "tides") else
+            if number == 7 then Some (codes "spot") else
+            if number == 8 then Some (codes "nearby") else
+            if number == 9 then Some (codes "note") else
+            None) }
+    {
+        match number {
+            1 => Some("station"),
+            2 => Some("value"),
+            3 => Some("unit"),
+            4 => Some("gusts"),
+            5 => Some("levels"),
+            6 => Some("tides"),
+            7 => Some("spot"),
+            8 => Some("nearby"),
+            9 => Some("note"),
+            _ => None,
+        }
+    }
+
+    /// `station`, or the default of its type where it isn't there: empty.
+    pub fn station(&self) -> &str
+        ensures is { result.now ≡ unwrap_or (option_map string_bytes self.now.station) [] }
+    {
+        match &self.station {
+            Some(it) => it.as_str(),
+            None => "",
+        }
+    }
 
     /// `value`, or its default where it isn't there: 0.25.
     pub fn value(&self) -> DoubleBits

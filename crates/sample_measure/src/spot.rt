@@ -1,7 +1,7 @@
 //! buffa.sample.Spot, made of measure.proto by protoc-gen-buffa.
 
 ghost use Rattle.std.proofs.Common.{lit<, refl};
-ghost use Rattle.std.specs.Prelude.{is_some, option_map, unwrap_or, ◌&&◌, ◌≡◌};
+ghost use Rattle.std.specs.Prelude.{is_some, ◌&&◌};
 ghost use Rattle.buffa_fields.specs.Terms.{field, keep};
 
 use buffa_fields::map_codec::Float;
@@ -20,7 +20,7 @@ use std::alloc::Global;
 /// }
 ///
 /// Read where it isn't there, too, and `is_initialized` says whether it is: latitude = 1, longitude = 2.
-#[derive(Drop)]
+#[derive(Debug, Drop)]
 pub struct Spot {
     pub latitude: Option<FloatBits>,
     pub longitude: Option<FloatBits>,
@@ -106,6 +106,47 @@ impl Required for Spot {
 }
 
 impl Spot {
+    ghost use Rattle.std.specs.Prelude.{None, Some, codes, if◌then◌else◌, option_map, unwrap_or, ◌==◌, ◌≡◌};
+
+    /// The full name of the message.
+    pub const FULL_NAME: &'static str = "buffa.sample.Spot";
+
+    /// The name in the `.proto` of the field that has this number; none where the message has no member for it.
+    pub fn field_name(number: u32) -> Option<&'static str>
+        ensures { option_map (λ name. name.now) result ≡ (
+            if number == 1 then Some (codes "latitude") else
+            if number == 2 then Some (codes "longitude") else
+            if number == 3 then Some (codes "height") else
+            None) }
+    {
+        match number {
+            1 => Some("latitude"),
+            2 => Some("longitude"),
+            3 => Some("height"),
+            _ => None,
+        }
+    }
+
+    /// `latitude`, or the default of its type where it isn't there: 0.
+    pub fn latitude(&self) -> FloatBits
+        ensures is { result.bits ≡ unwrap_or (option_map (λ it. it.bits) self.now.latitude) 0 }
+    {
+        match &self.latitude {
+            Some(it) => *it,
+            None => FloatBits { bits: 0 },
+        }
+    }
+
+    /// `longitude`, or the default of its type where it isn't there: 0.
+    pub fn longitude(&self) -> FloatBits
+        ensures is { result.bits ≡ unwrap_or (option_map (λ it. it.bits) self.now.longitude) 0 }
+    {
+        match &self.longitude {
+            Some(it) => *it,
+            None => FloatBits { bits: 0 },
+        }
+    }
+
     /// `height`, or its default where it isn't there: -1.5.
     pub fn height(&self) -> FloatBits
         ensures is { result.bits ≡ unwrap_or (option_map (λ it. it.bits) self.now.height) 3217031168 }

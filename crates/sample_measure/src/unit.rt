@@ -56,3 +56,36 @@ impl Enumeration for Unit {
 
     ghost blank_declared = { refl };
 }
+
+impl Unit {
+    ghost use Rattle.std.specs.Prelude.{None, Some, codes, if◌then◌else◌, ◌≡◌};
+    ghost use Rattle.std.specs.Str.{bytes_eq};
+    ghost use Rattle.sample_measure.specs.declared.unit.Unit.TheVariants.{Knot, Metre};
+
+    /// The full name of the enum.
+    pub const FULL_NAME: &'static str = "buffa.sample.Unit";
+
+    /// The name of the value in the `.proto`, the first where it has several.
+    pub fn proto_name(&self) -> &'static str
+        ensures { result.now ≡ elim self.now [ Knot ↦ codes "KNOT" | Metre ↦ codes "METRE" ] }
+    {
+        match self {
+            Unit::Knot => "KNOT",
+            Unit::Metre => "METRE",
+        }
+    }
+
+    /// The value that has this name in the `.proto`; none where no value has it.
+    pub fn from_proto_name(name: &str) -> Option<Unit>
+        ensures { result ≡ (
+            if bytes_eq name.now (codes "KNOT") then Some Knot else
+            if bytes_eq name.now (codes "METRE") then Some Metre else
+            None) }
+    {
+        match name {
+            "KNOT" => Some(Unit::Knot),
+            "METRE" => Some(Unit::Metre),
+            _ => None,
+        }
+    }
+}

@@ -27,7 +27,7 @@ use std::alloc::Global;
 ///     optional sfixed32 sfixed32 = 16;
 ///     optional sfixed64 sfixed64 = 536870911;
 /// }
-#[derive(Drop)]
+#[derive(Debug, Drop)]
 pub struct Explicit {
     pub int32: Option<i32>,
     pub int64: Option<i64>,
@@ -153,4 +153,88 @@ impl Listing for Explicit {
 
 impl Formed for Explicit {
     type Form = Listed;
+}
+
+impl Explicit {
+    ghost use Rattle.std.specs.Prelude.{false, pos, unwrap_or, ◌≡◌};
+
+    /// The full name of the message.
+    pub const FULL_NAME: &'static str = "buffa.sample.Explicit";
+
+    /// `int32`, or the default of its type where it isn't there: 0.
+    pub fn int32(&self) -> i32
+        ensures is { result ≡ unwrap_or self.now.int32 (pos 0) }
+    {
+        self.int32.unwrap_or(0)
+    }
+
+    /// `int64`, or the default of its type where it isn't there: 0.
+    pub fn int64(&self) -> i64
+        ensures is { result ≡ unwrap_or self.now.int64 (pos 0) }
+    {
+        self.int64.unwrap_or(0)
+    }
+
+    /// `uint32`, or the default of its type where it isn't there: 0.
+    pub fn uint32(&self) -> u32
+        ensures is { result ≡ unwrap_or self.now.uint32 0 }
+    {
+        self.uint32.unwrap_or(0)
+    }
+
+    /// `uint64`, or the default of its type where it isn't there: 0.
+    pub fn uint64(&self) -> u64
+        ensures is { result ≡ unwrap_or self.now.uint64 0 }
+    {
+        self.uint64.unwrap_or(0)
+    }
+
+    /// `sint32`, or the default of its type where it isn't there: 0.
+    pub fn sint32(&self) -> i32
+        ensures is { result ≡ unwrap_or self.now.sint32 (pos 0) }
+    {
+        self.sint32.unwrap_or(0)
+    }
+
+    /// `sint64`, or the default of its type where it isn't there: 0.
+    pub fn sint64(&self) -> i64
+        ensures is { result ≡ unwrap_or self.now.sint64 (pos 0) }
+    {
+        self.sint64.unwrap_or(0)
+    }
+
+    /// `truth`, or the default of its type where it isn't there: false.
+    pub fn truth(&self) -> bool
+        ensures is { result ≡ unwrap_or self.now.truth false }
+    {
+        self.truth.unwrap_or(false)
+    }
+
+    /// `fixed32`, or the default of its type where it isn't there: 0.
+    pub fn fixed32(&self) -> u32
+        ensures is { result ≡ unwrap_or self.now.fixed32 0 }
+    {
+        self.fixed32.unwrap_or(0)
+    }
+
+    /// `fixed64`, or the default of its type where it isn't there: 0.
+    pub fn fixed64(&self) -> u64
+        ensures is { result ≡ unwrap_or self.now.fixed64 0 }
+    {
+        self.fixed64.unwrap_or(0)
+    }
+
+    /// `sfixed32`, or the default of its type where it isn't there: 0.
+    pub fn sfixed32(&self) -> i32
+        ensures is { result ≡ unwrap_or self.now.sfixed32 (pos 0) }
+    {
+        self.sfixed32.unwrap_or(0)
+    }
+
+    /// `sfixed64`, or the default of its type where it isn't there: 0.
+    pub fn sfixed64(&self) -> i64
+        ensures is { result ≡ unwrap_or self.now.sfixed64 (pos 0) }
+    {
+        self.sfixed64.unwrap_or(0)
+    }
 }

@@ -29,7 +29,7 @@ use std::alloc::Global;
 /// }
 ///
 /// The fields that aren't declared are passed over.
-#[derive(Drop)]
+#[derive(Debug, Drop)]
 pub struct Implicit {
     pub int32: i32,
     pub int64: i64,
@@ -138,4 +138,9 @@ impl Listing for Implicit {
 
 impl Formed for Implicit {
     type Form = Listed;
+}
+
+impl Implicit {
+    /// The full name of the message.
+    pub const FULL_NAME: &'static str = "buffa.sample.Implicit";
 }

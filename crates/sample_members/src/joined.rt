@@ -27,7 +27,7 @@ use std::alloc::Global;
 ///     repeated sfixed32 sfixed32 = 2047;
 ///     repeated sfixed64 sfixed64 = 2048;
 /// }
-#[derive(Drop)]
+#[derive(Debug, Drop)]
 pub struct Joined {
     pub int32: Vec<i32>,
     pub int64: Vec<i64>,
@@ -156,3 +156,8 @@ impl Formed for Joined {
 }
 
 const _: () = prove!(size_of::<Joined>() <= Joined::COST);
+
+impl Joined {
+    /// The full name of the message.
+    pub const FULL_NAME: &'static str = "buffa.sample.Joined";
+}

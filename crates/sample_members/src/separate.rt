@@ -29,7 +29,7 @@ use std::alloc::Global;
 /// }
 ///
 /// The fields that aren't declared are passed over.
-#[derive(Drop)]
+#[derive(Debug, Drop)]
 pub struct Separate {
     pub int32: Vec<i32>,
     pub int64: Vec<i64>,
@@ -154,3 +154,8 @@ impl Formed for Separate {
 }
 
 const _: () = prove!(size_of::<Separate>() <= Separate::COST);
+
+impl Separate {
+    /// The full name of the message.
+    pub const FULL_NAME: &'static str = "buffa.sample.Separate";
+}

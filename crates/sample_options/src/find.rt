@@ -1,6 +1,6 @@
 //! A message type in a set, by its full name.
 
-use buffa_descriptor::{DescriptorProto, FileDescriptorSet};
+use buffa_descriptor::messages::{DescriptorProto, FileDescriptorSet};
 
 fn is_called(message: &DescriptorProto, name: &str) -> bool {
     message

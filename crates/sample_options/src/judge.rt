@@ -4,7 +4,9 @@ ghost use Rattle.std.specs.Prelude.{◌↔◌, IfErr, IsOk};
 ghost use Rattle.sample_options.specs.Rules.{BreaksLength, BreaksRange, FitsLength, IsInRange};
 
 use crate::rules::Rules;
-use buffa_descriptor::{FieldDescriptorProto, FieldDescriptorProtoLabel, FieldDescriptorProtoType};
+use buffa_descriptor::messages::{
+    FieldDescriptorProto, FieldDescriptorProtoLabel, FieldDescriptorProtoType,
+};
 use buffa_fields::map_codec::{Int32, Int64, Sint32, Sint64, Uint32, Uint64};
 use buffa_fields::{Scalar, UnknownFieldData, UnknownFields};
 use std::alloc::{AllocError, Global};

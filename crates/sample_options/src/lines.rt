@@ -2,7 +2,7 @@
 
 use crate::judge::Fault;
 use crate::rules::Rules;
-use buffa_descriptor::FieldDescriptorProto;
+use buffa_descriptor::messages::FieldDescriptorProto;
 use std::alloc::{AllocError, Global};
 
 /// A field, and its rules.

@@ -16,7 +16,7 @@ mod rules;
 mod tests;
 
 use anyhow::{Error, anyhow};
-use buffa_descriptor::{DescriptorProto, FileDescriptorSet};
+use buffa_descriptor::messages::{DescriptorProto, FileDescriptorSet};
 use buffa_fields::{Decode, UnknownFields};
 use find::message_type;
 use judge::judge;

@@ -1,6 +1,6 @@
 //! The rules that the options of a field set.
 
-use buffa_descriptor::{FieldDescriptorProto, FieldOptions};
+use buffa_descriptor::messages::{FieldDescriptorProto, FieldOptions};
 use buffa_ext::codecs::{Bool, Sint64, Uint32};
 use buffa_ext::{Extension, ExtensionSet, StrictCodec};
 use buffa_fields::DecodeError;

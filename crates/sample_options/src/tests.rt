@@ -2,7 +2,7 @@
 
 use crate::judge::{Fault, judge};
 use crate::rules::read_rules;
-use buffa_descriptor::{FieldDescriptorProto, FieldDescriptorProtoType, FieldOptions};
+use buffa_descriptor::messages::{FieldDescriptorProto, FieldDescriptorProtoType, FieldOptions};
 use buffa_fields::{Blank, DecodeError, Message, UnknownFields};
 use std::alloc::Global;
 use std::test::Fail;

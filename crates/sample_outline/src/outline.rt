@@ -1,7 +1,7 @@
 //! buffa.sample.Outline, made of outline.proto by protoc-gen-buffa.
 
 ghost use Rattle.std.proofs.Common.{lit<, refl};
-ghost use Rattle.buffa_recursive.specs.Terms.{keeps, knotted, list_inside, map_inside, member, member_kept, member_one_of, one_inside};
+ghost use Rattle.buffa_recursive.specs.Terms.{keeps, knotted, list_inside, map_inside, member, member_kept, member_one_of, one_inside, rest_of};
 
 use crate::outline_mark::OutlineMark;
 use crate::outline_source::OutlineSource;
@@ -36,7 +36,7 @@ use std::string::String;
 /// }
 ///
 /// Written in the order of their keys: by_number = 5.
-#[derive(Drop)]
+#[derive(Debug, Drop)]
 pub struct Outline {
     pub title: Option<String>,
     pub parts: Vec<Outline>,
@@ -178,3 +178,27 @@ impl Formed for Outline {
 }
 
 const _: () = prove!(size_of::<Outline>() <= Outline::COST);
+
+impl Outline {
+    ghost use Rattle.std.specs.Prelude.{[], pos, unwrap_or, ◌≡◌};
+
+    /// The full name of the message.
+    pub const FULL_NAME: &'static str = "buffa.sample.Outline";
+
+    /// `title`, or the default of its type where it isn't there: empty.
+    pub fn title(&self) -> &str
+        ensures is { result.now ≡ unwrap_or (rest_of self.now).0.0 [] }
+    {
+        match &self.title {
+            Some(it) => it.as_str(),
+            None => "",
+        }
+    }
+
+    /// `width`, or the default of its type where it isn't there: 0.
+    pub fn width(&self) -> i32
+        ensures is { result ≡ unwrap_or (rest_of self.now).0.1.0 (pos 0) }
+    {
+        self.width.unwrap_or(0)
+    }
+}

@@ -56,3 +56,8 @@ impl Enumeration for OutlineMark {
 
     ghost blank_declared = { refl };
 }
+
+impl OutlineMark {
+    /// The full name of the enum.
+    pub const FULL_NAME: &'static str = "buffa.sample.Outline.Mark";
+}

@@ -20,7 +20,7 @@ use std::string::String;
 ///     int32 page = 8;
 ///     Spot spot = 9;
 /// }
-#[derive(Drop)]
+#[derive(Debug, Drop)]
 pub enum OutlineSource {
     Book(String),
     Page(i32),

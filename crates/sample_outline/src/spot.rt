@@ -15,7 +15,7 @@ use std::alloc::Global;
 /// message Spot {
 ///     optional int32 line = 1;
 /// }
-#[derive(Drop)]
+#[derive(Debug, Drop)]
 pub struct Spot {
     pub line: Option<i32>,
     /// The fields that aren't declared, in order.
@@ -81,3 +81,17 @@ impl Formed for Spot {
 }
 
 const _: () = prove!(size_of::<Spot>() <= Spot::COST);
+
+impl Spot {
+    ghost use Rattle.std.specs.Prelude.{pos, unwrap_or, ◌≡◌};
+
+    /// The full name of the message.
+    pub const FULL_NAME: &'static str = "buffa.sample.Spot";
+
+    /// `line`, or the default of its type where it isn't there: 0.
+    pub fn line(&self) -> i32
+        ensures is { result ≡ unwrap_or self.now.line (pos 0) }
+    {
+        self.line.unwrap_or(0)
+    }
+}

@@ -32,7 +32,7 @@ use std::collections::BTreeMap;
 /// Written in the order of their keys: ordered = 7.
 ///
 /// Not written where it is the default: total = 1.
-#[derive(Drop)]
+#[derive(Debug, Drop)]
 pub struct Palette {
     pub total: i32,
     pub shades: Map<i32, Shade>,
@@ -180,4 +180,19 @@ impl Listing for Palette {
 
 impl Formed for Palette {
     type Form = Listed;
+}
+
+impl Palette {
+    ghost use Rattle.std.specs.Prelude.{unwrap_or, ◌≡◌};
+    ghost use Rattle.sample_palette.specs.declared.shade.Shade.TheVariants.{A};
+
+    /// The full name of the message.
+    pub const FULL_NAME: &'static str = "buffa.sample.Palette";
+
+    /// `s`, or the default of its type where it isn't there: A.
+    pub fn s(&self) -> Shade
+        ensures is { result ≡ unwrap_or self.now.s A }
+    {
+        self.s.unwrap_or(Shade::A)
+    }
 }

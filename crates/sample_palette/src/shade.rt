@@ -54,3 +54,8 @@ impl Enumeration for Shade {
 
     ghost blank_declared = { refl };
 }
+
+impl Shade {
+    /// The full name of the enum.
+    pub const FULL_NAME: &'static str = "buffa.sample.Shade";
+}

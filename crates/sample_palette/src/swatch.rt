@@ -17,7 +17,7 @@ use std::alloc::Global;
 ///     optional Shade shade = 1;
 ///     repeated Shade others = 2;
 /// }
-#[derive(Drop)]
+#[derive(Debug, Drop)]
 pub struct Swatch {
     pub shade: Option<Shade>,
     pub others: Vec<Shade>,
@@ -104,3 +104,18 @@ impl Formed for Swatch {
 }
 
 const _: () = prove!(size_of::<Swatch>() <= Swatch::COST);
+
+impl Swatch {
+    ghost use Rattle.std.specs.Prelude.{unwrap_or, ◌≡◌};
+    ghost use Rattle.sample_palette.specs.declared.shade.Shade.TheVariants.{A};
+
+    /// The full name of the message.
+    pub const FULL_NAME: &'static str = "buffa.sample.Swatch";
+
+    /// `shade`, or the default of its type where it isn't there: A.
+    pub fn shade(&self) -> Shade
+        ensures is { result ≡ unwrap_or self.now.shade A }
+    {
+        self.shade.unwrap_or(Shade::A)
+    }
+}

@@ -1,5 +1,7 @@
 //! How a `oneof` is read and set.
 
+ghost use Rattle.std.specs.Prelude.{◌≡◌, IsTrue, string_bytes};
+
 use crate::method::Method;
 use crate::payment::Payment;
 use std::alloc::{AllocError, Global};
@@ -24,4 +26,12 @@ pub fn pay_in_cash(payment: &mut Payment, cash: i32) {
 pub fn pay_by_card(alloc: Global, payment: &mut Payment, card: &str) -> Result<(), AllocError> {
     payment.method = Some(Method::Card(String::from_str(alloc, card)?));
     Ok(())
+}
+
+/// Whether two payments are equal: each member of one is that of the other, and so is each field that isn't declared.
+pub fn is_same(a: &Payment, b: &Payment) -> bool
+    ensures amount { IsTrue result → a.now.amount ≡ b.now.amount }
+    ensures note { IsTrue result → string_bytes a.now.note ≡ string_bytes b.now.note }
+{
+    a == b
 }

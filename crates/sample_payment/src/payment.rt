@@ -23,7 +23,7 @@ use std::string::String;
 ///     }
 ///     string note = 5;
 /// }
-#[derive(Drop)]
+#[derive(Debug, Drop, PartialEq, Eq)]
 pub struct Payment {
     pub amount: i32,
     pub method: Option<Method>,
@@ -99,3 +99,30 @@ impl Formed for Payment {
 }
 
 const _: () = prove!(size_of::<Payment>() <= Payment::COST);
+
+impl Payment {
+    ghost use Rattle.std.specs.Prelude.{None, Some, codes, if◌then◌else◌, option_map, ◌==◌, ◌≡◌};
+
+    /// The full name of the message.
+    pub const FULL_NAME: &'static str = "buffa.sample.Payment";
+
+    /// The name in the `.proto` of the field that has this number; none where the message has no member for it.
+    pub fn field_name(number: u32) -> Option<&'static str>
+        ensures { option_map (λ name. name.now) result ≡ (
+            if number == 1 then Some (codes "amount") else
+            if number == 2 then Some (codes "card") else
+            if number == 3 then Some (codes "cash") else
+            if number == 4 then Some (codes "transfer") else
+            if number == 5 then Some (codes "note") else
+            None) }
+    {
+        match number {
+            1 => Some("amount"),
+            2 => Some("card"),
+            3 => Some("cash"),
+            4 => Some("transfer"),
+            5 => Some("note"),
+            _ => None,
+        }
+    }
+}

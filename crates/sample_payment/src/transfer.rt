@@ -17,7 +17,7 @@ use std::string::String;
 ///     string to = 1;
 ///     int32 day = 2;
 /// }
-#[derive(Drop)]
+#[derive(Debug, Drop, PartialEq, Eq)]
 pub struct Transfer {
     pub to: String,
     pub day: i32,
@@ -88,3 +88,24 @@ impl Formed for Transfer {
 }
 
 const _: () = prove!(size_of::<Transfer>() <= Transfer::COST);
+
+impl Transfer {
+    ghost use Rattle.std.specs.Prelude.{None, Some, codes, if◌then◌else◌, option_map, ◌==◌, ◌≡◌};
+
+    /// The full name of the message.
+    pub const FULL_NAME: &'static str = "buffa.sample.Transfer";
+
+    /// The name in the `.proto` of the field that has this number; none where the message has no member for it.
+    pub fn field_name(number: u32) -> Option<&'static str>
+        ensures { option_map (λ name. name.now) result ≡ (
+            if number == 1 then Some (codes "to") else
+            if number == 2 then Some (codes "day") else
+            None) }
+    {
+        match number {
+            1 => Some("to"),
+            2 => Some("day"),
+            _ => None,
+        }
+    }
+}

@@ -17,7 +17,7 @@ use std::alloc::Global;
 /// }
 ///
 /// `is_initialized` looks into the messages of these: tasks = 1.
-#[derive(Drop)]
+#[derive(Debug, Drop)]
 pub struct Agenda {
     pub tasks: Vec<Task>,
     /// The fields that aren't declared, in order.
@@ -90,4 +90,9 @@ impl Required for Agenda {
     fn is_initialized(&self) -> bool {
         self.tasks.is_initialized()
     }
+}
+
+impl Agenda {
+    /// The full name of the message.
+    pub const FULL_NAME: &'static str = "buffa.sample.Agenda";
 }

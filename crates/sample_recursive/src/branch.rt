@@ -21,7 +21,7 @@ use std::string::String;
 ///     repeated int32 leaves = 2 [packed = false];
 ///     repeated Branch branches = 3;
 /// }
-#[derive(Drop)]
+#[derive(Debug, Drop)]
 pub struct Branch {
     pub name: String,
     pub leaves: Vec<i32>,
@@ -119,3 +119,8 @@ impl Formed for Branch {
 }
 
 const _: () = prove!(size_of::<Branch>() <= Branch::COST);
+
+impl Branch {
+    /// The full name of the message.
+    pub const FULL_NAME: &'static str = "buffa.sample.Branch";
+}

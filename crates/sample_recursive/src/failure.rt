@@ -21,7 +21,7 @@ use std::string::String;
 ///     optional Failure cause = 2;
 ///     repeated int32 lines = 3 [packed = false];
 /// }
-#[derive(Drop)]
+#[derive(Debug, Drop)]
 pub struct Failure {
     pub reason: String,
     pub cause: Option<Box<Failure>>,
@@ -120,3 +120,8 @@ impl Formed for Failure {
 }
 
 const _: () = prove!(size_of::<Failure>() <= Failure::COST);
+
+impl Failure {
+    /// The full name of the message.
+    pub const FULL_NAME: &'static str = "buffa.sample.Failure";
+}

@@ -18,7 +18,7 @@ use std::string::String;
 /// }
 ///
 /// Read where it isn't there, too, and `is_initialized` says whether it is: name = 1.
-#[derive(Drop)]
+#[derive(Debug, Drop)]
 pub struct Person {
     pub name: Option<String>,
     /// The fields that aren't declared, in order.
@@ -98,5 +98,22 @@ impl Required for Person {
 
     fn is_initialized(&self) -> bool {
         self.meaning_initialized()
+    }
+}
+
+impl Person {
+    ghost use Rattle.std.specs.Prelude.{[], option_map, string_bytes, unwrap_or, ◌≡◌};
+
+    /// The full name of the message.
+    pub const FULL_NAME: &'static str = "buffa.sample.Person";
+
+    /// `name`, or the default of its type where it isn't there: empty.
+    pub fn name(&self) -> &str
+        ensures is { result.now ≡ unwrap_or (option_map string_bytes self.now.name) [] }
+    {
+        match &self.name {
+            Some(it) => it.as_str(),
+            None => "",
+        }
     }
 }

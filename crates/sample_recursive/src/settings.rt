@@ -24,7 +24,7 @@ use std::string::String;
 /// }
 ///
 /// Written in the order of their keys: sections = 2.
-#[derive(Drop)]
+#[derive(Debug, Drop)]
 pub struct Settings {
     pub value: String,
     pub sections: BTreeMap<String, Settings>,
@@ -122,3 +122,8 @@ impl Formed for Settings {
 }
 
 const _: () = prove!(size_of::<Settings>() <= Settings::COST);
+
+impl Settings {
+    /// The full name of the message.
+    pub const FULL_NAME: &'static str = "buffa.sample.Settings";
+}

@@ -40,7 +40,7 @@ use std::string::String;
 /// `is_initialized` looks into the messages of these: parts = 2, before = 3, by_day = 4, people = 5, host = 7.
 ///
 /// Written in the order of their keys: by_day = 4.
-#[derive(Drop)]
+#[derive(Debug, Drop)]
 pub struct Task {
     pub title: Option<String>,
     pub parts: Vec<Task>,
@@ -191,5 +191,22 @@ impl Required for Task {
 
     fn is_initialized(&self) -> bool {
         tree_initialized(self)
+    }
+}
+
+impl Task {
+    ghost use Rattle.std.specs.Prelude.{[], unwrap_or, ◌≡◌};
+
+    /// The full name of the message.
+    pub const FULL_NAME: &'static str = "buffa.sample.Task";
+
+    /// `title`, or the default of its type where it isn't there: empty.
+    pub fn title(&self) -> &str
+        ensures is { result.now ≡ unwrap_or (rest_of self.now).0.0 [] }
+    {
+        match &self.title {
+            Some(it) => it.as_str(),
+            None => "",
+        }
     }
 }

@@ -19,7 +19,7 @@ use std::alloc::Global;
 ///     int32 room = 6;
 ///     Person host = 7;
 /// }
-#[derive(Drop)]
+#[derive(Debug, Drop)]
 pub enum TaskAt {
     Room(i32),
     Host(Person),

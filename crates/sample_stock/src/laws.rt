@@ -2,7 +2,7 @@
 
 ghost use Rattle.std.specs.Prelude.{◌≡◌, ◌++◌};
 
-use crate::messages::stock::Stock;
+use crate::messages::Stock;
 use buffa_fields::map_codec::{Int32, Str};
 use buffa_fields::{MapOf, Member, MessageSpec, Plain};
 

@@ -1,6 +1,6 @@
 //! Limits for bytes that aren't trusted.
 
-use crate::messages::stock::Stock;
+use crate::messages::Stock;
 use buffa_fields::{Blank, Budget, DecodeContext, DecodeError, Message};
 use std::alloc::Global;
 

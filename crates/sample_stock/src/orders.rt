@@ -1,8 +1,6 @@
 //! The members of a message: an enum, an optional one, a list of messages and a map of messages.
 
-use crate::messages::line::Line;
-use crate::messages::order::Order;
-use crate::messages::state::State;
+use crate::messages::{Line, Order, State};
 use buffa_fields::map_codec::{MapStorage, MapWalk};
 use buffa_fields::{Blank, EnumValue};
 use std::alloc::{AllocError, Global};
@@ -13,6 +11,14 @@ pub fn is_sent(order: &Order) -> bool {
         EnumValue::Known(State::Sent) => true,
         EnumValue::Known(State::Open) => false,
         EnumValue::Unknown(_number) => false,
+    }
+}
+
+/// The name of an order's state; none where the enum doesn't declare its number.
+pub fn state_name(order: &Order) -> Option<&'static str> {
+    match order.state {
+        EnumValue::Known(state) => Some(state.proto_name()),
+        EnumValue::Unknown(_number) => None,
     }
 }
 

@@ -1,6 +1,6 @@
 //! A message that holds itself, gone through by functions that call themselves.
 
-use crate::messages::place::Place;
+use crate::messages::Place;
 use buffa_fields::Blank;
 use std::alloc::{AllocError, Global};
 

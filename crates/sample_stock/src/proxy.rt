@@ -1,6 +1,6 @@
 //! What a proxy may do with the fields that a message doesn't declare.
 
-use crate::messages::stock::Stock;
+use crate::messages::Stock;
 
 /// Whether a stock has a field of this number that it doesn't declare.
 pub fn has_unknown(stock: &Stock, number: u32) -> bool {

@@ -1,6 +1,6 @@
 //! A MessageSet: its Items are extensions.
 
-use crate::messages::stock::Stock;
+use crate::messages::Stock;
 use buffa_ext::codecs::MessageCodec;
 use buffa_ext::{Extension, ExtensionSet};
 use buffa_fields::{Blank, DecodeError, EncodeError, Message};

@@ -92,7 +92,7 @@ use std::string::String;
 ///     Place place = 75;
 ///     map<uint32, string> remarks = 76;
 /// }
-#[derive(Drop)]
+#[derive(Debug, Drop)]
 pub struct Day {
     /// The name of the station.
     pub station: String,
@@ -1159,3 +1159,8 @@ impl Formed for Day {
 }
 
 const _: () = prove!(size_of::<Day>() <= Day::COST);
+
+impl Day {
+    /// The full name of the message.
+    pub const FULL_NAME: &'static str = "weather.Day";
+}

@@ -16,7 +16,7 @@ use std::alloc::Global;
 ///     sint32 latitude = 1;
 ///     sint32 longitude = 2;
 /// }
-#[derive(Drop)]
+#[derive(Debug, Drop)]
 pub struct Place {
     /// In millionths of a degree.
     pub latitude: i32,
@@ -88,3 +88,8 @@ impl Formed for Place {
 }
 
 const _: () = prove!(size_of::<Place>() <= Place::COST);
+
+impl Place {
+    /// The full name of the message.
+    pub const FULL_NAME: &'static str = "weather.Place";
+}

@@ -2,7 +2,7 @@
 
 mod sets;
 
-use buffa_descriptor::{
+use buffa_descriptor::messages::{
     DescriptorProto, FieldDescriptorProtoLabel, FieldDescriptorProtoType, FieldOptions,
     FileDescriptorSet,
 };

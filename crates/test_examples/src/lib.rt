@@ -14,3 +14,5 @@ mod node;
 mod tasks;
 #[cfg(test)]
 mod tree;
+#[cfg(test)]
+mod types;

@@ -6,15 +6,21 @@
 #[cfg(test)]
 mod failure;
 #[cfg(test)]
+mod frames;
+#[cfg(test)]
 mod held;
 #[cfg(test)]
 mod measure;
+#[cfg(test)]
+mod names;
 #[cfg(test)]
 mod outline;
 #[cfg(test)]
 mod palette;
 #[cfg(test)]
 mod payment;
+#[cfg(test)]
+mod printed;
 #[cfg(test)]
 mod settings;
 #[cfg(test)]

@@ -2,7 +2,9 @@
 
 use buffa_wire::{Blank, DecodeError, Message, SizeCache};
 use sample_payment::method::Method;
+use sample_payment::pay::is_same;
 use sample_payment::payment::Payment;
+use sample_stock::again::again;
 use std::string::String;
 use std::test::Fail;
 
@@ -70,5 +72,24 @@ fn a_refused_field_leaves_the_case(rt: HostRuntime) -> Result<(), Fail> {
     let answer = payment.merge_from_slice(alloc, &[0x22, 0x02, 0x0A, 0x01]);
     assert!(rt; answer.is_err());
     assert!(rt; matches!(&payment.method, Some(Method::Cash(3))));
+    Ok(())
+}
+
+#[test]
+fn payments_are_compared_and_copied(rt: HostRuntime) -> Result<(), Fail> {
+    let alloc = rt.alloc();
+    let mut payment = Payment::blank(alloc);
+    let mut other = Payment::blank(alloc);
+    assert!(rt; is_same(&payment, &other));
+    payment.method = Some(Method::Cash(0));
+    assert!(rt; !is_same(&payment, &other));
+    other.method = Some(Method::Cash(0));
+    assert!(rt; is_same(&payment, &other));
+    payment.merge_from_slice(alloc, &[0x30, 0x07])?;
+    assert!(rt; !is_same(&payment, &other));
+    other.merge_from_slice(alloc, &[0x30, 0x07])?;
+    assert!(rt; is_same(&payment, &other));
+    let copy = again(alloc, &payment)?;
+    assert!(rt; is_same(&payment, &copy));
     Ok(())
 }

@@ -4,11 +4,10 @@ use buffa_map::map_codec::MapStorage;
 use buffa_wire::{Blank, DecodeError, Message};
 use sample_stock::counts::{announced, counts_of, encoding_of, number_at};
 use sample_stock::limits::stock_within_limits;
-use sample_stock::messages::order::Order;
-use sample_stock::messages::place::Place;
-use sample_stock::messages::stock::Stock;
+use sample_stock::messages::{Order, Place, Stock};
 use sample_stock::orders::{
     add_line, gift_of, gifts_of_kind, give, is_sent, lines_without_count, note, send, set_note,
+    state_name,
 };
 use sample_stock::places::{count, outline, place};
 use sample_stock::proxy::{drop_nine, has_unknown};
@@ -53,6 +52,7 @@ fn an_order_has_its_members(rt: HostRuntime) -> Result<(), Fail> {
     let alloc = rt.alloc();
     let mut order = Order::blank(alloc);
     assert!(rt; !is_sent(&order) && note(&order).is_none());
+    assert!(rt; state_name(&order) == Some("OPEN"));
     send(&mut order);
     set_note(alloc, &mut order, "x")?;
     add_line(alloc, &mut order, "a", 2)?;

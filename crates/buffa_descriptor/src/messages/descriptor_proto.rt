@@ -1,7 +1,7 @@
 //! google.protobuf.DescriptorProto, made of descriptor.proto by protoc-gen-buffa.
 
 ghost use Rattle.std.proofs.Common.{lit<, refl};
-ghost use Rattle.buffa_recursive.specs.Terms.{keeps, knotted, list_inside, member};
+ghost use Rattle.buffa_recursive.specs.Terms.{keeps, knotted, list_inside, member, rest_of};
 
 use crate::messages::descriptor_proto_extension_range::DescriptorProtoExtensionRange;
 use crate::messages::descriptor_proto_reserved_range::DescriptorProtoReservedRange;
@@ -35,7 +35,7 @@ use std::string::String;
 ///     repeated ReservedRange reserved_range = 9;
 ///     repeated string reserved_name = 10;
 /// }
-#[derive(Drop)]
+#[derive(Debug, Drop)]
 pub struct DescriptorProto {
     /// Its name, without the package and the messages around it.
     pub name: Option<String>,
@@ -230,3 +230,20 @@ impl Formed for DescriptorProto {
 }
 
 const _: () = prove!(size_of::<DescriptorProto>() <= DescriptorProto::COST);
+
+impl DescriptorProto {
+    ghost use Rattle.std.specs.Prelude.{[], unwrap_or, ◌≡◌};
+
+    /// The full name of the message.
+    pub const FULL_NAME: &'static str = "google.protobuf.DescriptorProto";
+
+    /// `name`, or the default of its type where it isn't there: empty.
+    pub fn name(&self) -> &str
+        ensures is { result.now ≡ unwrap_or (rest_of self.now).0.0 [] }
+    {
+        match &self.name {
+            Some(it) => it.as_str(),
+            None => "",
+        }
+    }
+}

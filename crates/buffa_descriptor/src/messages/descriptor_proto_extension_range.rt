@@ -18,7 +18,7 @@ use std::alloc::Global;
 ///     optional int32 end = 2;
 ///     optional ExtensionRangeOptions options = 3;
 /// }
-#[derive(Drop)]
+#[derive(Debug, Drop)]
 pub struct DescriptorProtoExtensionRange {
     /// The first number.
     pub start: Option<i32>,
@@ -104,3 +104,24 @@ impl Formed for DescriptorProtoExtensionRange {
 const _: () = prove!(
     size_of::<DescriptorProtoExtensionRange>() <= DescriptorProtoExtensionRange::COST
 );
+
+impl DescriptorProtoExtensionRange {
+    ghost use Rattle.std.specs.Prelude.{pos, unwrap_or, ◌≡◌};
+
+    /// The full name of the message.
+    pub const FULL_NAME: &'static str = "google.protobuf.DescriptorProto.ExtensionRange";
+
+    /// `start`, or the default of its type where it isn't there: 0.
+    pub fn start(&self) -> i32
+        ensures is { result ≡ unwrap_or self.now.start (pos 0) }
+    {
+        self.start.unwrap_or(0)
+    }
+
+    /// `end`, or the default of its type where it isn't there: 0.
+    pub fn end(&self) -> i32
+        ensures is { result ≡ unwrap_or self.now.end (pos 0) }
+    {
+        self.end.unwrap_or(0)
+    }
+}

@@ -16,7 +16,7 @@ use std::alloc::Global;
 ///     optional int32 start = 1;
 ///     optional int32 end = 2;
 /// }
-#[derive(Drop)]
+#[derive(Debug, Drop)]
 pub struct DescriptorProtoReservedRange {
     /// The first number.
     pub start: Option<i32>,
@@ -91,3 +91,24 @@ impl Formed for DescriptorProtoReservedRange {
 const _: () = prove!(
     size_of::<DescriptorProtoReservedRange>() <= DescriptorProtoReservedRange::COST
 );
+
+impl DescriptorProtoReservedRange {
+    ghost use Rattle.std.specs.Prelude.{pos, unwrap_or, ◌≡◌};
+
+    /// The full name of the message.
+    pub const FULL_NAME: &'static str = "google.protobuf.DescriptorProto.ReservedRange";
+
+    /// `start`, or the default of its type where it isn't there: 0.
+    pub fn start(&self) -> i32
+        ensures is { result ≡ unwrap_or self.now.start (pos 0) }
+    {
+        self.start.unwrap_or(0)
+    }
+
+    /// `end`, or the default of its type where it isn't there: 0.
+    pub fn end(&self) -> i32
+        ensures is { result ≡ unwrap_or self.now.end (pos 0) }
+    {
+        self.end.unwrap_or(0)
+    }
+}

@@ -23,7 +23,7 @@ use std::string::String;
 ///     repeated EnumReservedRange reserved_range = 4;
 ///     repeated string reserved_name = 5;
 /// }
-#[derive(Drop)]
+#[derive(Debug, Drop)]
 pub struct EnumDescriptorProto {
     /// Its name, without the package and the messages around it.
     pub name: Option<String>,
@@ -136,3 +136,20 @@ impl Formed for EnumDescriptorProto {
 }
 
 const _: () = prove!(size_of::<EnumDescriptorProto>() <= EnumDescriptorProto::COST);
+
+impl EnumDescriptorProto {
+    ghost use Rattle.std.specs.Prelude.{[], option_map, string_bytes, unwrap_or, ◌≡◌};
+
+    /// The full name of the message.
+    pub const FULL_NAME: &'static str = "google.protobuf.EnumDescriptorProto";
+
+    /// `name`, or the default of its type where it isn't there: empty.
+    pub fn name(&self) -> &str
+        ensures is { result.now ≡ unwrap_or (option_map string_bytes self.now.name) [] }
+    {
+        match &self.name {
+            Some(it) => it.as_str(),
+            None => "",
+        }
+    }
+}

@@ -17,7 +17,7 @@ use std::alloc::Global;
 /// message EnumOptions {
 ///     extensions 1 to max;
 /// }
-#[derive(Drop)]
+#[derive(Debug, Drop)]
 pub struct EnumOptions {
     /// The fields that aren't declared, in order.
     pub rest: UnknownFields,
@@ -104,3 +104,8 @@ impl ExtensionSet for EnumOptions {
 }
 
 const _: () = prove!(size_of::<EnumOptions>() <= EnumOptions::COST);
+
+impl EnumOptions {
+    /// The full name of the message.
+    pub const FULL_NAME: &'static str = "google.protobuf.EnumOptions";
+}

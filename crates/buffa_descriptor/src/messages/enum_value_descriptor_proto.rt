@@ -19,7 +19,7 @@ use std::string::String;
 ///     optional int32 number = 2;
 ///     optional EnumValueOptions options = 3;
 /// }
-#[derive(Drop)]
+#[derive(Debug, Drop)]
 pub struct EnumValueDescriptorProto {
     /// Its name.
     pub name: Option<String>,
@@ -103,3 +103,27 @@ impl Formed for EnumValueDescriptorProto {
 }
 
 const _: () = prove!(size_of::<EnumValueDescriptorProto>() <= EnumValueDescriptorProto::COST);
+
+impl EnumValueDescriptorProto {
+    ghost use Rattle.std.specs.Prelude.{[], option_map, pos, string_bytes, unwrap_or, ◌≡◌};
+
+    /// The full name of the message.
+    pub const FULL_NAME: &'static str = "google.protobuf.EnumValueDescriptorProto";
+
+    /// `name`, or the default of its type where it isn't there: empty.
+    pub fn name(&self) -> &str
+        ensures is { result.now ≡ unwrap_or (option_map string_bytes self.now.name) [] }
+    {
+        match &self.name {
+            Some(it) => it.as_str(),
+            None => "",
+        }
+    }
+
+    /// `number`, or the default of its type where it isn't there: 0.
+    pub fn number(&self) -> i32
+        ensures is { result ≡ unwrap_or self.now.number (pos 0) }
+    {
+        self.number.unwrap_or(0)
+    }
+}

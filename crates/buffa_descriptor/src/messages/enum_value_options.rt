@@ -17,7 +17,7 @@ use std::alloc::Global;
 /// message EnumValueOptions {
 ///     extensions 1 to max;
 /// }
-#[derive(Drop)]
+#[derive(Debug, Drop)]
 pub struct EnumValueOptions {
     /// The fields that aren't declared, in order.
     pub rest: UnknownFields,
@@ -104,3 +104,8 @@ impl ExtensionSet for EnumValueOptions {
 }
 
 const _: () = prove!(size_of::<EnumValueOptions>() <= EnumValueOptions::COST);
+
+impl EnumValueOptions {
+    /// The full name of the message.
+    pub const FULL_NAME: &'static str = "google.protobuf.EnumValueOptions";
+}

@@ -16,7 +16,7 @@ use std::alloc::Global;
 /// message ExtensionRangeOptions {
 ///     extensions 1 to max;
 /// }
-#[derive(Drop)]
+#[derive(Debug, Drop)]
 pub struct ExtensionRangeOptions {
     /// The fields that aren't declared, in order.
     pub rest: UnknownFields,
@@ -103,3 +103,8 @@ impl ExtensionSet for ExtensionRangeOptions {
 }
 
 const _: () = prove!(size_of::<ExtensionRangeOptions>() <= ExtensionRangeOptions::COST);
+
+impl ExtensionRangeOptions {
+    /// The full name of the message.
+    pub const FULL_NAME: &'static str = "google.protobuf.ExtensionRangeOptions";
+}

@@ -29,7 +29,7 @@ use std::string::String;
 ///     optional string json_name = 10;
 ///     optional bool proto3_optional = 17;
 /// }
-#[derive(Drop)]
+#[derive(Debug, Drop)]
 pub struct FieldDescriptorProto {
     /// Its name.
     pub name: Option<String>,
@@ -186,3 +186,97 @@ impl Formed for FieldDescriptorProto {
 }
 
 const _: () = prove!(size_of::<FieldDescriptorProto>() <= FieldDescriptorProto::COST);
+
+impl FieldDescriptorProto {
+    ghost use Rattle.std.specs.Prelude.{[], false, option_map, pos, string_bytes, unwrap_or, ◌≡◌};
+    ghost use Rattle.buffa_descriptor.specs.declared.messages.field_descriptor_proto_label.FieldDescriptorProtoLabel.TheVariants.{Optional as OptionalOfFieldDescriptorProtoLabel};
+    ghost use Rattle.buffa_descriptor.specs.declared.messages.field_descriptor_proto_type.FieldDescriptorProtoType.TheVariants.{Double as DoubleOfFieldDescriptorProtoType};
+
+    /// The full name of the message.
+    pub const FULL_NAME: &'static str = "google.protobuf.FieldDescriptorProto";
+
+    /// `name`, or the default of its type where it isn't there: empty.
+    pub fn name(&self) -> &str
+        ensures is { result.now ≡ unwrap_or (option_map string_bytes self.now.name) [] }
+    {
+        match &self.name {
+            Some(it) => it.as_str(),
+            None => "",
+        }
+    }
+
+    /// `extendee`, or the default of its type where it isn't there: empty.
+    pub fn extendee(&self) -> &str
+        ensures is { result.now ≡ unwrap_or (option_map string_bytes self.now.extendee) [] }
+    {
+        match &self.extendee {
+            Some(it) => it.as_str(),
+            None => "",
+        }
+    }
+
+    /// `number`, or the default of its type where it isn't there: 0.
+    pub fn number(&self) -> i32
+        ensures is { result ≡ unwrap_or self.now.number (pos 0) }
+    {
+        self.number.unwrap_or(0)
+    }
+
+    /// `label`, or the default of its type where it isn't there: LABEL_OPTIONAL.
+    pub fn label(&self) -> FieldDescriptorProtoLabel
+        ensures is { result ≡ unwrap_or self.now.label OptionalOfFieldDescriptorProtoLabel }
+    {
+        self.label.unwrap_or(FieldDescriptorProtoLabel::Optional)
+    }
+
+    /// `type_`, or the default of its type where it isn't there: TYPE_DOUBLE.
+    pub fn type_(&self) -> FieldDescriptorProtoType
+        ensures is { result ≡ unwrap_or self.now.type_ DoubleOfFieldDescriptorProtoType }
+    {
+        self.type_.unwrap_or(FieldDescriptorProtoType::Double)
+    }
+
+    /// `type_name`, or the default of its type where it isn't there: empty.
+    pub fn type_name(&self) -> &str
+        ensures is { result.now ≡ unwrap_or (option_map string_bytes self.now.type_name) [] }
+    {
+        match &self.type_name {
+            Some(it) => it.as_str(),
+            None => "",
+        }
+    }
+
+    /// `default_value`, or the default of its type where it isn't there: empty.
+    pub fn default_value(&self) -> &str
+        ensures is { result.now ≡ unwrap_or (option_map string_bytes self.now.default_value) [] }
+    {
+        match &self.default_value {
+            Some(it) => it.as_str(),
+            None => "",
+        }
+    }
+
+    /// `oneof_index`, or the default of its type where it isn't there: 0.
+    pub fn oneof_index(&self) -> i32
+        ensures is { result ≡ unwrap_or self.now.oneof_index (pos 0) }
+    {
+        self.oneof_index.unwrap_or(0)
+    }
+
+    /// `json_name`, or the default of its type where it isn't there: empty.
+    pub fn json_name(&self) -> &str
+        ensures is { result.now ≡ unwrap_or (option_map string_bytes self.now.json_name) [] }
+    {
+        match &self.json_name {
+            Some(it) => it.as_str(),
+            None => "",
+        }
+    }
+
+    /// `proto3_optional`, or the default of its type where it isn't there: false.
+    pub fn proto3_optional(&self) -> bool
+        ensures is { result ≡ unwrap_or self.now.proto3_optional false }
+    {
+        self.proto3_optional.unwrap_or(false)
+    }
+}

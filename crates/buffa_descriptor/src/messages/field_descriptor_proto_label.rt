@@ -63,3 +63,8 @@ impl Enumeration for FieldDescriptorProtoLabel {
 
     ghost blank_declared = { refl };
 }
+
+impl FieldDescriptorProtoLabel {
+    /// The full name of the enum.
+    pub const FULL_NAME: &'static str = "google.protobuf.FieldDescriptorProto.Label";
+}

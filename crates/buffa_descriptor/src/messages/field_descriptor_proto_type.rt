@@ -168,3 +168,8 @@ impl Enumeration for FieldDescriptorProtoType {
 
     ghost blank_declared = { refl };
 }
+
+impl FieldDescriptorProtoType {
+    /// The full name of the enum.
+    pub const FULL_NAME: &'static str = "google.protobuf.FieldDescriptorProto.Type";
+}

@@ -20,7 +20,7 @@ use std::alloc::Global;
 /// }
 ///
 /// Left among the fields that aren't declared: packed = 2.
-#[derive(Drop)]
+#[derive(Debug, Drop)]
 pub struct FieldOptions {
     /// The fields that aren't declared, in order.
     pub rest: UnknownFields,
@@ -107,3 +107,8 @@ impl ExtensionSet for FieldOptions {
 }
 
 const _: () = prove!(size_of::<FieldOptions>() <= FieldOptions::COST);
+
+impl FieldOptions {
+    /// The full name of the message.
+    pub const FULL_NAME: &'static str = "google.protobuf.FieldOptions";
+}

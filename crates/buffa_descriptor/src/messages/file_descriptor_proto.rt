@@ -33,7 +33,7 @@ use std::string::String;
 ///     repeated int32 weak_dependency = 11;
 ///     optional string syntax = 12;
 /// }
-#[derive(Drop)]
+#[derive(Debug, Drop)]
 pub struct FileDescriptorProto {
     /// Its name, from the folder in which protoc looks for imports.
     pub name: Option<String>,
@@ -204,3 +204,40 @@ impl Formed for FileDescriptorProto {
 }
 
 const _: () = prove!(size_of::<FileDescriptorProto>() <= FileDescriptorProto::COST);
+
+impl FileDescriptorProto {
+    ghost use Rattle.std.specs.Prelude.{[], option_map, string_bytes, unwrap_or, ◌≡◌};
+
+    /// The full name of the message.
+    pub const FULL_NAME: &'static str = "google.protobuf.FileDescriptorProto";
+
+    /// `name`, or the default of its type where it isn't there: empty.
+    pub fn name(&self) -> &str
+        ensures is { result.now ≡ unwrap_or (option_map string_bytes self.now.name) [] }
+    {
+        match &self.name {
+            Some(it) => it.as_str(),
+            None => "",
+        }
+    }
+
+    /// `package`, or the default of its type where it isn't there: empty.
+    pub fn package(&self) -> &str
+        ensures is { result.now ≡ unwrap_or (option_map string_bytes self.now.«package») [] }
+    {
+        match &self.package {
+            Some(it) => it.as_str(),
+            None => "",
+        }
+    }
+
+    /// `syntax`, or the default of its type where it isn't there: empty.
+    pub fn syntax(&self) -> &str
+        ensures is { result.now ≡ unwrap_or (option_map string_bytes self.now.syntax) [] }
+    {
+        match &self.syntax {
+            Some(it) => it.as_str(),
+            None => "",
+        }
+    }
+}

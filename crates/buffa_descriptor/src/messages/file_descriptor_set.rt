@@ -15,7 +15,7 @@ use std::alloc::Global;
 /// message FileDescriptorSet {
 ///     repeated FileDescriptorProto file = 1;
 /// }
-#[derive(Drop)]
+#[derive(Debug, Drop)]
 pub struct FileDescriptorSet {
     /// The files. One that is imported stands before those that import it.
     pub file: Vec<FileDescriptorProto>,
@@ -82,3 +82,8 @@ impl Formed for FileDescriptorSet {
 }
 
 const _: () = prove!(size_of::<FileDescriptorSet>() <= FileDescriptorSet::COST);
+
+impl FileDescriptorSet {
+    /// The full name of the message.
+    pub const FULL_NAME: &'static str = "google.protobuf.FileDescriptorSet";
+}

@@ -17,7 +17,7 @@ use std::alloc::Global;
 /// message FileOptions {
 ///     extensions 1 to max;
 /// }
-#[derive(Drop)]
+#[derive(Debug, Drop)]
 pub struct FileOptions {
     /// The fields that aren't declared, in order.
     pub rest: UnknownFields,
@@ -104,3 +104,8 @@ impl ExtensionSet for FileOptions {
 }
 
 const _: () = prove!(size_of::<FileOptions>() <= FileOptions::COST);
+
+impl FileOptions {
+    /// The full name of the message.
+    pub const FULL_NAME: &'static str = "google.protobuf.FileOptions";
+}

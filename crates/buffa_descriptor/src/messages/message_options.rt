@@ -17,7 +17,7 @@ use std::alloc::Global;
 /// message MessageOptions {
 ///     extensions 1 to max;
 /// }
-#[derive(Drop)]
+#[derive(Debug, Drop)]
 pub struct MessageOptions {
     /// The fields that aren't declared, in order.
     pub rest: UnknownFields,
@@ -104,3 +104,8 @@ impl ExtensionSet for MessageOptions {
 }
 
 const _: () = prove!(size_of::<MessageOptions>() <= MessageOptions::COST);
+
+impl MessageOptions {
+    /// The full name of the message.
+    pub const FULL_NAME: &'static str = "google.protobuf.MessageOptions";
+}

@@ -22,7 +22,7 @@ use std::string::String;
 ///     optional bool client_streaming = 5 [default = false];
 ///     optional bool server_streaming = 6 [default = false];
 /// }
-#[derive(Drop)]
+#[derive(Debug, Drop)]
 pub struct MethodDescriptorProto {
     /// Its name.
     pub name: Option<String>,
@@ -127,3 +127,40 @@ impl Formed for MethodDescriptorProto {
 }
 
 const _: () = prove!(size_of::<MethodDescriptorProto>() <= MethodDescriptorProto::COST);
+
+impl MethodDescriptorProto {
+    ghost use Rattle.std.specs.Prelude.{[], option_map, string_bytes, unwrap_or, ◌≡◌};
+
+    /// The full name of the message.
+    pub const FULL_NAME: &'static str = "google.protobuf.MethodDescriptorProto";
+
+    /// `name`, or the default of its type where it isn't there: empty.
+    pub fn name(&self) -> &str
+        ensures is { result.now ≡ unwrap_or (option_map string_bytes self.now.name) [] }
+    {
+        match &self.name {
+            Some(it) => it.as_str(),
+            None => "",
+        }
+    }
+
+    /// `input_type`, or the default of its type where it isn't there: empty.
+    pub fn input_type(&self) -> &str
+        ensures is { result.now ≡ unwrap_or (option_map string_bytes self.now.input_type) [] }
+    {
+        match &self.input_type {
+            Some(it) => it.as_str(),
+            None => "",
+        }
+    }
+
+    /// `output_type`, or the default of its type where it isn't there: empty.
+    pub fn output_type(&self) -> &str
+        ensures is { result.now ≡ unwrap_or (option_map string_bytes self.now.output_type) [] }
+    {
+        match &self.output_type {
+            Some(it) => it.as_str(),
+            None => "",
+        }
+    }
+}

@@ -17,7 +17,7 @@ use std::alloc::Global;
 /// message MethodOptions {
 ///     extensions 1 to max;
 /// }
-#[derive(Drop)]
+#[derive(Debug, Drop)]
 pub struct MethodOptions {
     /// The fields that aren't declared, in order.
     pub rest: UnknownFields,
@@ -104,3 +104,8 @@ impl ExtensionSet for MethodOptions {
 }
 
 const _: () = prove!(size_of::<MethodOptions>() <= MethodOptions::COST);
+
+impl MethodOptions {
+    /// The full name of the message.
+    pub const FULL_NAME: &'static str = "google.protobuf.MethodOptions";
+}

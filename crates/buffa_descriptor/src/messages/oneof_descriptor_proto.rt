@@ -18,7 +18,7 @@ use std::string::String;
 ///     optional string name = 1;
 ///     optional OneofOptions options = 2;
 /// }
-#[derive(Drop)]
+#[derive(Debug, Drop)]
 pub struct OneofDescriptorProto {
     /// Its name.
     pub name: Option<String>,
@@ -91,3 +91,20 @@ impl Formed for OneofDescriptorProto {
 }
 
 const _: () = prove!(size_of::<OneofDescriptorProto>() <= OneofDescriptorProto::COST);
+
+impl OneofDescriptorProto {
+    ghost use Rattle.std.specs.Prelude.{[], option_map, string_bytes, unwrap_or, ◌≡◌};
+
+    /// The full name of the message.
+    pub const FULL_NAME: &'static str = "google.protobuf.OneofDescriptorProto";
+
+    /// `name`, or the default of its type where it isn't there: empty.
+    pub fn name(&self) -> &str
+        ensures is { result.now ≡ unwrap_or (option_map string_bytes self.now.name) [] }
+    {
+        match &self.name {
+            Some(it) => it.as_str(),
+            None => "",
+        }
+    }
+}

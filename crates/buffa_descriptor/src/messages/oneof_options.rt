@@ -16,7 +16,7 @@ use std::alloc::Global;
 /// message OneofOptions {
 ///     extensions 1 to max;
 /// }
-#[derive(Drop)]
+#[derive(Debug, Drop)]
 pub struct OneofOptions {
     /// The fields that aren't declared, in order.
     pub rest: UnknownFields,
@@ -103,3 +103,8 @@ impl ExtensionSet for OneofOptions {
 }
 
 const _: () = prove!(size_of::<OneofOptions>() <= OneofOptions::COST);
+
+impl OneofOptions {
+    /// The full name of the message.
+    pub const FULL_NAME: &'static str = "google.protobuf.OneofOptions";
+}

@@ -20,7 +20,7 @@ use std::string::String;
 ///     repeated MethodDescriptorProto method = 2;
 ///     optional ServiceOptions options = 3;
 /// }
-#[derive(Drop)]
+#[derive(Debug, Drop)]
 pub struct ServiceDescriptorProto {
     /// Its name.
     pub name: Option<String>,
@@ -110,3 +110,20 @@ impl Formed for ServiceDescriptorProto {
 }
 
 const _: () = prove!(size_of::<ServiceDescriptorProto>() <= ServiceDescriptorProto::COST);
+
+impl ServiceDescriptorProto {
+    ghost use Rattle.std.specs.Prelude.{[], option_map, string_bytes, unwrap_or, ◌≡◌};
+
+    /// The full name of the message.
+    pub const FULL_NAME: &'static str = "google.protobuf.ServiceDescriptorProto";
+
+    /// `name`, or the default of its type where it isn't there: empty.
+    pub fn name(&self) -> &str
+        ensures is { result.now ≡ unwrap_or (option_map string_bytes self.now.name) [] }
+    {
+        match &self.name {
+            Some(it) => it.as_str(),
+            None => "",
+        }
+    }
+}

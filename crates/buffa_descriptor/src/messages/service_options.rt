@@ -17,7 +17,7 @@ use std::alloc::Global;
 /// message ServiceOptions {
 ///     extensions 1 to max;
 /// }
-#[derive(Drop)]
+#[derive(Debug, Drop)]
 pub struct ServiceOptions {
     /// The fields that aren't declared, in order.
     pub rest: UnknownFields,
@@ -104,3 +104,8 @@ impl ExtensionSet for ServiceOptions {
 }
 
 const _: () = prove!(size_of::<ServiceOptions>() <= ServiceOptions::COST);
+
+impl ServiceOptions {
+    /// The full name of the message.
+    pub const FULL_NAME: &'static str = "google.protobuf.ServiceOptions";
+}

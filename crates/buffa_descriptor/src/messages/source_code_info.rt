@@ -15,7 +15,7 @@ use std::alloc::Global;
 /// message SourceCodeInfo {
 ///     repeated Location location = 1;
 /// }
-#[derive(Drop)]
+#[derive(Debug, Drop)]
 pub struct SourceCodeInfo {
     /// The places.
     pub location: Vec<SourceCodeInfoLocation>,
@@ -88,3 +88,8 @@ impl Formed for SourceCodeInfo {
 }
 
 const _: () = prove!(size_of::<SourceCodeInfo>() <= SourceCodeInfo::COST);
+
+impl SourceCodeInfo {
+    /// The full name of the message.
+    pub const FULL_NAME: &'static str = "google.protobuf.SourceCodeInfo";
+}

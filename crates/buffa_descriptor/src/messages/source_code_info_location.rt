@@ -20,7 +20,7 @@ use std::string::String;
 ///     optional string trailing_comments = 4;
 ///     repeated string leading_detached_comments = 6;
 /// }
-#[derive(Drop)]
+#[derive(Debug, Drop)]
 pub struct SourceCodeInfoLocation {
     /// The way to what is declared: from the file, the number of a field, and where that is repeated, which
     /// one of it, counted from 0, and so on.
@@ -120,3 +120,30 @@ impl Formed for SourceCodeInfoLocation {
 }
 
 const _: () = prove!(size_of::<SourceCodeInfoLocation>() <= SourceCodeInfoLocation::COST);
+
+impl SourceCodeInfoLocation {
+    ghost use Rattle.std.specs.Prelude.{[], option_map, string_bytes, unwrap_or, ◌≡◌};
+
+    /// The full name of the message.
+    pub const FULL_NAME: &'static str = "google.protobuf.SourceCodeInfo.Location";
+
+    /// `leading_comments`, or the default of its type where it isn't there: empty.
+    pub fn leading_comments(&self) -> &str
+        ensures is { result.now ≡ unwrap_or (option_map string_bytes self.now.leading_comments) [] }
+    {
+        match &self.leading_comments {
+            Some(it) => it.as_str(),
+            None => "",
+        }
+    }
+
+    /// `trailing_comments`, or the default of its type where it isn't there: empty.
+    pub fn trailing_comments(&self) -> &str
+        ensures is { result.now ≡ unwrap_or (option_map string_bytes self.now.trailing_comments) [] }
+    {
+        match &self.trailing_comments {
+            Some(it) => it.as_str(),
+            None => "",
+        }
+    }
+}

@@ -18,7 +18,7 @@ use std::string::String;
 ///     string domain = 2;
 ///     map<string, string> metadata = 3;
 /// }
-#[derive(Drop)]
+#[derive(Debug, Drop)]
 pub struct ErrorInfo {
     /// The reason of the error: a constant value that is unique within its domain.
     pub reason: String,
@@ -97,3 +97,8 @@ impl Formed for ErrorInfo {
 }
 
 const _: () = prove!(size_of::<ErrorInfo>() <= ErrorInfo::COST);
+
+impl ErrorInfo {
+    /// The full name of the message.
+    pub const FULL_NAME: &'static str = "google.rpc.ErrorInfo";
+}

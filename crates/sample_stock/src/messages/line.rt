@@ -17,7 +17,7 @@ use std::string::String;
 ///     string good = 1;
 ///     optional int32 count = 2;
 /// }
-#[derive(Drop)]
+#[derive(Debug, Drop)]
 pub struct Line {
     pub good: String,
     pub count: Option<i32>,
@@ -88,3 +88,31 @@ impl Formed for Line {
 }
 
 const _: () = prove!(size_of::<Line>() <= Line::COST);
+
+impl Line {
+    ghost use Rattle.std.specs.Prelude.{None, Some, codes, if◌then◌else◌, option_map, pos, unwrap_or, ◌==◌, ◌≡◌};
+
+    /// The full name of the message.
+    pub const FULL_NAME: &'static str = "shop.Line";
+
+    /// The name in the `.proto` of the field that has this number; none where the message has no member for it.
+    pub fn field_name(number: u32) -> Option<&'static str>
+        ensures { option_map (λ name. name.now) result ≡ (
+            if number == 1 then Some (codes "good") else
+            if number == 2 then Some (codes "count") else
+            None) }
+    {
+        match number {
+            1 => Some("good"),
+            2 => Some("count"),
+            _ => None,
+        }
+    }
+
+    /// `count`, or the default of its type where it isn't there: 0.
+    pub fn count(&self) -> i32
+        ensures is { result ≡ unwrap_or self.now.count (pos 0) }
+    {
+        self.count.unwrap_or(0)
+    }
+}

@@ -22,7 +22,7 @@ use std::string::String;
 ///     repeated Line lines = 3;
 ///     map<string, Line> gifts = 4;
 /// }
-#[derive(Drop)]
+#[derive(Debug, Drop)]
 pub struct Order {
     pub state: EnumValue<State>,
     pub note: Option<String>,
@@ -109,3 +109,38 @@ impl Formed for Order {
 }
 
 const _: () = prove!(size_of::<Order>() <= Order::COST);
+
+impl Order {
+    ghost use Rattle.std.specs.Prelude.{None, Some, [], codes, if◌then◌else◌, option_map, string_bytes, unwrap_or, ◌==◌, ◌≡◌};
+
+    /// The full name of the message.
+    pub const FULL_NAME: &'static str = "shop.Order";
+
+    /// The name in the `.proto` of the field that has this number; none where the message has no member for it.
+    pub fn field_name(number: u32) -> Option<&'static str>
+        ensures { option_map (λ name. name.now) result ≡ (
+            if number == 1 then Some (codes "state") else
+            if number == 2 then Some (codes "note") else
+            if number == 3 then Some (codes "lines") else
+            if number == 4 then Some (codes "gifts") else
+            None) }
+    {
+        match number {
+            1 => Some("state"),
+            2 => Some("note"),
+            3 => Some("lines"),
+            4 => Some("gifts"),
+            _ => None,
+        }
+    }
+
+    /// `note`, or the default of its type where it isn't there: empty.
+    pub fn note(&self) -> &str
+        ensures is { result.now ≡ unwrap_or (option_map string_bytes self.now.note) [] }
+    {
+        match &self.note {
+            Some(it) => it.as_str(),
+            None => "",
+        }
+    }
+}

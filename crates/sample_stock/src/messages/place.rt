@@ -20,7 +20,7 @@ use std::string::String;
 ///     string name = 1;
 ///     repeated Place places = 2;
 /// }
-#[derive(Drop)]
+#[derive(Debug, Drop)]
 pub struct Place {
     pub name: String,
     pub places: Vec<Place>,
@@ -112,3 +112,24 @@ impl Formed for Place {
 }
 
 const _: () = prove!(size_of::<Place>() <= Place::COST);
+
+impl Place {
+    ghost use Rattle.std.specs.Prelude.{None, Some, codes, if◌then◌else◌, option_map, ◌==◌, ◌≡◌};
+
+    /// The full name of the message.
+    pub const FULL_NAME: &'static str = "shop.Place";
+
+    /// The name in the `.proto` of the field that has this number; none where the message has no member for it.
+    pub fn field_name(number: u32) -> Option<&'static str>
+        ensures { option_map (λ name. name.now) result ≡ (
+            if number == 1 then Some (codes "name") else
+            if number == 2 then Some (codes "places") else
+            None) }
+    {
+        match number {
+            1 => Some("name"),
+            2 => Some("places"),
+            _ => None,
+        }
+    }
+}

@@ -56,3 +56,36 @@ impl Enumeration for State {
 
     ghost blank_declared = { refl };
 }
+
+impl State {
+    ghost use Rattle.std.specs.Prelude.{None, Some, codes, if◌then◌else◌, ◌≡◌};
+    ghost use Rattle.std.specs.Str.{bytes_eq};
+    ghost use Rattle.sample_stock.specs.declared.messages.state.State.TheVariants.{Open, Sent};
+
+    /// The full name of the enum.
+    pub const FULL_NAME: &'static str = "shop.State";
+
+    /// The name of the value in the `.proto`, the first where it has several.
+    pub fn proto_name(&self) -> &'static str
+        ensures { result.now ≡ elim self.now [ Open ↦ codes "OPEN" | Sent ↦ codes "SENT" ] }
+    {
+        match self {
+            State::Open => "OPEN",
+            State::Sent => "SENT",
+        }
+    }
+
+    /// The value that has this name in the `.proto`; none where no value has it.
+    pub fn from_proto_name(name: &str) -> Option<State>
+        ensures { result ≡ (
+            if bytes_eq name.now (codes "OPEN") then Some Open else
+            if bytes_eq name.now (codes "SENT") then Some Sent else
+            None) }
+    {
+        match name {
+            "OPEN" => Some(State::Open),
+            "SENT" => Some(State::Sent),
+            _ => None,
+        }
+    }
+}

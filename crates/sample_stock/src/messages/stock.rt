@@ -17,7 +17,7 @@ use std::string::String;
 ///     string name = 1;
 ///     map<string, int32> counts = 5;
 /// }
-#[derive(Drop)]
+#[derive(Debug, Drop)]
 pub struct Stock {
     pub name: String,
     pub counts: Map<String, i32>,
@@ -88,3 +88,24 @@ impl Formed for Stock {
 }
 
 const _: () = prove!(size_of::<Stock>() <= Stock::COST);
+
+impl Stock {
+    ghost use Rattle.std.specs.Prelude.{None, Some, codes, if◌then◌else◌, option_map, ◌==◌, ◌≡◌};
+
+    /// The full name of the message.
+    pub const FULL_NAME: &'static str = "shop.Stock";
+
+    /// The name in the `.proto` of the field that has this number; none where the message has no member for it.
+    pub fn field_name(number: u32) -> Option<&'static str>
+        ensures { option_map (λ name. name.now) result ≡ (
+            if number == 1 then Some (codes "name") else
+            if number == 5 then Some (codes "counts") else
+            None) }
+    {
+        match number {
+            1 => Some("name"),
+            5 => Some("counts"),
+            _ => None,
+        }
+    }
+}

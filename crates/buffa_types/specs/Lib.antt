@@ -1,0 +1,3 @@
+-- The words that this crate hands out.
+pub mod TypeUrl
+pub mod Times

@@ -1,0 +1,89 @@
+//! google.protobuf.Int32Value, made of google/protobuf/wrappers.proto by protoc-gen-buffa.
+
+ghost use Rattle.std.proofs.Common.{lit<, refl};
+ghost use Rattle.buffa_fields.specs.Terms.{field, keep};
+
+use buffa_fields::map_codec::Int32;
+use buffa_fields::{
+    And, Blank, DecodeContext, DecodeError, Fields, Formed, KeptFields, Listed, Listing, Member,
+    Plain, Tag, UnknownFields, Visitor, kept,
+};
+use std::alloc::Global;
+
+/// An `int32`.
+///
+/// message Int32Value {
+///     int32 value = 1;
+/// }
+#[derive(Debug, Drop)]
+pub struct Int32Value {
+    /// The value.
+    pub value: i32,
+    /// The fields that aren't declared, in order.
+    pub rest: UnknownFields,
+}
+
+impl Fields for Int32Value {
+    type Meaning = And<i32, KeptFields>;
+
+    const COST: usize = 32;
+
+    ghost COST = { 32 };
+
+    ghost positive = { lit< tt };
+
+    ghost layout = { field 1 (λ m. m.value) ⟦<Plain<Int32> as Member>⟧.shape (
+        keep (λ m. m.rest.records)) };
+
+    ghost sound = { refl };
+
+    fn visit<V: Visitor>(&self, visitor: &mut V) {
+        visitor.visit::<Plain<Int32>>(1, &self.value);
+        visitor.visit_kept(&self.rest);
+    }
+
+    fn take(
+        &mut self,
+        alloc: Global,
+        tag: Tag,
+        buf: &mut &[u8],
+        ctx: DecodeContext<'_>,
+    ) -> Result<(), DecodeError> {
+        match tag.field_number() {
+            1 => Plain::<Int32>::merge(&mut self.value, alloc, tag, buf, ctx),
+            _ => kept::keep(alloc, &mut self.rest, tag, buf, ctx),
+        }
+    }
+}
+
+impl Blank for Int32Value {
+    type Meaning = <Int32Value as Fields>::Meaning;
+
+    ghost meaning = { ⟦<Int32Value as Fields>⟧.layout.meaning };
+
+    ghost blank_is = { ⟦<Int32Value as Fields>⟧.layout.blank };
+
+    fn blank(alloc: Global) -> Int32Value {
+        Int32Value {
+            value: 0,
+            rest: UnknownFields::new(alloc),
+        }
+    }
+}
+
+impl Listing for Int32Value {
+    ghost means = { λ m. refl };
+
+    ghost starts = { refl };
+}
+
+impl Formed for Int32Value {
+    type Form = Listed;
+}
+
+const _: () = prove!(size_of::<Int32Value>() <= Int32Value::COST);
+
+impl Int32Value {
+    /// The full name of the message.
+    pub const FULL_NAME: &'static str = "google.protobuf.Int32Value";
+}

@@ -1,0 +1,5 @@
+//! What protoc-gen-buffa made of readings.proto.
+
+pub mod reading;
+
+pub use reading::Reading;

@@ -1,0 +1,1 @@
+-- The words that this crate hands out.
