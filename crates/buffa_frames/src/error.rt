@@ -1,7 +1,7 @@
 //! Why there is no frame.
 
 ghost use Rattle.std.specs.Prelude.{◌≡◌, None, Some};
-ghost use Rattle.buffa_frames.specs.FrameText.{frame_fault_text};
+ghost use Rattle.buffa_frames.specs.FrameText.{frame_error_text, frame_fault_text};
 ghost use Rattle.buffa_frames.specs.declared.error.FrameError.TheVariants as errors;
 
 use std::alloc::{AllocError, AllocFailed};
@@ -56,6 +56,8 @@ pub enum FrameError {
 }
 
 impl fmt::Display for FrameError {
+    ghost output = { λ e. frame_error_text e };
+
     fn fmt<W: fmt::Write>(&self, f: &mut fmt::Formatter<W>) -> fmt::Result {
         match self {
             FrameError::Refused(fault) => write!(f, "{fault}"),
