@@ -1,5 +1,5 @@
 -- What is proved of the messages in one: all that is required is there where each of them has what is asked of it.
-use Rattle.std.specs.Prelude.{◌≡◌, ◌⊎◌, ◌&&◌, Bool, true, false, refl}
+use Rattle.std.specs.Prelude.{◌≡◌, ◌&&◌, Bool, true, false, refl}
 use Rattle.std.proofs.Common.{ap, inl, inr, ◌∙◌}
 use Rattle.buffa_recursive.specs.MessageTree.{Knot, KnotList, Maybe, Slots, kid, knot, many, no_kid, no_slot, nobody, one, somebody}
 use Rattle.buffa_recursive.specs.Initialized.{kids_have, knot_has, maybe_has, slots_have}

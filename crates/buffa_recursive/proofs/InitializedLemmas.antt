@@ -1,5 +1,5 @@
 -- Whether all that is required is there in the messages of a list or a map, told by those that are left of a walk.
-use Rattle.std.specs.Prelude.{◌≡◌, ◌≤◌, ◌<◌, ◌&&◌, ℕ, zero, suc, Bool, true, false, List, [], ◌∷◌, length, refl}
+use Rattle.std.specs.Prelude.{◌≡◌, ◌≤◌, ◌<◌, ℕ, suc, false, List, [], ◌∷◌, length, refl}
 use Rattle.std.proofs.Common.{arith, get_or, sym, ◌∙◌}
 use Rattle.std.specs.List.{AllByRecursion, Contains, list_all}
 use Rattle.std.specs.Map.{values_of}

@@ -1,5 +1,5 @@
 -- What is proved of whether all that is required is there: of lists and maps of messages, and by what messages mean.
-use Rattle.std.specs.Prelude.{◌≡◌, ◌&&◌, Bool, true, List, [], ◌∷◌, map, refl}
+use Rattle.std.specs.Prelude.{◌≡◌, ◌&&◌, Bool, List, [], ◌∷◌, map, refl}
 use Rattle.std.proofs.Common.{ap}
 use Rattle.std.specs.List.{list_all}
 use Rattle.buffa_map.specs.Pairs.{means}
