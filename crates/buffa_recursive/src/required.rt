@@ -43,7 +43,8 @@ pub trait SelfRequired: SelfAsked {
     /// Whether all that is required is there. The messages in a member of its own type are asked by `inner`.
     ///
     /// ```ignore
-    /// list_initialized(&self.parts, inner)
+    /// self.title.is_some()
+    ///     & list_initialized(&self.parts, inner)
     /// ```
     fn is_initialized_by<A: SelfAsker<Self>>(&self, inner: &A) -> bool
         requires { A.Reaches (Self.tree.height self.now) inner.now }
