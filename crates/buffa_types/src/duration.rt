@@ -47,8 +47,9 @@ impl Duration {
     /// ```
     pub fn from_nanos(alloc: Global, nanos: i128) -> Option<Duration>
         ensures there { IsSome result ↔ IsLength nanos }
-        ensures value { IfSome result (λ d. (nanoseconds d.seconds d.nanos ≡ nanos) × IsDuration d.seconds d.nanos
-            × (d.rest.records ≡ [])) }
+        ensures value { IfSome result (λ d. nanoseconds d.seconds d.nanos ≡ nanos) }
+        ensures valid { IfSome result (λ d. IsDuration d.seconds d.nanos) }
+        ensures rest { IfSome result (λ d. d.rest.records ≡ []) }
     {
         if nanos < -315_576_000_000_999_999_999 || nanos > 315_576_000_000_999_999_999 {
             return None;

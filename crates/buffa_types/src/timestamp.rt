@@ -43,8 +43,9 @@ impl Timestamp {
     /// ```
     pub fn from_nanosecond(alloc: Global, nanosecond: i128) -> Option<Timestamp>
         ensures there { IsSome result ↔ IsInstant nanosecond }
-        ensures value { IfSome result (λ t. (nanoseconds t.seconds t.nanos ≡ nanosecond) × IsTimestamp t.seconds t.nanos
-            × (t.rest.records ≡ [])) }
+        ensures value { IfSome result (λ t. nanoseconds t.seconds t.nanos ≡ nanosecond) }
+        ensures valid { IfSome result (λ t. IsTimestamp t.seconds t.nanos) }
+        ensures rest { IfSome result (λ t. t.rest.records ≡ []) }
     {
         if nanosecond < -62_135_596_800_000_000_000 || nanosecond > 253_402_300_799_999_999_999 {
             return None;

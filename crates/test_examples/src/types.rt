@@ -1,6 +1,6 @@
 //! The well-known types. What Google's protobuf writes and says of them is what its Python answered.
 
-ghost use Rattle.std.specs.Prelude.{◌≡◌, ◌+ℤ◌, IfSome};
+ghost use Rattle.std.specs.Prelude.{◌↔◌, ◌<ℤ◌, IsTrue};
 ghost use Rattle.buffa_types.specs.Times.{nanoseconds};
 
 use buffa_fields::{Decode, DecodeError, DoubleBits, FloatBits, Message, UnknownFields};
@@ -15,11 +15,15 @@ use std::test::Fail;
 const PACKED: &[u8] =
     b"\x0A\x2Ctype.googleapis.com/google.protobuf.Duration\x12\x16\x08\xFF\xFF\xFF\xFF\xFF\xFF\xFF\xFF\xFF\x01\x10\x80\xB6\xCA\x91\xFE\xFF\xFF\xFF\xFF\x01";
 
-// When a delay is over that begins at a point in time: none where one of them is out of range, or the end is.
-fn end_of(alloc: Global, begin: &Timestamp, delay: &Duration) -> Option<Timestamp>
-    ensures { IfSome result (λ end. nanoseconds end.seconds end.nanos
-        ≡ nanoseconds begin.now.seconds begin.now.nanos +ℤ nanoseconds delay.now.seconds delay.now.nanos) }
+// Whether a point in time is before another one.
+fn is_before(first: &Timestamp, second: &Timestamp) -> bool
+    ensures { IsTrue result ↔ (nanoseconds first.now.seconds first.now.nanos <ℤ nanoseconds second.now.seconds second.now.nanos) }
 {
+    first.as_nanosecond() < second.as_nanosecond()
+}
+
+// When a delay is over that begins at a point in time: none where one of them is out of range, or the end is.
+fn end_of(alloc: Global, begin: &Timestamp, delay: &Duration) -> Option<Timestamp> {
     if !begin.is_valid() || !delay.is_valid() {
         return None;
     }
@@ -91,6 +95,10 @@ fn a_delay_is_over_in_time(rt: HostRuntime) -> Result<(), Fail> {
     let begin = Timestamp::decode_from_slice(alloc, b"\x08\x80\x94\xEB\xDC\x03")?;
     let delay = Duration::decode_from_slice(alloc, b"\x10\x01")?;
     let end = end_of(alloc, &begin, &delay);
+    assert!(rt;
+        end.as_ref()
+            .is_some_and(|it| is_before(&begin, it) && !is_before(it, &begin))
+    );
     assert!(rt; end.is_some_and(|it| it.seconds == 1_000_000_000 && it.nanos == 1));
     Ok(())
 }
