@@ -88,7 +88,7 @@ def copy_to(room, crate, crates):
     """Copies what the checker reads of the crate, which stands on all those crates, and gives it an error of ours."""
     lines, needed = listed(), set().union(*[below(it) for it in [crate, *crates]])
     named = {word for it in needed for word in lines[it].partition(":")[2].split()} | needed - {crate}
-    lines[crate] = f"{crate}: {' '.join(sorted(named))} {EMPTY}"
+    lines[crate] = f"{lines[crate].partition(':')[0]}: {' '.join(sorted(named))} {EMPTY}"
     shutil.copy(f"{TOP}/HANDLES", room)
     with open(f"{room}/crates.txt", "w", encoding="utf-8") as it:
         it.write(f"{EMPTY}:\n" + "".join(f"{lines[name]}\n" for name in lines if name in needed))
@@ -169,6 +169,8 @@ def look(crates, lanes):
     # One program holds the error of ours; an edit of any other is read in a copy of its own.
     programs = [it for it in listed() if os.path.isfile(f"{TOP}/crates/{it}/src/main.rt")]
     program, *others = [it for it in programs if it in crates] or programs
+    # nothing can stand on a static library either
+    others += [it for it, line in listed().items() if " staticlib" in line.partition(":")[0]]
     together = list(dict.fromkeys([*(it for it in crates if it not in others), program]))
     layers, alone = [], []
     for edit in edits:
