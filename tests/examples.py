@@ -274,7 +274,7 @@ def stands_alone(text, found, is_closed):
     return is_closed or after in (";", ",", ")", "]", "}", "{", "?")
 
 
-def stands_in(code, pattern, text):
+def partly_merged_in(code, pattern, text):
     """Whether a text says the tokens of a line."""
     run, expression = pattern
     if run not in text:
@@ -327,7 +327,7 @@ def said_in(line, sources):
         wanted.append((f" {part.strip(' ,')} ", forms))
     exact, forms = wanted[0]
     for path, text in sources.with_any([exact] + [run for _, (run, _) in forms]):
-        if all(exact in text or any(stands_in(*form, text) for form in forms) for exact, forms in wanted):
+        if all(exact in text or any(partly_merged_in(*form, text) for form in forms) for exact, forms in wanted):
             return path
     return None
 

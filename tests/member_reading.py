@@ -118,7 +118,8 @@ class ByMembers:
         if kind not in MESSAGES:
             found = value(kind, buf, None)[0]
             return (*old, found) if how in ("repeated", "packed") else found
-        if how in ("repeated", "groups"):
+        # an element, or a message of the type itself in a box
+        if how in ("repeated", "groups") or how == "optional" and BY_MEMBERS[kind] is self:
             budget.take_units(KINDS[kind][1])
         if depth == 0:
             raise Fault("RecursionLimitExceeded")

@@ -31,7 +31,7 @@ def calls(members):
     counts, made = {}, []
     for member in members:
         word = "visit_one_of" if isinstance(member, OneOf) else "visit"
-        word = "visit_keeping" if member.keeps and not isinstance(member, Block) else word
+        word = "visit_with_unknowns" if member.keeps and not isinstance(member, Block) else word
         counts[word] = counts.get(word, 0) + 1
         made.append((word, counts[word]))
     return made
@@ -84,7 +84,7 @@ def answers(world, message):
     if not places and not is_long:
         return None
     head = ".".join(it for it in ("Rattle", world.crate, "proofs", world.module, snake(message.rust)) if it)
-    made = [f"use {head}.{message.rust}Fields.visit.Goals as goal"]
+    made = [f"use {head}.{message.rust}MessageFields.visit.Goals as goal"]
     for at in places:
         waits = "c.requires"
         for word, count in order[:at]:
@@ -93,11 +93,11 @@ def answers(world, message):
         made += ["", f"pub {name} : goal.{name}", f"{name} g c = g.V.Visitor.begins _ _ _ ({waits})"]
     if is_long:
         seen = f"c.{order[0][0]}.ensures.seen z h"
-        for word, count in [*order[1:], *[("visit_kept", 1)] * message.is_keeping]:
+        for word, count in [*order[1:], *[("visit_unknown_fields", 1)] * message.is_keeping]:
             seen = f"c.{numbered(word, count)}.ensures.seen _ ({seen})"
         made += ["", "pub returns-clause-seen : goal.returns-clause-seen", f"returns-clause-seen g c = λ z h. {seen}"]
     folder = "/".join(it for it in ("../proofs", world.module, snake(message.rust)) if it)
-    return f"{folder}/{message.rust}Fields/visit/Answers.antt", "\n".join(made) + "\n"
+    return f"{folder}/{message.rust}MessageFields/visit/Answers.antt", "\n".join(made) + "\n"
 
 
 def answers_of_oneof(world, one):
@@ -181,7 +181,7 @@ def answers_of_take(world, message):
         return None
     names = [it for it in (world.module, snake(message.rust)) if it]
     made = ["use Rattle.std.proofs.Common.{refl}", f"use {TERMS}.{{here, not_here}}"]
-    made.append(f"use {'.'.join(['Rattle', world.crate, 'proofs', *names])}.{message.rust}Fields.take.Goals as goal")
+    made.append(f"use {'.'.join(['Rattle', world.crate, 'proofs', *names])}.{message.rust}MessageFields.take.Goals as goal")
     for at in range(len(found) + 1):
         is_last = at == len(found)
         name = f"returns-else-{place('has', at)}" if is_last else f"returns-then-{place('has', at + 1)}"
@@ -189,7 +189,7 @@ def answers_of_take(world, message):
         for before in reversed(range(at)):
             took = f"not_here _ (rw number at {asked(before)}) c.if-{place('has', before + 1)}.false (refl, {took})"
         made += ["", f"pub {name} : goal.{name}", f"{name} c =", "    let number = c.field_number-number.ensures in", f"    {took}"]
-    return f"{'/'.join(['../proofs', *names])}/{message.rust}Fields/take/Answers.antt", "\n".join(made) + "\n"
+    return f"{'/'.join(['../proofs', *names])}/{message.rust}MessageFields/take/Answers.antt", "\n".join(made) + "\n"
 
 
 def place(word, count):

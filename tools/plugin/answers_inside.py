@@ -6,8 +6,8 @@ from oneof import OneOf
 def head(world, message, call):
     """The folder of a call's answers, beside `src`, and the line that names its goals."""
     names = [it for it in (world.module, snake(message.rust)) if it]
-    module = ".".join(["Rattle", world.crate, "proofs", *names, f"{message.rust}SelfFields", call, "Goals"])
-    return "/".join(["../proofs", *names, f"{message.rust}SelfFields", call, "Answers.antt"]), f"use {module} as goal"
+    module = ".".join(["Rattle", world.crate, "proofs", *names, f"{message.rust}RecursiveFields", call, "Goals"])
+    return "/".join(["../proofs", *names, f"{message.rust}RecursiveFields", call, "Answers.antt"]), f"use {module} as goal"
 
 
 def numbered(word, count):
@@ -19,7 +19,7 @@ def steps(message):
     """Of each member the word of its call in `visit`, and which of these calls it is."""
     counts, made = {}, []
     for k in message.members:
-        word = "visit_one_of" if isinstance(k, OneOf) else f"visit_{k.itself}" if k.itself else "visit_keeping" if k.keeps else "visit"
+        word = "visit_one_of" if isinstance(k, OneOf) else f"visit_{k.itself}" if k.itself else "visit_with_unknowns" if k.keeps else "visit"
         counts[word] = counts.get(word, 0) + 1
         made.append((word, counts[word]))
     return made
@@ -40,11 +40,11 @@ def visit(world, message):
         if holds(message, member):
             name = f"{numbered(f'{word}-requires', count)}{'' if isinstance(member, OneOf) else '-clause-comes'}"
             made += ["", f"pub {name} : goal.{name}", f"{name} g c =", "    let all = rw (sym c.self.view_is) at c.requires.waits in"]
-            made.append(f"    g.V.SelfVisitor.begins _ _ _ {waits}")
+            made.append(f"    g.V.RecursiveVisitor.begins _ _ _ {waits}")
         waits = f"(c.{numbered(word, count)}.ensures.waits _ {waits})"
         seen = f"c.{numbered(word, count)}.ensures.seen {'_ (' * (seen != 'z h')}{seen}{')' * (seen != 'z h')}"
     if message.is_keeping:
-        seen = f"c.visit_kept.ensures.seen _ ({seen})"
+        seen = f"c.visit_unknown_fields.ensures.seen _ ({seen})"
     name = "returns-clause-seen"
     return file, made + ["", f"pub {name} : goal.{name}", f"{name} g c = rw (sym c.self.view_is) (λ z h. {seen})"]
 
@@ -53,7 +53,7 @@ def arms(message):
     """Of each arm of `take` its number, the place of its member, and the step of its call."""
     seen, made = set(), []
     for at, k in enumerate(message.members):
-        word = f"take_{k.itself}" if k.itself else "take_one_of" if isinstance(k, OneOf) else "merge_kept" if k.keeps else "merge"
+        word = f"take_{k.itself}" if k.itself else "take_one_of" if isinstance(k, OneOf) else "merge_with_unknowns" if k.keeps else "merge"
         for number in numbers(k):
             made.append((number, at, f"{word}-in-{number}" if word in seen else word))
             seen.add(word)
@@ -96,7 +96,7 @@ def unfolded(member):
     """The word that the answers of a member look into."""
     if member.itself or isinstance(member, OneOf):
         return ""
-    return "TookBeside" if member.keeps else "Took"
+    return "TookWithUnknowns" if member.keeps else "Took"
 
 
 def take(world, message):

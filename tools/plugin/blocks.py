@@ -5,7 +5,7 @@ from oneof import OneOf
 MOST_FLAT = 60
 SIZE = 8
 # What the arguments of `take` and the words of its contract are called.
-ARGUMENTS = {"alloc", "tag", "buf", "ctx", "rest", "result"}
+ARGUMENTS = {"alloc", "tag", "buf", "ctx", "unknown_fields", "result"}
 LONGEST = 120
 WIDTH = 100
 # The words by which contracts say so many members, one after the other.
@@ -71,10 +71,10 @@ def listed(parts):
 
 def words(block):
     """What contracts cite."""
-    made = {"block", "block_of", "both_blocks", IN_ALL[len(block.members)], "TakesKeeping" if block.keeps else "TakesBlock"}
+    made = {"block", "block_of", "both_blocks", IN_ALL[len(block.members)], "TakesWithUnknowns" if block.keeps else "TakesBlock"}
     for k in block.members:
-        made |= {"one_case" if isinstance(k, OneOf) else "one_kept" if k.keeps else "one"}
-        made |= {"aloof"} if block.keeps and not k.keeps else set()
+        made |= {"one_case" if isinstance(k, OneOf) else "one_with_unknowns" if k.keeps else "one"}
+        made |= {"no_unknowns"} if block.keeps and not k.keeps else set()
     return made
 
 
@@ -82,9 +82,9 @@ def one(block, member):
     if isinstance(member, OneOf):
         made = f"one_case ⟦<{member.enum} as OneOf>⟧.cases"
     else:
-        made = f"{'one_kept' if member.keeps else 'one'} {member.number} ⟦<{member.member_type} as Member>⟧.shape"
-        made += f" ⟦<{member.member_type} as Keeping>⟧.aside" if member.keeps else ""
-    return f"aloof ({made})" if block.keeps and not member.keeps else made
+        made = f"{'one_with_unknowns' if member.keeps else 'one'} {member.number} ⟦<{member.member_type} as Member>⟧.shape"
+        made += f" ⟦<{member.member_type} as KeepsUnknowns>⟧.unknowns" if member.keeps else ""
+    return f"no_unknowns ({made})" if block.keeps and not member.keeps else made
 
 
 def members(block):
@@ -105,11 +105,11 @@ def in_contract(member):
 
 def clause(block):
     """What `take` ensures, on lines that aren't too long."""
-    word = "TakesKeeping" if block.keeps else "TakesBlock"
+    word = "TakesWithUnknowns" if block.keeps else "TakesBlock"
     made = f"ensures {{ {word} tag ctx.entry ctx.exit {block.members_in}"
     for when in ("old", "new"):
         made += f" ({listed([f'{in_contract(k)}.{when}' for k in block.members])})"
-    made += " rest.old.records rest.new.records" * block.keeps + " buf.old buf.new result"
+    made += " unknown_fields.old.records unknown_fields.new.records" * block.keeps + " buf.old buf.new result"
     lines, row = [], "       "
     for part in made.split(" "):
         if len(row) + len(part) + 1 > LONGEST:
@@ -132,10 +132,10 @@ def arm(numbers, call, args, called):
 def call(block, member, called, at):
     """The arm of a member's numbers; the last takes all that are left."""
     numbers = [str(n) for n in numbers_of(member)] if at < len(block.members) - 1 else ["_"]
-    args = [argument(member)] + ["rest"] * member.keeps + ["alloc", "tag", "buf", "ctx"]
+    args = [argument(member)] + ["unknown_fields"] * member.keeps + ["alloc", "tag", "buf", "ctx"]
     if isinstance(member, OneOf):
         return arm(numbers, f"{member.enum}::take", args, called)
-    way = f"{member.member_type.replace('<', '::<', 1)}::{'merge_kept' if member.keeps else 'merge'}"
+    way = f"{member.member_type.replace('<', '::<', 1)}::{'merge_with_unknowns' if member.keeps else 'merge'}"
     return arm(numbers, way, args, called)
 
 
@@ -148,7 +148,7 @@ def text(block, called, meaning, visits):
     made += visits(block.members, False, f"message: &{block.message.rust}", "message") + [""] + has(block, called) + ["}", ""]
     made += [f"impl {block.name} {{", f"    // Merges the field whose tag was read into the member of its number.", "    fn take("]
     made += [f"        {argument(k)}: &mut {k.rust}," for k in block.members]
-    made += ["        rest: &mut UnknownFields,"] * block.keeps
+    made += ["        unknown_fields: &mut UnknownFields,"] * block.keeps
     made += [f"        {it}," for it in ("alloc: Global", "tag: Tag", "buf: &mut &[u8]", "ctx: DecodeContext<'_>")]
     made += ["    ) -> Result<(), DecodeError>"] + clause(block) + ["    {", "        match tag.field_number() {"]
     for at, member in enumerate(block.members):
@@ -171,7 +171,7 @@ def take(message, other, called):
     """The body of the message's `take`: the block that has the number takes the field."""
     made, word = ["        let number = tag.field_number();"], "        if"
     for block in blocks(message):
-        args = [f"&mut self.{k.name}" for k in block.members] + ["&mut self.rest"] * block.keeps + ["alloc", "tag", "buf", "ctx"]
+        args = [f"&mut self.{k.name}" for k in block.members] + ["&mut self.unknown_fields"] * block.keeps + ["alloc", "tag", "buf", "ctx"]
         made += [f"{word} {block.name}::has(number) {{"] + called("            ", f"{block.name}::take", args, "")
         word = "        } else if"
     return made + ["        } else {", f"            {other}", "        }", "    }"]

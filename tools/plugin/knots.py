@@ -55,8 +55,8 @@ def at(message, member):
 
 def last(message):
     """What is kept: its type, its words, and what a message m has of it."""
-    kept = f"(has_kept m.{kept_in(message)}.records)"
-    return ("List (ℕ × Datum)", {"List", "ℕ"}, kept) if message.is_keeping else ("Unit {0}", set(), "has_none")
+    kept = f"(has_unknown_fields m.{kept_in(message)}.records)"
+    return ("List (ℕ × FieldData)", {"List", "ℕ"}, kept) if message.is_keeping else ("Unit {0}", set(), "has_none")
 
 
 def value_type(member):
@@ -87,14 +87,14 @@ def uses_of_model(message, kinds):
     """What the model cites."""
     types = [value_type(k) for k in owned(message)]
     prelude = last(message)[1].union(*(words for _, words in types))
-    knots = {"Knot", "coded_knot", "knot_height", "knot_of"} | ({"most-of_list"} if "list" in kinds else set())
-    maps, wire = {"most-of_map"} if "map" in kinds else set(), {"Datum"} if message.is_keeping else set()
-    views = {view(k).split()[0] for k in message.members} | {"has_kept" if message.is_keeping else "has_none"}
+    knots = {"MessageTree", "coded_tree", "tree_height", "tree_of"} | ({"most-of_list"} if "list" in kinds else set())
+    maps, wire = {"most-of_map"} if "map" in kinds else set(), {"FieldData"} if message.is_keeping else set()
+    views = {view(k).split()[0] for k in message.members} | {"has_unknown_fields" if message.is_keeping else "has_none"}
     views |= {made.split()[0] for made, _ in types if made.startswith(("MeaningOf", "CaseMeaningOf"))}
     cases = {"coded_or"} if any(isinstance(k, OneOf) for k in message.members) else set()
     made = [("Rattle.std.specs.Coded", {"codes"}), ("Rattle.std.specs.Option", {"option_map"} if "one" in kinds else set())]
     made += [("Rattle.std.specs.Prelude", prelude), ("Rattle.std.proofs.Common", {"arith"})]
-    made += [(TERMS, {"coded_datum"} | wire | cases), (TERMS_INSIDE, knots | maps | views)]
+    made += [(TERMS, {"coded_field_data"} | wire | cases), (TERMS_INSIDE, knots | maps | views)]
     return [f"    ghost use {module}.{{{', '.join(ordered(words))}}};" for module, words in made if words]
 
 
@@ -108,14 +108,14 @@ def model(message):
     own, kinds = owned(message), {k.itself for k in message.members}
     made = [f"impl Model for {message.rust} {{"] + uses_of_model(message, kinds) + [""]
     types = [value_type(k)[0] for k in own]
-    line = f"    ghost Value = {{ Knot ({''.join(f'{it} × (' for it in types[:-1])}{''.join(f'{it} × ' for it in types[-1:])}{last(message)[0]}{')' * max(len(types), 1)} }};"
-    made += [line] if len(line) <= LONGEST else nested("    ghost Value = { Knot (", [f"{it} ×" for it in types], last(message)[0])
-    codes = ["codes", "coded_datum", "coded_knot"] + ["coded_or"] * any(isinstance(k, OneOf) for k in message.members)
+    line = f"    ghost Value = {{ MessageTree ({''.join(f'{it} × (' for it in types[:-1])}{''.join(f'{it} × ' for it in types[-1:])}{last(message)[0]}{')' * max(len(types), 1)} }};"
+    made += [line] if len(line) <= LONGEST else nested("    ghost Value = { MessageTree (", [f"{it} ×" for it in types], last(message)[0])
+    codes = ["codes", "coded_field_data", "coded_tree"] + ["coded_or"] * any(isinstance(k, OneOf) for k in message.members)
     made += ["", f"    ghost coded = {{ Prim.hlevel ({', '.join(codes)}) }};", ""]
-    made += nested("    ghost view = { λ m. knot_of (", [view(k) for k in message.members], last(message)[2])
+    made += nested("    ghost view = { λ m. tree_of (", [view(k) for k in message.members], last(message)[2])
     most = [f"most-of_list m.{k.in_contract}.items" for k in message.members if k.itself == "list"]
     most += [f"most-of_map ⟦<{k.key_type} as Blank>⟧.meaning m.{k.in_contract}.entries" for k in message.members if k.itself == "map"]
-    made += ["", "    ghost size = { knot_height };", ""]
+    made += ["", "    ghost size = { tree_height };", ""]
     line = f"    ghost size_decreases = {{ λ m h. Prim.grind {'(' * bool(most)}{', '.join(['arith'] + most)}{')' * bool(most)} }};"
     if len(line) > LONGEST:
         made += ["    ghost size_decreases = { λ m h. Prim.grind ("] + [f"      {it}," for it in ["arith"] + most] + ["    ) };"]
@@ -133,13 +133,13 @@ def layer(member):
     if member.itself:
         return f"{member.itself}_inside {member.number}"
     if member.keeps:
-        return f"member_kept {member.number} {shape(member)} ⟦<{member.member_type} as Keeping>⟧.aside"
+        return f"member_with_unknowns {member.number} {shape(member)} ⟦<{member.member_type} as KeepsUnknowns>⟧.unknowns"
     return f"member {member.number} {shape(member)}"
 
 
 def layers(message):
     """The words of its members in contracts."""
-    return {layer(k).split()[0] for k in message.members} | {"knotted", "keeps" if message.is_keeping else "skips"}
+    return {layer(k).split()[0] for k in message.members} | {"recursive_message", "keeps_unknown" if message.is_keeping else "skips_unknown"}
 
 
 def head(message, asked):
@@ -150,29 +150,29 @@ def head(message, asked):
 
 def laid(message, cost):
     """What a message is: what an element costs, and its members."""
-    made = [f"impl Laid for {message.rust} {{", f"    const COST: usize = {cost};", "", f"    ghost COST = {{ {cost} }};", ""]
+    made = [f"impl RecursiveType for {message.rust} {{", f"    const COST: usize = {cost};", "", f"    ghost COST = {{ {cost} }};", ""]
     made += ["    ghost positive = { lit< tt };", ""]
-    made += nested("    ghost laying = { knotted (", [layer(k) for k in message.members], "keeps" if message.is_keeping else "skips")
+    made += nested("    ghost schema = { recursive_message (", [layer(k) for k in message.members], "keeps_unknown" if message.is_keeping else "skips_unknown")
     return made + ["", "    ghost sound = { λ w. refl };", "}", ""]
 
 
 def visit(message, called):
     """The function that visits the members, one after the other, and then the fields that are kept."""
-    made = [f"    fn visit<V: SelfVisitor<{message.rust}>>(&self, visitor: &mut V) {{"]
+    made = [f"    fn visit<V: RecursiveVisitor<{message.rust}>>(&self, visitor: &mut V) {{"]
     for k in message.members:
         if isinstance(k, OneOf):
             made.append(f"        visitor.visit_one_of(&self.{k.name});")
             continue
         word = f"visit_map::<{k.key}>" if k.itself == "map" else f"visit_{k.itself}" if k.itself else f"visit::<{k.member_type}>"
-        word = f"visit_keeping::<{k.member_type}>" if k.keeps else word
+        word = f"visit_with_unknowns::<{k.member_type}>" if k.keeps else word
         made += called("        ", f"visitor.{word}", [str(k.number), f"&self.{k.name}"], ";")
-    made += [f"        visitor.visit_kept(&self.{kept_in(message)});"] * message.is_keeping
+    made += [f"        visitor.visit_unknown_fields(&self.{kept_in(message)});"] * message.is_keeping
     return made + ["    }", ""]
 
 
 def kept_in(message):
     """The member of the fields that aren't declared."""
-    return "rest.fields" if message.rest else "rest"
+    return "unknown_fields.fields" if message.rest else "unknown_fields"
 
 
 def arm(message, member):
@@ -181,7 +181,7 @@ def arm(message, member):
     if isinstance(member, OneOf):
         return "take_one_of", args
     if not member.itself:
-        return f"{member.member_type.replace('<', '::<', 1)}::{'merge_kept' if member.keeps else 'merge'}", args
+        return f"{member.member_type.replace('<', '::<', 1)}::{'merge_with_unknowns' if member.keeps else 'merge'}", args
     call = f"take_map::<{member.key}, {message.rust}, I>" if member.itself == "map" else f"take_{member.itself}"
     return call, args + ["inner"]
 
@@ -189,13 +189,13 @@ def arm(message, member):
 def take(message, called):
     """The function that takes a field."""
     head = ["&mut self", "alloc: Global", "tag: Tag", "buf: &mut &[u8]", "ctx: DecodeContext<'_>", "inner: &I"]
-    made = [f"    fn take<I: SelfMerger<{message.rust}>>("] + [f"        {it}," for it in head]
+    made = [f"    fn take<I: InnerMerger<{message.rust}>>("] + [f"        {it}," for it in head]
     made += ["    ) -> Result<(), DecodeError> {", "        match tag.field_number() {"]
     for k in message.members:
         call, args = arm(message, k)
         for number in [it.number for it in getattr(k, "cases", [k])]:
             made += called("            ", f"{number} => {call}", args, ",")
-    other = f"kept::keep(alloc, &mut self.{kept_in(message)}, tag, buf, ctx)" if message.is_keeping else "kept::pass(tag, buf, ctx)"
+    other = f"unknown::keep(alloc, &mut self.{kept_in(message)}, tag, buf, ctx)" if message.is_keeping else "unknown::pass(tag, buf, ctx)"
     return made + [f"            _ => {other},", "        }", "    }"]
 
 
@@ -203,13 +203,13 @@ def form(message, cost, blank, called):
     """All that makes a struct a message that holds itself."""
     name = message.rust
     made = model(message) + laid(message, cost)
-    made += [f"impl SelfFields for {name} {{"] + visit(message, called) + take(message, called) + ["}", ""]
+    made += [f"impl RecursiveFields for {name} {{"] + visit(message, called) + take(message, called) + ["}", ""]
     made += [f"impl Blank for {name} {{", f"    type Meaning = {name};", "", "    ghost meaning = { λ m. m };", ""]
-    made += [f"    ghost blank_is = {{ ⟦<{name} as Laid>⟧.laying.into ⟦<{name} as Laid>⟧.laying.blank }};", ""]
-    made += blank + ["}", "", f"impl SelfListing for {name} {{", "    ghost means = { λ m. refl };", "", "    ghost starts = { refl };", "}", ""]
-    return made + [f"impl Formed for {name} {{", "    type Form = SelfListed;", "}"]
+    made += [f"    ghost blank_is = {{ ⟦<{name} as RecursiveType>⟧.schema.into ⟦<{name} as RecursiveType>⟧.schema.blank }};", ""]
+    made += blank + ["}", "", f"impl RecursiveMeaning for {name} {{", "    ghost means = { λ m. refl };", "", "    ghost starts = { refl };", "}", ""]
+    return made + [f"impl MessageImpl for {name} {{", "    type Impl = RecursiveFieldByField;", "}"]
 
 
 def names_of(message):
     """The names that the form has."""
-    return set("Blank Formed Laid Model SelfFields SelfListed SelfListing SelfMerger SelfVisitor".split())
+    return set("Blank MessageImpl RecursiveType Model RecursiveFields RecursiveFieldByField RecursiveMeaning InnerMerger RecursiveVisitor".split())

@@ -28,11 +28,11 @@ LONGEST_FILE = 200
 MODULE = {
     **{it: "buffa_fields::map_codec" for it in CODECS},
     **{it: "buffa_fields" for it in ["And"] + [f"And{n}" for n in range(3, 17)]},
-    **{it: "buffa_fields" for it in "Blank Case DecodeContext DecodeError DoubleBits EnumValue Enumeration Fields FloatBits Formed".split()},
-    **{it: "buffa_fields" for it in "Group Keeping KeptFields Listed Listing MapOf MapOfNested Member MemberBlock Nested OneOf".split()},
-    **{it: "buffa_fields" for it in "Optional Or OrderedMapOf OrderedMapOfNested Packed Plain Repeated RepeatedGroup".split()},
-    **{it: "buffa_fields" for it in "RepeatedNested Required Set Tag UnknownFields Visitor case_reads_back kept visit_one_of".split()},
-    **{it: "buffa_recursive" for it in "ByKey Keyed Laid SelfFields SelfListed SelfListing SelfMerger SelfVisitor".split()},
+    **{it: "buffa_fields" for it in "Blank Case DecodeContext DecodeError DoubleBits EnumValue Enumeration FloatBits MessageImpl".split()},
+    **{it: "buffa_fields" for it in "GroupField KeepsUnknowns Unknowns FieldByField FieldsMeaning MapField MessageMapField Member MemberBlock MessageField MessageFields OneOf".split()},
+    **{it: "buffa_fields" for it in "ExplicitField Or OrderedMapField OrderedMessageMapField PackedField ImplicitField RepeatedField RepeatedGroupField".split()},
+    **{it: "buffa_fields" for it in "RepeatedMessageField Required Set Tag UnknownFields Visitor case_reads_back unknown visit_one_of".split()},
+    **{it: "buffa_recursive" for it in "ByKey Keyed RecursiveType RecursiveFields RecursiveFieldByField RecursiveMeaning InnerMerger RecursiveVisitor".split()},
     **{it: "buffa_recursive" for it in "take_list take_map take_one take_one_of".split()},
     **{it: "buffa_recursive" for it in "RequiredCases RequiredMeaning RequiredMember SelfAsked SelfAsker SelfRequired".split()},
     **{it: "buffa_recursive" for it in "list_initialized map_initialized one_initialized tree_initialized".split()},
@@ -89,7 +89,7 @@ def member(name):
     """The name of a member: with `_` behind it where it is a word of the language, or that of the fields that are kept."""
     if not name.strip("_"):
         return UNNAMED
-    return name + "_" if name in KEYWORDS | {"rest"} else name
+    return name + "_" if name in KEYWORDS | {"unknown_fields"} else name
 
 
 def place(name):

@@ -166,7 +166,7 @@ class Member:
 
     def be_case(self, member_type, of, rust, means, cost):
         """A case of a oneof: what it holds, and what that means."""
-        self.value, self.said, self.cost_alone, self.is_message = rust, means, cost, member_type != "Optional"
+        self.value, self.said, self.cost_alone, self.is_message = rust, means, cost, member_type != "ExplicitField"
         self.is_number = not self.is_message and means != SCALARS[Field.TYPE_BYTES][2]
         self.be(member_type, of, f"Option<{rust}>", f"Option<{means}>", cost and cost + 8, "None")
 
@@ -174,7 +174,7 @@ class Member:
         self.member_type, self.rust, self.means, self.cost, self.blank = f"{member_type}<{of}>", rust, means, cost, blank
         self.needs.add(member_type)
         if self.keeps:
-            self.needs.add("Keeping")
+            self.needs.add("KeepsUnknowns")
 
     def as_value(self):
         codec, rust, means, cost, blank, is_closed = self.codec(self.it)
@@ -182,18 +182,18 @@ class Member:
             self.keeps = is_closed
             can_be = codec not in ("Str", "BytesVec")
             packed = can_be and (self.it.options.packed if self.it.options.HasField("packed") else not self.field.file.is_closed)
-            self.be("Packed" if packed else "Repeated", codec, f"Vec<{rust}>", f"[{means}; 0]", 24, "Vec::new(alloc)")
+            self.be("PackedField" if packed else "RepeatedField", codec, f"Vec<{rust}>", f"[{means}; 0]", 24, "Vec::new(alloc)")
         elif self.is_case:
-            self.be_case("Optional", codec, rust, means, cost)
+            self.be_case("ExplicitField", codec, rust, means, cost)
         elif "implicit" in self.told:
             if is_closed:
                 self.field.refuse("its enum is closed, and implicit= is for those that aren't", "take implicit= away")
-            self.be("Plain", codec, rust, means, cost, blank)
+            self.be("ImplicitField", codec, rust, means, cost, blank)
         elif self.field.file.is_closed or self.it.proto3_optional:
             self.keeps = is_closed
-            self.be("Optional", codec, f"Option<{rust}>", f"Option<{means}>", cost + 8, "None")
+            self.be("ExplicitField", codec, f"Option<{rust}>", f"Option<{means}>", cost + 8, "None")
         else:
-            self.be("Plain", codec, rust, means, cost, blank)
+            self.be("ImplicitField", codec, rust, means, cost, blank)
 
     def is_group(self):
         return self.it.type == Field.TYPE_GROUP or "delimited" in self.told
@@ -219,7 +219,7 @@ class Member:
     def as_message(self):
         name = self.world.type_of(self.field, self.it.type_name)
         self.inside.append(self.it.type_name.lstrip("."))
-        member_type = "Group" if self.is_group() else "Nested"
+        member_type = "GroupField" if self.is_group() else "MessageField"
         means = f"<{name} as Blank>::Meaning"
         if self.is_case:
             self.be_case(member_type, name, name, means, None)
@@ -234,16 +234,16 @@ class Member:
         if entry:
             self.as_map(entry)
         elif self.is_case:
-            self.be_case("Optional", "BytesVec", *SCALARS[Field.TYPE_BYTES][1:4])
+            self.be_case("ExplicitField", "BytesVec", *SCALARS[Field.TYPE_BYTES][1:4])
         else:
-            self.be("Repeated", "BytesVec", "Vec<Vec<u8>>", "[[u8; 0]; 0]", 24, "Vec::new(alloc)")
+            self.be("RepeatedField", "BytesVec", "Vec<Vec<u8>>", "[[u8; 0]; 0]", 24, "Vec::new(alloc)")
 
     def as_map(self, entry):
         key, value = entry.field
         codec, rust, means = self.codec(key, self.has_text_keys)[:3]
         is_ordered = self.world.maps or "ordered" in self.told
         into, cost = ("BTreeMap", 24) if is_ordered else ("Map", 112)
-        member_type = "OrderedMapOf" if is_ordered else "MapOf"
+        member_type = "OrderedMapField" if is_ordered else "MapField"
         self.needs |= {into, "And"}
         if self.is_encoded:
             of, held, held_means = SCALARS[Field.TYPE_BYTES][:3]
@@ -251,7 +251,7 @@ class Member:
             name = self.world.type_of(self.field, value.type_name)
             self.inside.append(value.type_name.lstrip("."))
             held, held_means, of = name, f"<{name} as Blank>::Meaning", name
-            member_type += "Nested"
+            member_type = member_type.replace("MapField", "MessageMapField")
         else:
             of, held, held_means, _, _, self.keeps = self.codec(value)
         self.be(member_type, f"{codec}, {of}", f"{into}<{rust}, {held}>", f"[And<{means}, {held_means}>; 0]", cost, f"{into}::new(alloc)")
@@ -369,7 +369,7 @@ class Message:
     def see_rest(self):
         """Names what its fields that aren't declared are in, where it holds itself and has extensions; another type may have the name."""
         way = f"give it another name by --buffa_opt=rename={self.name.full}:NAME"
-        self.rest = f"{self.rust}Rest" if self.holds_itself and self.it.extension_range else ""
+        self.rest = f"{self.rust}UnknownFields" if self.holds_itself and self.it.extension_range else ""
         if self.rest and self.rest in set(self.world.types.values()) | TAKEN:
             self.name.refuse(f"what it keeps its extensions in is to be called {self.rest}, as another type is", way)
 

@@ -75,8 +75,8 @@ def held(message, member):
 def meant(member, at):
     """Whether what a member means, which stands there, has all that is required."""
     if isinstance(member, OneOf):
-        return f"true_if_there ⟦<{member.enum} as RequiredCases>⟧.meant {at}"
-    return f"⟦<{member.member_type} as RequiredMember>⟧.meant {at}"
+        return f"true_if_there ⟦<{member.enum} as RequiredCases>⟧.by_meaning {at}"
+    return f"⟦<{member.member_type} as RequiredMember>⟧.by_meaning {at}"
 
 
 def call_of(member):
@@ -185,14 +185,14 @@ def self_required(message):
     """The impls of a message that holds itself: what is asked of each, and the call for all."""
     found, calls = zip(*message.asked.parts())
     name, itself = message.rust, [f"{k.itself}_initialized(&self.{k.name}, inner)" for k in message.asked.itself]
-    made = ["", f"impl SelfAsked for {name} {{", f"    ghost tree = {{ ⟦<{name} as Laid>⟧.laying }};", ""]
+    made = ["", f"impl SelfAsked for {name} {{", f"    ghost tree = {{ ⟦<{name} as RecursiveType>⟧.schema }};", ""]
     made += rows("    ghost asking = { each_asked (λ m. ", found, ") };", " &&", LONGEST) + ["}", "", f"impl SelfRequired for {name} {{"]
     made += [f"    fn is_initialized_by<I: SelfAsker<{name}>>(&self, inner: &I) -> bool {{"] + sum_of([*calls, *itself]) + ["    }", "}", ""]
     made += [f"impl Required for {name} {{", f"    ghost initialized = {{ ⟦<{name} as SelfAsked>⟧.asking.whole }};", ""]
     made += ["    fn is_initialized(&self) -> bool {", "        tree_initialized(self)", "    }", "}"]
     if not message.asked.is_inside:
         return made
-    made += ["", f"impl RequiredMeaning for {name} {{", f"    ghost meant = {{ ⟦<{name} as Required>⟧.initialized }};", ""]
+    made += ["", f"impl RequiredMeaning for {name} {{", f"    ghost by_meaning = {{ ⟦<{name} as Required>⟧.initialized }};", ""]
     return made + ["    fn meaning_initialized(&self) -> bool {", "        self.is_initialized()", "    }", "}"]
 
 
@@ -201,9 +201,9 @@ def by_meaning(message):
     name, asked = message.rust, message.asked
     found = [f"is_some y{place(message, k)}" for k in asked.there] + [meant(k, f"y{place(message, k)}") for k in asked.looked]
     calls = [f"self.{k.name}.is_some()" for k in asked.there] + [call_of(k) for k in asked.looked]
-    made = ["", f"impl RequiredMeaning for {name} {{"] + rows("    ghost meant = { λ y. ", found, " };", " &&", LONGEST)
+    made = ["", f"impl RequiredMeaning for {name} {{"] + rows("    ghost by_meaning = { λ y. ", found, " };", " &&", LONGEST)
     made += ["", "    fn meaning_initialized(&self) -> bool {"] + sum_of(calls) + ["    }", "}", "", f"impl Required for {name} {{"]
-    made += [f"    ghost initialized = {{ λ m. ⟦<{name} as RequiredMeaning>⟧.meant (⟦<{name} as Blank>⟧.meaning m) }};", ""]
+    made += [f"    ghost initialized = {{ λ m. ⟦<{name} as RequiredMeaning>⟧.by_meaning (⟦<{name} as Blank>⟧.meaning m) }};", ""]
     return made + ["    fn is_initialized(&self) -> bool {", "        self.meaning_initialized()", "    }", "}"]
 
 
@@ -255,13 +255,13 @@ def cases_by_meaning(one):
     for cases in one.groups():
         made = "(λ _. true)"
         for case in reversed(cases):
-            of = f"⟦<{case.value} as RequiredMeaning>⟧.meant" if case in one.asked else "(λ _. true)"
+            of = f"⟦<{case.value} as RequiredMeaning>⟧.by_meaning" if case in one.asked else "(λ _. true)"
             made = f"(by_case {of} {made})"
         groups.append(made)
     tree = groups[-1]
     for group in reversed(groups[:-1]):
         tree = f"(by_case {group} {tree})"
-    made = ["", f"impl RequiredCases for {one.enum} {{", f"    ghost meant = {{ {tree[1:-1]} }};", ""]
+    made = ["", f"impl RequiredCases for {one.enum} {{", f"    ghost by_meaning = {{ {tree[1:-1]} }};", ""]
     made += [f"    fn case_initialized(part: &Option<{one.enum}>) -> bool {{", "        match part {"]
     made += [f"            Some({one.enum}::{k.variant}(it)) => it.meaning_initialized()," for k in one.asked]
     return made + ["            _ => true,", "        }", "    }", "}"]

@@ -37,9 +37,8 @@ def use_line(module, names, word="use"):
     if len(line) < WIDTH - 1:
         return [line]
     made, row = [f"{word} {module}::{{"], "   "
-    for at, name in enumerate(names):
-        # the comma of the last one isn't counted
-        if len(row) + len(name) + (1 if at + 1 == len(names) else 2) >= WIDTH:
+    for name in names:
+        if len(row) + len(name) + 2 >= WIDTH:
             made.append(row)
             row = "   "
         row += f" {name},"
@@ -88,7 +87,7 @@ def message_docs(message):
         if fields:
             made += ["", f"{said}: " + ", ".join(f"{f.name} = {f.number}" for f in fields) + "."]
     made += ["", "It has no `==`, since it holds itself, or a message in it does."] * (bool(message.world.equal) and not message.is_compared)
-    made += ["", "Its extensions are those of its `rest`."] * bool(message.rest)
+    made += ["", "Its extensions are those of its `unknown_fields`."] * bool(message.rest)
     made += ["", "A MessageSet: its Items are among the fields that aren't declared, each a group of number 1."] * message.is_set
     return docs(made + [] if message.is_keeping else made + ["", "The fields that aren't declared are passed over."])
 
@@ -140,13 +139,13 @@ def layout(members, is_keeping):
             made.append(f"one_of (λ m. m.{member.in_contract}) ⟦<{member.enum} as OneOf>⟧.cases (")
             continue
         shape = f"⟦<{member.member_type} as Member>⟧.shape"
-        word = "field_kept" if member.keeps else "field"
+        word = "field_with_unknowns" if member.keeps else "field"
         made.append(f"{word} {member.number} (λ m. m.{member.in_contract}) {shape}")
         if member.keeps:
-            made.append(f"⟦<{member.member_type} as Keeping>⟧.aside")
+            made.append(f"⟦<{member.member_type} as KeepsUnknowns>⟧.unknowns")
         made[-1] += " ("
-    made.append(("keep (λ m. m.rest.records)" if is_keeping else "skip") + ")" * len(members) + " };")
-    return ["    ghost layout = { " + made[0]] + ["        " + it for it in made[1:]]
+    made.append(("keep_unknown (λ m. m.unknown_fields.records)" if is_keeping else "skip_unknown") + ")" * len(members) + " };")
+    return ["    ghost schema = { " + made[0]] + ["        " + it for it in made[1:]]
 
 
 def visits(members, is_keeping, argument="&self", of="self"):
@@ -159,9 +158,9 @@ def visits(members, is_keeping, argument="&self", of="self"):
         if isinstance(member, oneof.OneOf):
             made.append(f"        visit_one_of(&{of}.{member.name}, visitor);")
             continue
-        word = "visit_keeping" if member.keeps else "visit"
+        word = "visit_with_unknowns" if member.keeps else "visit"
         made += called("        ", f"visitor.{word}::<{member.member_type}>", [str(member.number), f"&{of}.{member.name}"], ";")
-    made += ["        visitor.visit_kept(&self.rest);"] * is_keeping
+    made += ["        visitor.visit_unknown_fields(&self.unknown_fields);"] * is_keeping
     if not made:
         return ["    fn visit<V: Visitor>(&self, _visitor: &mut V) {}"]
     return [f"    fn visit<V: Visitor>({argument}, visitor: &mut V) {{"] + made + ["    }"]
@@ -173,7 +172,7 @@ def take(message):
     made = ["    fn take("]
     made += [f"        {it}," for it in ("&mut self", f"{alloc}: Global", "tag: Tag", "buf: &mut &[u8]", "ctx: DecodeContext<'_>")]
     made += ["    ) -> Result<(), DecodeError> {"]
-    other = "kept::keep(alloc, &mut self.rest, tag, buf, ctx)" if message.is_keeping else "kept::pass(tag, buf, ctx)"
+    other = "unknown::keep(alloc, &mut self.unknown_fields, tag, buf, ctx)" if message.is_keeping else "unknown::pass(tag, buf, ctx)"
     if not members:
         return made + [f"        {other}", "    }"]
     if blocks.blocks(message):
@@ -184,15 +183,15 @@ def take(message):
             numbers = [str(k.number) for k in member.cases]
             made += blocks.arm(numbers, f"{member.enum}::take", [f"&mut self.{member.name}", "alloc", "tag", "buf", "ctx"], called)
             continue
-        beside = ["&mut self.rest"] if member.keeps else []
-        call = f"{member.member_type.replace('<', '::<', 1)}::{'merge_kept' if member.keeps else 'merge'}"
+        beside = ["&mut self.unknown_fields"] if member.keeps else []
+        call = f"{member.member_type.replace('<', '::<', 1)}::{'merge_with_unknowns' if member.keeps else 'merge'}"
         args = [f"&mut self.{member.name}"] + beside + ["alloc", "tag", "buf", "ctx"]
         made += called("            ", f"{member.number} => {call}", args, ",")
     return made + [f"            _ => {other},", "        }", "    }"]
 
 
 def extension_set(message):
-    full, member = message.name.full, "fields" if message.rest else "rest"
+    full, member = message.name.full, "fields" if message.rest else "unknown_fields"
     line = "    const PROTO_FQN: &'static str ="
     line += f' "{full}";' if len(line) + len(full) + 4 <= WIDTH else f'\n        "{full}";'
     return f"""
@@ -228,7 +227,7 @@ impl ExtensionSet for {message.rest or message.rust} {{
 def names_of(message, fields):
     """The names that the file of a message imports, but for types of the .proto's."""
     members = message.members
-    names = set("kept DecodeContext DecodeError Tag Global".split())
+    names = set("unknown DecodeContext DecodeError Tag Global".split())
     names = names.union(*[k.needs for k in members])
     names |= {"UnknownFields"} if message.is_keeping else set()
     names |= {"ExtensionSet"} if message.it.extension_range else set()
@@ -237,12 +236,12 @@ def names_of(message, fields):
     if message.holds_itself:
         names |= {"take_one_of"} if message.oneofs else set()
         return (names - {"And", "visit_one_of"}) | knots.names_of(message)
-    names |= {"Blank", "Fields", "Formed", "Listed", "Listing", "Visitor"} | ({"KeptFields"} if message.is_keeping else set())
+    names |= {"Blank", "MessageFields", "MessageImpl", "FieldByField", "FieldsMeaning", "Visitor"} | ({"Unknowns"} if message.is_keeping else set())
     in_blocks = blocks.blocks(message)
     of_blocks = set().union(*[ands(len(it.members)) | ({"And"} & k.needs) for it in in_blocks for k in it.members])
     names |= {"MemberBlock"} if of_blocks else set()
     if message.is_opaque:
-        return {it for it in names if it != "KeptFields" and not re.fullmatch(r"And\d*", it)} | {"Model"} | of_blocks
+        return {it for it in names if it != "Unknowns" and not re.fullmatch(r"And\d*", it)} | {"Model"} | of_blocks
     return names | ands(len(blocks.pieces(message)) + 1) | of_blocks
 
 
@@ -270,9 +269,9 @@ def layers(message, fields):
     """The words of its members in contracts."""
     pieces, made = blocks.pieces(message), blocks.blocks(message)
     fields = [k for k in fields if k in pieces]
-    found = ["field"] * any(not k.keeps for k in fields) + ["field_kept"] * any(k.keeps for k in fields)
+    found = ["field"] * any(not k.keeps for k in fields) + ["field_with_unknowns"] * any(k.keeps for k in fields)
     found += sorted(set().union(*[blocks.words(it) for it in made]))
-    found += ["keep"] if message.is_keeping else ["skip"]
+    found += ["keep_unknown"] if message.is_keeping else ["skip_unknown"]
     found += ["one_of"] * any(isinstance(k, oneof.OneOf) for k in pieces)
     asked = ordered(required.terms(message))
     return [f"ghost use {TERMS}.{{{', '.join(found)}}};"] + [f"ghost use {TERMS_INSIDE}.{{{', '.join(asked)}}};"] * bool(asked)
@@ -284,7 +283,7 @@ def struct(message):
     for member in message.members:
         parts += docs(member.field.said, "    ") + [f"    pub {member.name}: {member.rust},"]
     rest = message.rest or "UnknownFields"
-    parts += ["    /// The fields that aren't declared, in order.", f"    pub rest: {rest},"] * message.is_keeping
+    parts += ["    /// The fields that aren't declared, in order.", f"    pub unknown_fields: {rest},"] * message.is_keeping
     made += [derives(message), f"pub struct {message.rust} {{"]
     made = made + parts + ["}"] if parts else made[:-1] + [f"pub struct {message.rust} {{}}"]
     return made + rest_of(message) if message.rest else made
@@ -299,7 +298,7 @@ def rest_of(message):
 def blank(message):
     """The function of the default."""
     members, rest = [(k.name, k.blank) for k in message.members], "UnknownFields::new(alloc)"
-    members += [("rest", rest)] * (message.is_keeping and not message.rest)
+    members += [("unknown_fields", rest)] * (message.is_keeping and not message.rest)
     alloc = "alloc" if message.is_keeping or any("alloc" in of for _, of in members) else "_alloc"
     made = [f"    fn blank({alloc}: Global) -> {message.rust} {{"]
     short = ", ".join(f"{name}: {of}" for name, of in members)
@@ -307,7 +306,7 @@ def blank(message):
         made += [f"        {message.rust} {{ {short} }}" if members else f"        {message.rust} {{}}"]
     else:
         made += [f"        {message.rust} {{"] + [f"            {name}: {of}," for name, of in members]
-        made += [f"            rest: {message.rest} {{", f"                fields: {rest},", "            },"] * bool(message.rest) + ["        }"]
+        made += [f"            unknown_fields: {message.rest} {{", f"                fields: {rest},", "            },"] * bool(message.rest) + ["        }"]
     return made + ["    }"]
 
 
@@ -332,15 +331,15 @@ def codes_of(message, messages):
         for full in set(member.inside) & set(messages) - seen:
             seen.add(full)
             members += messages[full].members
-    knots = ["coded_knot"] * any(messages[full].holds_itself for full in seen)
+    knots = ["coded_tree"] * any(messages[full].holds_itself for full in seen)
     return knots + ["coded_or"] * any(isinstance(it, oneof.OneOf) for it in members)
 
 
 def codes_used(message, codes):
     """What a meaning of its own cites."""
-    found = ["Datum"] * message.is_keeping + ["coded_datum"] + [it for it in codes if it == "coded_or"]
+    found = ["FieldData"] * message.is_keeping + ["coded_field_data"] + [it for it in codes if it == "coded_or"]
     made = [f"    ghost use {TERMS}.{{{', '.join(found)}}};"]
-    return made + [f"    ghost use {TERMS_INSIDE}.{{coded_knot}};"] * ("coded_knot" in codes) + [""]
+    return made + [f"    ghost use {TERMS_INSIDE}.{{coded_tree}};"] * ("coded_tree" in codes) + [""]
 
 
 def opaque_meaning(message, messages):
@@ -357,8 +356,8 @@ def opaque_meaning(message, messages):
     made += codes_used(message, codes)
     made += ["    ghost Value = { let Means : (P X : Type 0) → (P → X) → Type 0 = λ P X f. X in"]
     made += [f"        Means _ _ {meaning_of(k)} × (" for k in pieces]
-    made += [f"        {'List (ℕ × Datum)' if message.is_keeping else 'Unit {0}'}{')' * len(pieces)} }};", ""]
-    made += [f"    ghost coded = {{ Prim.hlevel ({', '.join(['codes', 'coded_datum'] + codes)}) }};", ""]
+    made += [f"        {'List (ℕ × FieldData)' if message.is_keeping else 'Unit {0}'}{')' * len(pieces)} }};", ""]
+    made += [f"    ghost coded = {{ Prim.hlevel ({', '.join(['codes', 'coded_field_data'] + codes)}) }};", ""]
     return made + pairs("    ghost view = { λ m. ", [v for v, _ in values]) + ["}", ""]
 
 
@@ -398,17 +397,17 @@ def listed_form(message, messages):
     for block in blocks.blocks(message):
         made += blocks.text(block, called, meaning, visits)
     made += opaque_meaning(message, messages) if message.is_opaque else []
-    made += [f"impl Fields for {name} {{"]
-    means = meaning([k.means for k in pieces] + ["KeptFields" if message.is_keeping else "()"])
+    made += [f"impl MessageFields for {name} {{"]
+    means = meaning([k.means for k in pieces] + ["Unknowns" if message.is_keeping else "()"])
     made += ([f"    type Meaning = {name}Meaning;"] if message.is_opaque else means) + [""]
     made += [f"    const COST: usize = {cost};", "", f"    ghost COST = {{ {cost} }};", "", "    ghost positive = { lit< tt };", ""]
     made += layout(pieces, message.is_keeping) + ["", "    ghost sound = { refl };", ""]
     made += visits(pieces, message.is_keeping) + [""] + take(message) + ["}", ""]
-    made += [f"impl Blank for {name} {{", f"    type Meaning = <{name} as Fields>::Meaning;", ""]
-    made += [f"    ghost {a} = {{ ⟦<{name} as Fields>⟧.layout.{b} }};\n" for a, b in (("meaning", "meaning"), ("blank_is", "blank"))]
-    made += blank(message) + ["}", "", f"impl Listing for {name} {{"]
+    made += [f"impl Blank for {name} {{", f"    type Meaning = <{name} as MessageFields>::Meaning;", ""]
+    made += [f"    ghost {a} = {{ ⟦<{name} as MessageFields>⟧.schema.{b} }};\n" for a, b in (("meaning", "meaning"), ("blank_is", "blank"))]
+    made += blank(message) + ["}", "", f"impl FieldsMeaning for {name} {{"]
     made += ["    ghost means = { λ m. refl };", "", "    ghost starts = { refl };", "}", ""]
-    return made + [f"impl Formed for {name} {{", "    type Form = Listed;", "}"]
+    return made + [f"impl MessageImpl for {name} {{", "    type Impl = FieldByField;", "}"]
 
 
 def takes_its_cost(message):

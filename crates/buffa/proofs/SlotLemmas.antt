@@ -28,8 +28,8 @@ module _ {K M : Type 0} (key : Writing K) (encoding slots : M → List ℕ) (n :
       sym (append_assoc tag (varint_encoding (length whole)) whole)
       ∙ (λ i. (tag ++ varint_encoding (same_size p i)) ++ split i)
 
-  told : (p : K × M) → IsSmall (encoding p.1) → cap (length (encoding p.1)) ≡ length (encoding p.1)
-  told p h = omega (arith, h)
+  semantics : (p : K × M) → IsSmall (encoding p.1) → cap (length (encoding p.1)) ≡ length (encoding p.1)
+  semantics p h = omega (arith, h)
 
   pub slots_are_lengths : (l : List (K × M)) (rest : List ℕ) → AreSmall encoding l →
       WrittenBySlots key encoding slots n l (field_slots encoding slots l ++ rest) (field_encoding key (delimited_writing encoding) n l) rest
@@ -39,7 +39,7 @@ module _ {K M : Type 0} (key : Writing K) (encoding slots : M → List ℕ) (n :
     field_slots encoding slots ps ++ rest,
     field_encoding key (delimited_writing encoding) n ps,
     refl,
-    ap (λ m. m ∷ (slots p.1 ++ field_slots encoding slots ps) ++ rest) (told p h.0) ∙ ap (λ z. length (encoding p.1) ∷ z) (append_assoc (slots p.1) (field_slots encoding slots ps) rest),
+    ap (λ m. m ∷ (slots p.1 ++ field_slots encoding slots ps) ++ rest) (semantics p h.0) ∙ ap (λ z. length (encoding p.1) ∷ z) (append_assoc (slots p.1) (field_slots encoding slots ps) rest),
     ap (λ z. z ++ field_encoding key (delimited_writing encoding) n ps) (same_record p),
     slots_are_lengths ps rest h.1,
   )

@@ -4,6 +4,6 @@ pub use Rattle.buffa_codec.specs.Packed.{numbers_in}
 pub use Rattle.buffa_codec.specs.Sub.{sub, tagged, without}
 pub use Rattle.buffa_ext.specs.Steps.{HoldsRecord, IsCleared, IsSet, IsSetUnread, KeepsRoom, RefusedAt, after, step_of}
 pub use Rattle.buffa_ext.specs.Defaults.{IsDefaulted, IsRefused, ReadsNumber}
-pub use Rattle.buffa_ext.specs.Messages.{MergesOne, MergesRecords, StandsInRecord, StopsStanding, encodings_in}
+pub use Rattle.buffa_ext.specs.Messages.{MergesOne, MergesRecords, PartlyMergedRecord, StopsPartlyMerged, encodings_in}
 pub use Rattle.buffa_codec.specs.Strict.{IsFaultOrFull}
 pub use Rattle.buffa_wire.specs.Found.{fixed32_in, fixed64_in, varint_in}

@@ -2,7 +2,7 @@
 pub mod Extensions
 pub mod Items
 pub mod Keys
-pub mod Knots
+pub mod RecursiveMessages
 pub mod MapFields
 pub mod Members
 pub mod Slots

@@ -6,7 +6,7 @@ ghost use Rattle.buffa_wire.specs.Enums.{open_number};
 ghost use Rattle.buffa_codec.specs.Decoded.{LaterReadingsWin, ReadAlike, ReadingsJoin};
 ghost use Rattle.buffa_ext_laws.specs.Through.{ListsThrough, ReadsThrough, WritesThrough};
 ghost use Rattle.buffa_ext.specs.Steps.{ClearsAreOne, IsExactlySet, KeepsTheRest, LeavesOthers, SecondCounts};
-ghost use Rattle.buffa_ext.specs.Steps.{StandsLast, TakesOut, TakesThePlace};
+ghost use Rattle.buffa_ext.specs.Steps.{ComesLast, TakesOut, TakesThePlace};
 ghost use Rattle.buffa_map.specs.Laws.{SizeIsLength};
 ghost use Rattle.buffa_map_laws.specs.Laws.{RewriteMeans, RunsJoin};
 ghost use Rattle.buffa_map.specs.Scalars.{delimited_writing};
@@ -114,7 +114,7 @@ pub fn law_4<C: PackableCodec>()
 /// Then the number's records hold what was set; all others are as they were, in order. No other list is so.
 pub fn law_5()
     ensures others { LeavesOthers }
-    ensures last { StandsLast }
+    ensures last { ComesLast }
     ensures place { TakesThePlace }
     ensures rest { KeepsTheRest }
     ensures exactly { IsExactlySet }
@@ -140,10 +140,10 @@ pub fn law_6()
 /// So an extension that is set to a scalar's default, or to an empty text or message, is there; a repeated
 /// one that is set to no values isn't.
 pub fn law_7<C: LastWins, K: MessageRecord, M: Message, R: SingularCodec, P: PackableCodec>()
-    ensures one { (v : C.Value.Meaning) → ⟦<C as ExtensionCodec>⟧.recs v ≢ [] }
-    ensures message { (v : M.Meaning) → ⟦<MessageIn<K, M> as ExtensionCodec>⟧.recs v ≢ [] }
-    ensures repeated { ⟦<Repeated<R> as ExtensionCodec>⟧.recs [] ≡ [] }
-    ensures packed { ⟦<PackedRepeated<P> as ExtensionCodec>⟧.recs [] ≡ [] }
+    ensures one { (v : C.Value.Meaning) → ⟦<C as ExtensionCodec>⟧.extension_data v ≢ [] }
+    ensures message { (v : M.Meaning) → ⟦<MessageIn<K, M> as ExtensionCodec>⟧.extension_data v ≢ [] }
+    ensures repeated { ⟦<Repeated<R> as ExtensionCodec>⟧.extension_data [] ≡ [] }
+    ensures packed { ⟦<PackedRepeated<P> as ExtensionCodec>⟧.extension_data [] ≡ [] }
 {}
 
 /// The announced size of a map field is the length of its encoding, where the tag's length is that of its
@@ -210,12 +210,12 @@ pub fn law_13<E: Enumeration>()
         ⟦<Repeated<EnumCodec<E>> as ExtensionCodec>⟧.reads }
     ensures packed { ListsThrough (open_number E.of_number) ⟦<PackedRepeated<Int32> as ExtensionCodec>⟧.reads
         ⟦<PackedRepeated<EnumCodec<E>> as ExtensionCodec>⟧.reads }
-    ensures records { WritesThrough (λ v. v.1) ⟦<Int32 as ExtensionCodec>⟧.recs
-        ⟦<EnumCodec<E> as ExtensionCodec>⟧.recs }
-    ensures list_records { WritesThrough (map (λ v. v.1)) ⟦<Repeated<Int32> as ExtensionCodec>⟧.recs
-        ⟦<Repeated<EnumCodec<E>> as ExtensionCodec>⟧.recs }
-    ensures packed_records { WritesThrough (map (λ v. v.1)) ⟦<PackedRepeated<Int32> as ExtensionCodec>⟧.recs
-        ⟦<PackedRepeated<EnumCodec<E>> as ExtensionCodec>⟧.recs }
+    ensures records { WritesThrough (λ v. v.1) ⟦<Int32 as ExtensionCodec>⟧.extension_data
+        ⟦<EnumCodec<E> as ExtensionCodec>⟧.extension_data }
+    ensures list_records { WritesThrough (map (λ v. v.1)) ⟦<Repeated<Int32> as ExtensionCodec>⟧.extension_data
+        ⟦<Repeated<EnumCodec<E>> as ExtensionCodec>⟧.extension_data }
+    ensures packed_records { WritesThrough (map (λ v. v.1)) ⟦<PackedRepeated<Int32> as ExtensionCodec>⟧.extension_data
+        ⟦<PackedRepeated<EnumCodec<E>> as ExtensionCodec>⟧.extension_data }
     ensures holds { (v : Bool × ℤ) (o : Option (Bool × ℤ)) → ⟦<EnumCodec<E> as ExtensionCodec>⟧.holds v o
         ↔ (o ≡ Some (open_number E.of_number v.1)) }
     ensures list_holds { (vs os : List (Bool × ℤ)) → ⟦<Repeated<EnumCodec<E>> as ExtensionCodec>⟧.holds vs os

@@ -3,24 +3,24 @@
 ghost use Rattle.std.specs.Prelude.{◌≡◌, ◌∷◌, ◌++◌, ◌-◌, ◌^◌, [], ℕ, List, Ok, Some, false, map, option_map, pos, take, true};
 ghost use Rattle.buffa_bytes.specs.Scalars.{bool_of, fixed32_of, fixed64_of, int64_of, sfixed32_of, sfixed64_of};
 ghost use Rattle.buffa_bytes.specs.Scalars.{sint32_of, sint64_of, uint32_of, uint64_of};
-ghost use Rattle.buffa_bytes.specs.Front.{delimited_at, same_wire};
+ghost use Rattle.buffa_bytes.specs.Readings.{delimited_at, same_wire};
 ghost use Rattle.buffa_bytes.specs.Values.{int32_of};
 ghost use Rattle.buffa_bytes.specs.declared.wire_type.WireType.TheVariants as wire;
 ghost use Rattle.buffa_wire.specs.BudgetLeft.{BudgetLeft};
 ghost use Rattle.buffa_wire.specs.ByField.{value_of};
 ghost use Rattle.buffa_wire.specs.Enums.{numbers, open_number};
 ghost use Rattle.buffa_wire.specs.Found.{fixed32_in, fixed64_in, varint_in};
-ghost use Rattle.buffa_wire.specs.Records.{Datum, bytes as held_bytes};
+ghost use Rattle.buffa_wire.specs.Records.{FieldData, bytes as held_bytes};
 ghost use Rattle.buffa_codec.specs.Decoded.{bytes_held, packed_record, string_held};
 ghost use Rattle.buffa_ext.specs.Messages.{group_of};
 ghost use Rattle.std.specs.BTreeMap.{insert_entry};
-ghost use Rattle.buffa_fields.specs.Groups.{group_datum, group_merged, group_records};
+ghost use Rattle.buffa_fields.specs.Groups.{group_field_data, group_merged, group_records};
 ghost use Rattle.buffa_fields.specs.Lists.{element_records, elements_in, packed_records};
 ghost use Rattle.buffa_fields.specs.MapFields.{pair_taken};
-ghost use Rattle.buffa_fields.specs.MemberRecords.{optional_records, plain_records};
-ghost use Rattle.buffa_fields.specs.Nested.{message_merged, message_records};
-ghost use Rattle.buffa_fields.specs.RepeatedNested.{messages_records};
-ghost use Rattle.buffa_recursive.specs.Fixpoint.{told};
+ghost use Rattle.buffa_fields.specs.MemberRecords.{explicit_records, implicit_records};
+ghost use Rattle.buffa_fields.specs.Submessages.{message_merged, message_records};
+ghost use Rattle.buffa_fields.specs.RepeatedMessages.{messages_records};
+ghost use Rattle.buffa_recursive.specs.Fixpoint.{semantics};
 ghost use Rattle.buffa_map.specs.Enums.{closed_reading, open_reading};
 ghost use Rattle.buffa_map.specs.Message.{message_reading};
 ghost use Rattle.buffa_map.specs.Pairs.{put};
@@ -30,8 +30,8 @@ ghost use Rattle.buffa.specs.Set.{set_merged};
 
 use crate::extension::{ExtensionCodec, PackableCodec, SingularCodec, codecs};
 use crate::fields::{
-    Fields, Keeping, Keyed, Laid, Listing, Member, OneOf, OrderedKey, Packable, ProtoType,
-    SelfFields, SelfListing,
+    FieldsMeaning, KeepsUnknowns, Keyed, Member, MessageFields, OneOf, OrderedKey, Packable,
+    ProtoType, RecursiveFields, RecursiveMeaning, RecursiveType,
 };
 use crate::laws::open_members::OpenMembers;
 use crate::map_codec::{MapCodec, MapStorage, MapValueDecode};
@@ -62,14 +62,14 @@ pub fn buffers_are_these<B: Buf>()
 
 /// Which laws the names of the modules in [`laws`] are: each has those of the form that it is named for.
 pub fn law_modules_are_these<
-    M: SelfFields,
+    M: RecursiveFields,
     N: Message,
     T: OpenMembers,
     K: Keyed,
     E: OneOf,
     C: ProtoType,
-    F: Fields,
-    G: Keeping,
+    F: MessageFields,
+    G: KeepsUnknowns,
 >(message: &M) {
     laws::wire::varints_are_read();
     laws::records::records_are_read();
@@ -78,7 +78,7 @@ pub fn law_modules_are_these<
     laws::answers::merges_are_these::<N>();
     laws::extension_codecs::packed_numbers_are_read();
     laws::extensions::last_step_counts();
-    laws::fields::nested_members_are_these::<N>();
+    laws::fields::message_fields_are_these::<N>();
     laws::inside::lists_inside_are_these::<M>();
     laws::selves::messages_are_their_members(message);
     laws::open_members::members_of_the_same_type_are_named_so::<M, T, K>();
@@ -103,45 +103,45 @@ pub fn samples_are_these()
 /// How each codec of extensions of one value reads a record, and which records lists and messages have. What the laws of
 /// numbers and of last records say holds of these names.
 pub fn extension_codecs_are_these<E: Enumeration, M: Message, P: PackableCodec>()
-    ensures int32 { (n : ℕ) (b : BudgetLeft) (d : Datum) → ⟦<codecs::Int32 as SingularCodec>⟧.one n b d
+    ensures int32 { (n : ℕ) (b : BudgetLeft) (d : FieldData) → ⟦<codecs::Int32 as SingularCodec>⟧.one n b d
         ≡ option_map int32_of (varint_in d) }
-    ensures int64 { (n : ℕ) (b : BudgetLeft) (d : Datum) → ⟦<codecs::Int64 as SingularCodec>⟧.one n b d
+    ensures int64 { (n : ℕ) (b : BudgetLeft) (d : FieldData) → ⟦<codecs::Int64 as SingularCodec>⟧.one n b d
         ≡ option_map int64_of (varint_in d) }
-    ensures uint32 { (n : ℕ) (b : BudgetLeft) (d : Datum) → ⟦<codecs::Uint32 as SingularCodec>⟧.one n b d
+    ensures uint32 { (n : ℕ) (b : BudgetLeft) (d : FieldData) → ⟦<codecs::Uint32 as SingularCodec>⟧.one n b d
         ≡ option_map uint32_of (varint_in d) }
-    ensures uint64 { (n : ℕ) (b : BudgetLeft) (d : Datum) → ⟦<codecs::Uint64 as SingularCodec>⟧.one n b d
+    ensures uint64 { (n : ℕ) (b : BudgetLeft) (d : FieldData) → ⟦<codecs::Uint64 as SingularCodec>⟧.one n b d
         ≡ option_map uint64_of (varint_in d) }
-    ensures sint32 { (n : ℕ) (b : BudgetLeft) (d : Datum) → ⟦<codecs::Sint32 as SingularCodec>⟧.one n b d
+    ensures sint32 { (n : ℕ) (b : BudgetLeft) (d : FieldData) → ⟦<codecs::Sint32 as SingularCodec>⟧.one n b d
         ≡ option_map sint32_of (varint_in d) }
-    ensures sint64 { (n : ℕ) (b : BudgetLeft) (d : Datum) → ⟦<codecs::Sint64 as SingularCodec>⟧.one n b d
+    ensures sint64 { (n : ℕ) (b : BudgetLeft) (d : FieldData) → ⟦<codecs::Sint64 as SingularCodec>⟧.one n b d
         ≡ option_map sint64_of (varint_in d) }
-    ensures bool { (n : ℕ) (b : BudgetLeft) (d : Datum) → ⟦<codecs::Bool as SingularCodec>⟧.one n b d
+    ensures bool { (n : ℕ) (b : BudgetLeft) (d : FieldData) → ⟦<codecs::Bool as SingularCodec>⟧.one n b d
         ≡ option_map bool_of (varint_in d) }
-    ensures fixed32 { (n : ℕ) (b : BudgetLeft) (d : Datum) → ⟦<codecs::Fixed32 as SingularCodec>⟧.one n b d
+    ensures fixed32 { (n : ℕ) (b : BudgetLeft) (d : FieldData) → ⟦<codecs::Fixed32 as SingularCodec>⟧.one n b d
         ≡ option_map fixed32_of (fixed32_in d) }
-    ensures fixed64 { (n : ℕ) (b : BudgetLeft) (d : Datum) → ⟦<codecs::Fixed64 as SingularCodec>⟧.one n b d
+    ensures fixed64 { (n : ℕ) (b : BudgetLeft) (d : FieldData) → ⟦<codecs::Fixed64 as SingularCodec>⟧.one n b d
         ≡ option_map fixed64_of (fixed64_in d) }
-    ensures sfixed32 { (n : ℕ) (b : BudgetLeft) (d : Datum) → ⟦<codecs::Sfixed32 as SingularCodec>⟧.one n b d
+    ensures sfixed32 { (n : ℕ) (b : BudgetLeft) (d : FieldData) → ⟦<codecs::Sfixed32 as SingularCodec>⟧.one n b d
         ≡ option_map sfixed32_of (fixed32_in d) }
-    ensures sfixed64 { (n : ℕ) (b : BudgetLeft) (d : Datum) → ⟦<codecs::Sfixed64 as SingularCodec>⟧.one n b d
+    ensures sfixed64 { (n : ℕ) (b : BudgetLeft) (d : FieldData) → ⟦<codecs::Sfixed64 as SingularCodec>⟧.one n b d
         ≡ option_map sfixed64_of (fixed64_in d) }
-    ensures float { (n : ℕ) (b : BudgetLeft) (d : Datum) → ⟦<codecs::Float as SingularCodec>⟧.one n b d
+    ensures float { (n : ℕ) (b : BudgetLeft) (d : FieldData) → ⟦<codecs::Float as SingularCodec>⟧.one n b d
         ≡ option_map fixed32_of (fixed32_in d) }
-    ensures double { (n : ℕ) (b : BudgetLeft) (d : Datum) → ⟦<codecs::Double as SingularCodec>⟧.one n b d
+    ensures double { (n : ℕ) (b : BudgetLeft) (d : FieldData) → ⟦<codecs::Double as SingularCodec>⟧.one n b d
         ≡ option_map fixed64_of (fixed64_in d) }
-    ensures enums { (n : ℕ) (b : BudgetLeft) (d : Datum) → ⟦<codecs::EnumI32 as SingularCodec>⟧.one n b d
+    ensures enums { (n : ℕ) (b : BudgetLeft) (d : FieldData) → ⟦<codecs::EnumI32 as SingularCodec>⟧.one n b d
         ≡ option_map int32_of (varint_in d) }
-    ensures open_enums { (n : ℕ) (b : BudgetLeft) (d : Datum) → ⟦<codecs::EnumCodec<E> as SingularCodec>⟧.one n b d
+    ensures open_enums { (n : ℕ) (b : BudgetLeft) (d : FieldData) → ⟦<codecs::EnumCodec<E> as SingularCodec>⟧.one n b d
         ≡ option_map (λ k. open_number E.of_number (int32_of k)) (varint_in d) }
-    ensures string { (n : ℕ) (b : BudgetLeft) (d : Datum) → ⟦<codecs::StringCodec as SingularCodec>⟧.one n b d
+    ensures string { (n : ℕ) (b : BudgetLeft) (d : FieldData) → ⟦<codecs::StringCodec as SingularCodec>⟧.one n b d
         ≡ string_held d }
-    ensures bytes { (n : ℕ) (b : BudgetLeft) (d : Datum) → ⟦<codecs::BytesCodec as SingularCodec>⟧.one n b d
+    ensures bytes { (n : ℕ) (b : BudgetLeft) (d : FieldData) → ⟦<codecs::BytesCodec as SingularCodec>⟧.one n b d
         ≡ bytes_held d }
-    ensures lists { (vs : List P.Value.Meaning) → ⟦<codecs::Repeated<P> as ExtensionCodec>⟧.recs vs ≡ map P.datum vs }
-    ensures packed { (vs : List P.Value.Meaning) → ⟦<codecs::PackedRepeated<P> as ExtensionCodec>⟧.recs vs
+    ensures lists { (vs : List P.Value.Meaning) → ⟦<codecs::Repeated<P> as ExtensionCodec>⟧.extension_data vs ≡ map P.field_data vs }
+    ensures packed { (vs : List P.Value.Meaning) → ⟦<codecs::PackedRepeated<P> as ExtensionCodec>⟧.extension_data vs
         ≡ packed_record P.packed_encoding vs }
-    ensures message { (v : _) → ⟦<codecs::MessageCodec<M> as ExtensionCodec>⟧.recs v ≡ held_bytes (M.encoding v) ∷ [] }
-    ensures group { (v : _) → ⟦<codecs::GroupCodec<M> as ExtensionCodec>⟧.recs v ≡ group_of (M.encoding v) ∷ [] }
+    ensures message { (v : _) → ⟦<codecs::MessageCodec<M> as ExtensionCodec>⟧.extension_data v ≡ held_bytes (M.encoding v) ∷ [] }
+    ensures group { (v : _) → ⟦<codecs::GroupCodec<M> as ExtensionCodec>⟧.extension_data v ≡ group_of (M.encoding v) ∷ [] }
 {
     numbers_are_read::<codecs::Int32>();
     numbers_are_read::<codecs::Int64>();
@@ -207,17 +207,17 @@ pub fn map_codecs_are_these<E: Enumeration, M: Message, K: MapKey + Hash, V: Bla
 
 /// What a record of a member does where something stands: a message takes it in, and a list has its elements behind those that
 /// stand. A default is no record, of an unsigned number as of any.
-#[tactic(auto, unfolding(buffa_fields::specs::Groups::group_merged, buffa_fields::specs::Lists::elements_taken, buffa_fields::specs::Nested::message_merged))]
+#[tactic(auto, unfolding(buffa_fields::specs::Groups::group_merged, buffa_fields::specs::Lists::elements_taken, buffa_fields::specs::Submessages::message_merged))]
 pub fn records_of_members_are_these<N: Message, P: Packable>()
     ensures nested { (d n : ℕ) (v : N.Meaning) (w : _) (p : List ℕ) →
-        ⟦<fields::Nested<N> as Member>⟧.shape.takes d (Some v) n w p
+        ⟦<fields::MessageField<N> as Member>⟧.shape.takes d (Some v) n w p
         ≡ option_map (λ u. Some u) (message_merged N.merged d v n w p) }
     ensures group { (d n : ℕ) (v : N.Meaning) (w : _) (p : List ℕ) →
-        ⟦<fields::Group<N> as Member>⟧.shape.takes d (Some v) n w p
+        ⟦<fields::GroupField<N> as Member>⟧.shape.takes d (Some v) n w p
         ≡ option_map (λ u. Some u) (group_merged N.merged d v n w p) }
     ensures packed { (d n : ℕ) (vs : List P.Value.Meaning) (p b : List ℕ) → delimited_at p ≡ Ok (b, []) →
         same_wire P.reading.wire wire.LengthDelimited ≡ false →
-        ⟦<fields::Packed<P> as Member>⟧.shape.takes d vs n wire.LengthDelimited p
+        ⟦<fields::PackedField<P> as Member>⟧.shape.takes d vs n wire.LengthDelimited p
         ≡ value_of (elements_in P.reading d vs b) }
     ensures unsigned { (⟦<map_codec::Uint32 as ProtoType>⟧.is_blank 0 ≡ true)
         × (⟦<map_codec::Uint64 as ProtoType>⟧.is_blank 0 ≡ true)
@@ -234,32 +234,32 @@ pub fn member_types_are_these<
     KC: MapCodec<Value = K>,
     K: MapKey + Hash + OrderedKey,
     VC: MapCodec,
-    M: Listing,
-    S: SelfListing,
+    M: FieldsMeaning,
+    S: RecursiveMeaning,
 >()
-    ensures plain { (n : ℕ) (v : _) → ⟦<fields::Plain<C> as Member>⟧.shape.records n v
-        ≡ plain_records C.is_blank C.datum n v }
-    ensures optional { (n : ℕ) (v : _) → ⟦<fields::Optional<C> as Member>⟧.shape.records n v
-        ≡ optional_records C.datum n v }
-    ensures repeated { (n : ℕ) (v : _) → ⟦<fields::Repeated<P> as Member>⟧.shape.records n v
-        ≡ element_records P.datum n v }
-    ensures packed { (n : ℕ) (v : _) → ⟦<fields::Packed<P> as Member>⟧.shape.records n v
+    ensures plain { (n : ℕ) (v : _) → ⟦<fields::ImplicitField<C> as Member>⟧.shape.records n v
+        ≡ implicit_records C.is_blank C.field_data n v }
+    ensures optional { (n : ℕ) (v : _) → ⟦<fields::ExplicitField<C> as Member>⟧.shape.records n v
+        ≡ explicit_records C.field_data n v }
+    ensures repeated { (n : ℕ) (v : _) → ⟦<fields::RepeatedField<P> as Member>⟧.shape.records n v
+        ≡ element_records P.field_data n v }
+    ensures packed { (n : ℕ) (v : _) → ⟦<fields::PackedField<P> as Member>⟧.shape.records n v
         ≡ packed_records P.writing.encoding n v }
-    ensures nested { (n : ℕ) (v : _) → ⟦<fields::Nested<N> as Member>⟧.shape.records n v
+    ensures nested { (n : ℕ) (v : _) → ⟦<fields::MessageField<N> as Member>⟧.shape.records n v
         ≡ message_records N.encoding n v }
-    ensures repeated_nested { (n : ℕ) (v : _) → ⟦<fields::RepeatedNested<N> as Member>⟧.shape.records n v
+    ensures repeated_nested { (n : ℕ) (v : _) → ⟦<fields::RepeatedMessageField<N> as Member>⟧.shape.records n v
         ≡ messages_records N.encoding n v }
-    ensures group { (n : ℕ) (v : _) → ⟦<fields::Group<N> as Member>⟧.shape.records n v ≡ group_records N.records n v }
-    ensures repeated_group { (n : ℕ) (v : _) → ⟦<fields::RepeatedGroup<N> as Member>⟧.shape.records n v
-        ≡ element_records (group_datum N.records) n v }
-    ensures map { ⟦<fields::MapOf<KC, VC> as Member>⟧.shape.takes
+    ensures group { (n : ℕ) (v : _) → ⟦<fields::GroupField<N> as Member>⟧.shape.records n v ≡ group_records N.records n v }
+    ensures repeated_group { (n : ℕ) (v : _) → ⟦<fields::RepeatedGroupField<N> as Member>⟧.shape.records n v
+        ≡ element_records (group_field_data N.records) n v }
+    ensures map { ⟦<fields::MapField<KC, VC> as Member>⟧.shape.takes
         ≡ pair_taken KC.reading VC.reading (put K.same) }
-    ensures map_of_nested { ⟦<fields::MapOfNested<KC, N> as Member>⟧.shape.takes
+    ensures map_of_nested { ⟦<fields::MessageMapField<KC, N> as Member>⟧.shape.takes
         ≡ pair_taken KC.reading (message_reading N.blank_is N.merged N.cost) (put K.same) }
-    ensures ordered_map { ⟦<fields::OrderedMapOf<KC, VC> as Member>⟧.shape.takes
+    ensures ordered_map { ⟦<fields::OrderedMapField<KC, VC> as Member>⟧.shape.takes
         ≡ pair_taken KC.reading VC.reading (insert_entry K.order) }
-    ensures ordered_map_of_nested { ⟦<fields::OrderedMapOfNested<KC, N> as Member>⟧.shape.takes
+    ensures ordered_map_of_nested { ⟦<fields::OrderedMessageMapField<KC, N> as Member>⟧.shape.takes
         ≡ pair_taken KC.reading (message_reading N.blank_is N.merged N.cost) (insert_entry K.order) }
-    ensures listed { ⟦<fields::Listed as MessageMeaning<M>>⟧.records ≡ M.layout.records }
-    ensures self_listed { ⟦<fields::SelfListed as MessageMeaning<S>>⟧.records ≡ (told S.Laid.COST S.laying S.sound).records }
+    ensures listed { ⟦<fields::FieldByField as MessageMeaning<M>>⟧.records ≡ M.schema.records }
+    ensures self_listed { ⟦<fields::RecursiveFieldByField as MessageMeaning<S>>⟧.records ≡ (semantics S.RecursiveType.COST S.schema S.sound).records }
 {}

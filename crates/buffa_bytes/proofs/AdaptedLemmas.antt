@@ -2,7 +2,7 @@
 use Rattle.std.proofs.Common.{◌≡◌, ℕ, List, [], ◌∷◌, refl, sym, ap, ◌∙◌}
 use Rattle.bytes.specs.Unread as kit
 use Rattle.buffa_bytes.specs.Adapted.{kept_beyond}
-use Rattle.buffa_bytes.specs.Left.{IsChunkOf}
+use Rattle.buffa_bytes.specs.Unread.{IsChunkOf}
 
 -- a chunk of theirs is one of ours
 pub own_chunk : (part all : List ℕ) → kit.IsChunkOf part all → IsChunkOf part all

@@ -2,7 +2,7 @@
 use Rattle.std.proofs.Common.{◌≡◌, ℕ, ◌+◌, ◌-◌, ◌≤◌, List, ◌++◌, length, take, drop, sym, ◌∙◌, ap, arith, append_assoc}
 use Rattle.std.proofs.Math.Seq.{take-add}
 use Rattle.std.proofs.lemmas.List.{drop-drop, take-append-drop, take-append-le}
-use Rattle.buffa_bytes.specs.Left.{IsChunkOf}
+use Rattle.buffa_bytes.specs.Unread.{IsChunkOf}
 
 -- the front of a chunk is that of the buffer
 pub front_of_chunk : (n : ℕ) (part all : List ℕ) → IsChunkOf part all → n ≤ length part → take n part ≡ take n all

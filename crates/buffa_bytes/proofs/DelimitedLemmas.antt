@@ -8,7 +8,7 @@ use Rattle.buffa_bytes.specs.declared.error.DecodeError.{DecodeError}
 use Rattle.buffa_bytes.specs.declared.error.DecodeError.TheVariants.{UnexpectedEof}
 use Rattle.buffa_bytes.specs.Varint.{varint_encoding, IsVarint}
 use Rattle.buffa_bytes.specs.Field.{LengthFault, TakesDelimited}
-use Rattle.buffa_bytes.specs.Front.{varint_at, taken, delimited_at}
+use Rattle.buffa_bytes.specs.Readings.{varint_at, taken, delimited_at}
 use Rattle.buffa_bytes.specs.Values.{delimited_encoding, string_at}
 use Rattle.buffa_bytes.proofs.StepLemmas.{Agrees, agree_bind, agree_if, agree_weaker}
 use Rattle.buffa_bytes.proofs.VarintLemmas.{varint_sound, varint_complete, varint_faulty, IsVarint-varint_encoding}

@@ -4,7 +4,7 @@ use Rattle.buffa_bytes.specs.declared.wire_type.WireType.{WireType}
 use Rattle.buffa_bytes.specs.declared.wire_type.WireType.TheVariants.{Varint, Fixed64, LengthDelimited, StartGroup, EndGroup, Fixed32}
 use Rattle.buffa_bytes.specs.declared.error.DecodeError.{DecodeError}
 use Rattle.buffa_bytes.specs.declared.error.DecodeError.TheVariants as error
-use Rattle.buffa_bytes.specs.Content.{ContentFault}
+use Rattle.buffa_bytes.specs.PayloadValue.{PayloadValueFault}
 use Rattle.buffa_bytes.specs.Field.{BadTag, FieldFaultOver, GroupFault, LengthFault, PayloadFault, PayloadFaultOver, TagFault}
 use Rattle.buffa_bytes.specs.Varint.{VarintFault}
 
@@ -36,13 +36,13 @@ pub length_fault : (bs : List ℕ) (e : DecodeError) → LengthFault bs e → Is
 length_fault bs e (inl h) = varint_fault bs e h
 length_fault bs e (inr (n, rest, t, l, h)) = as_of_bytes e error.UnexpectedEof h tt
 
-pub content_fault : (w : WireType) (bs : List ℕ) (e : DecodeError) → ContentFault w bs e → IsOfBytes e
-content_fault Varint bs e h = varint_fault bs e h
-content_fault Fixed64 bs e h = as_of_bytes e error.UnexpectedEof h.1 tt
-content_fault LengthDelimited bs e h = length_fault bs e h
-content_fault StartGroup bs e h = as_of_bytes e (error.InvalidWireType 3) h tt
-content_fault EndGroup bs e h = as_of_bytes e (error.InvalidWireType 4) h tt
-content_fault Fixed32 bs e h = as_of_bytes e error.UnexpectedEof h.1 tt
+pub payload_value_fault : (w : WireType) (bs : List ℕ) (e : DecodeError) → PayloadValueFault w bs e → IsOfBytes e
+payload_value_fault Varint bs e h = varint_fault bs e h
+payload_value_fault Fixed64 bs e h = as_of_bytes e error.UnexpectedEof h.1 tt
+payload_value_fault LengthDelimited bs e h = length_fault bs e h
+payload_value_fault StartGroup bs e h = as_of_bytes e (error.InvalidWireType 3) h tt
+payload_value_fault EndGroup bs e h = as_of_bytes e (error.InvalidWireType 4) h tt
+payload_value_fault Fixed32 bs e h = as_of_bytes e error.UnexpectedEof h.1 tt
 
 module _ (G : ℕ → List ℕ → DecodeError → Type 0) (g : (f : ℕ) (bs : List ℕ) (e : DecodeError) → G f bs e → IsOfBytes e) where
   payload_over : (f : ℕ) (w : WireType) (bs : List ℕ) (e : DecodeError) → PayloadFaultOver G f w bs e → IsOfBytes e

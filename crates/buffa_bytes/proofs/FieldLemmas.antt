@@ -13,7 +13,7 @@ use Rattle.buffa_bytes.specs.Join.{Join}
 use Rattle.buffa_bytes.specs.Number.{IsNumber, wire_kind, wire_number}
 use Rattle.buffa_bytes.specs.Join.Join.{none, more}
 use Rattle.buffa_bytes.specs.Field.{IsTag, PayloadOver, SomeFieldOver, SomeField, Group, TakesTag, TakesPayload, BadTag, TagFault, PayloadFaultOver, FieldFaultOver, GroupFault, PayloadFault, TakesBytes}
-use Rattle.buffa_bytes.specs.Front.{varint_at, tag_of, tag_at, past, skip_by, fields_at, fields_step, group_at, group_step, passed, skip_at, same_wire, ◌>>=◌}
+use Rattle.buffa_bytes.specs.Readings.{varint_at, tag_of, tag_at, past, skip_by, fields_at, fields_step, group_at, group_step, passed, skip_at, same_wire, ◌>>=◌}
 use Rattle.buffa_bytes.specs.Scan.{Scanned, scan, step_then, join, ParsesEach}
 use Rattle.buffa_bytes.specs.Scan.Scanned.{ends, goes}
 use Rattle.buffa_bytes.proofs.SequenceLemmas.{Ends, Meets, if_meets, upto_agrees, upto_complete, upto_sound, upto_turn}

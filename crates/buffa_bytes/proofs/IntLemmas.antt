@@ -7,7 +7,7 @@ use Rattle.std.proofs.lemmas.Bool.{cases_lt}
 use Rattle.buffa_bytes.specs.declared.wire_type.WireType.{WireType}
 use Rattle.buffa_bytes.specs.Varint.{varint_encoding, base128}
 use Rattle.buffa_bytes.specs.Number.{IsNumber}
-use Rattle.buffa_bytes.specs.Front.{tag_at}
+use Rattle.buffa_bytes.specs.Readings.{tag_at}
 use Rattle.buffa_bytes.proofs.VarintLemmas.{varint_complete, IsVarint-varint_encoding}
 use Rattle.buffa_bytes.proofs.DigitLemmas.{base128-lt, grows}
 use Rattle.buffa_bytes.proofs.ShortestLemmas.{ten_at_most}

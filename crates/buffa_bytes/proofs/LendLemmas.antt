@@ -6,8 +6,8 @@ use Rattle.std.specs.Fn.{Called, CalledAt}
 use Rattle.std.specs.Prelude.{IsOk}
 use Rattle.buffa_bytes.specs.declared.error.DecodeError.{DecodeError}
 use Rattle.buffa_bytes.specs.declared.error.DecodeError.TheVariants.{OutOfMemory}
-use Rattle.buffa_bytes.specs.Front.{varint_at, taken, delimited_at, FullOnlyIf}
-use Rattle.buffa_bytes.specs.Left.{IsFrontOf}
+use Rattle.buffa_bytes.specs.Readings.{varint_at, taken, delimited_at, FullOnlyIf}
+use Rattle.buffa_bytes.specs.Unread.{IsFrontOf}
 use Rattle.buffa_bytes.specs.Delimited.{Lends}
 use Rattle.buffa_bytes.proofs.DelimitedLemmas.{after_length}
 use Rattle.buffa_bytes.proofs.FullLemmas.{delimited_full}

@@ -9,7 +9,7 @@ pub mod ListLemmas
 pub mod VarintLemmas
 pub mod FieldLemmas
 pub mod DelimitedLemmas
-pub mod ContentLemmas
+pub mod PayloadValueLemmas
 pub mod BufLemmas
 pub mod SinkLemmas
 pub mod IntLemmas
@@ -20,7 +20,7 @@ pub mod AdaptedLemmas
 pub mod ScalarLemmas
 pub mod OwnLemmas
 pub mod TailLemmas
-pub mod LeftLemmas
+pub mod UnreadLemmas
 pub mod FaultLemmas
 pub mod FullLemmas
 pub mod WireLemmas

@@ -4,8 +4,8 @@ use Rattle.std.specs.Prelude.{IsOk}
 use Rattle.std.proofs.lemmas.Bool.{le-ltb}
 use Rattle.std.specs.Str.{is_utf8}
 use Rattle.buffa_bytes.specs.declared.error.DecodeError.{DecodeError}
-use Rattle.buffa_bytes.specs.Front.{varint_at, taken, delimited_at, FullOnlyIf, GivesUnlessFull}
-use Rattle.buffa_bytes.specs.Left.{IsFrontOf}
+use Rattle.buffa_bytes.specs.Readings.{varint_at, taken, delimited_at, FullOnlyIf, GivesUnlessFull}
+use Rattle.buffa_bytes.specs.Unread.{IsFrontOf}
 use Rattle.buffa_bytes.specs.Values.{delimited_encoding}
 use Rattle.buffa_bytes.specs.Delimited.{text_as, string_as, bytes_as}
 use Rattle.buffa_bytes.proofs.DelimitedLemmas.{after_length, delimited_back, taken_sound}

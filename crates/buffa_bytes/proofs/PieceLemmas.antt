@@ -5,7 +5,7 @@ use Rattle.std.proofs.Math.ListN.{drop_of_length-le}
 use Rattle.std.proofs.lemmas.List.{drop-append-le}
 use Rattle.std.proofs.lemmas.Bool.{cases_lt}
 use Rattle.std.specs.Borrow.{Bor}
-use Rattle.buffa_bytes.specs.Left.{IsChunkOf}
+use Rattle.buffa_bytes.specs.Unread.{IsChunkOf}
 use Rattle.buffa_bytes.specs.Pieces.{joined, IsSettled}
 
 -- the slices from a place on begin with the one there

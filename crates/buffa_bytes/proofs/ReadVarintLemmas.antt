@@ -2,8 +2,8 @@
 use Rattle.std.proofs.Common.{◌≡◌, ℕ, ◌+◌, ◌*◌, ◌%◌, ◌<◌, ◌≤◌, List, ◌∷◌, ◌++◌, Ok, length, drop, refl, sym, ap, ◌∙◌, arith}
 use Rattle.std.proofs.lemmas.Bool.{lt-ltb, le-ltb}
 use Rattle.std.proofs.lemmas.List.{take-append-drop, drop-append-le}
-use Rattle.buffa_bytes.specs.Front.{varint_at, varint_within}
-use Rattle.buffa_bytes.specs.Left.{IsChunkOf}
+use Rattle.buffa_bytes.specs.Readings.{varint_at, varint_within}
+use Rattle.buffa_bytes.specs.Unread.{IsChunkOf}
 use Rattle.buffa_bytes.proofs.StepLemmas.{agree_ok}
 use Rattle.buffa_bytes.proofs.VarintLemmas.{varint_sound, varint_complete}
 use Rattle.buffa_bytes.proofs.FieldLemmas.{onward}

@@ -1,6 +1,6 @@
 -- What readers leave of the bytes.
 use Rattle.std.proofs.Common.{◌≡◌, ℕ, ◌+◌, ◌≤◌, List, length, drop, length-drop, drop-drop, refl, ap, ◌∙◌, arith}
-use Rattle.buffa_bytes.specs.Left.{IsTailOf}
+use Rattle.buffa_bytes.specs.Unread.{IsTailOf}
 
 pub tail_whole : (all : List ℕ) → IsTailOf all all
 tail_whole all = record { past = 0; follows = refl }

@@ -7,7 +7,7 @@ use Rattle.std.proofs.Math.Nat.{pow-suc}
 use Rattle.buffa_bytes.specs.declared.error.DecodeError.{DecodeError}
 use Rattle.buffa_bytes.specs.declared.error.DecodeError.TheVariants.{UnexpectedEof, VarintTooLong}
 use Rattle.buffa_bytes.specs.Varint.{IsByte, base128, Continue, IsVarint, TakesVarint, VarintFault, shortest, varint_encoding}
-use Rattle.buffa_bytes.specs.Front.{varint_within, varint_at}
+use Rattle.buffa_bytes.specs.Readings.{varint_within, varint_at}
 use Rattle.buffa_bytes.proofs.StepLemmas.{Agrees, agree_bind, agree_if, agree_weaker}
 use Rattle.buffa_bytes.proofs.DigitLemmas.{base128-lt, some_scale}
 use Rattle.buffa_bytes.proofs.ShortestLemmas.{one_byte, more_bytes, ten_at_most, length-shortest}

@@ -2,7 +2,7 @@
 use Rattle.std.proofs.Common.{◌≡◌, ◌≢◌, ℕ, Ok, Err, refl, sym, ◌∙◌}
 use Rattle.buffa_bytes.proofs.FieldLemmas.{same_differs, same_false, same_refl, same_true}
 use Rattle.buffa_bytes.proofs.StepLemmas.{Agrees, agree_err, agree_if, agree_ok}
-use Rattle.buffa_bytes.specs.Front.{check_wire, same_wire}
+use Rattle.buffa_bytes.specs.Readings.{check_wire, same_wire}
 use Rattle.buffa_bytes.specs.declared.error.DecodeError.{DecodeError}
 use Rattle.buffa_bytes.specs.declared.error.DecodeError.TheVariants.{OutOfMemory, WireTypeMismatch}
 use Rattle.buffa_bytes.specs.declared.wire_type.WireType.{WireType}
@@ -18,11 +18,11 @@ module _ (n : ℕ) (v w : WireType) where
   check_differs other = rw (same_false v w other) refl
 
   pub checked_same : check_wire n v w ≡ Ok tt → w ≡ v
-  checked_same told = agree_ok (check_wire n v w) tt check_sound told
+  checked_same reported = agree_ok (check_wire n v w) tt check_sound reported
 
-  module _ (e : DecodeError) (told : check_wire n v w ≡ Err e) where
+  module _ (e : DecodeError) (reported : check_wire n v w ≡ Err e) where
     pub checked_other : (w ≢ v) × (e ≡ WireTypeMismatch n v w)
-    checked_other = agree_err (check_wire n v w) e check_sound told
+    checked_other = agree_err (check_wire n v w) e check_sound reported
 
     -- another one takes no memory
     pub other_not_full : {P : Type 0} → e ≡ OutOfMemory → P

@@ -8,7 +8,7 @@ use Rattle.std.specs.Str.{is_utf8}
 use Rattle.std.proofs.lemmas.Str.{is_utf8-from_IsUtf8, IsUtf8-string_bytes}
 use Rattle.buffa_bytes.specs.declared.error.DecodeError.{DecodeError}
 use Rattle.buffa_bytes.specs.declared.error.DecodeError.TheVariants.{InvalidUtf8, OutOfMemory}
-use Rattle.buffa_bytes.specs.Front.{delimited_at, ◌>>=◌}
+use Rattle.buffa_bytes.specs.Readings.{delimited_at, ◌>>=◌}
 
 -- what these bytes mean by of, if they are UTF-8
 abbrev pub text_as : {A : Type 0} → (List ℕ → A) → List ℕ → Result A DecodeError

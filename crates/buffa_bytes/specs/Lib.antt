@@ -1,6 +1,6 @@
 -- The words that this crate hands out.
 pub mod Scan
-pub mod Front
+pub mod Readings
 pub mod ErrorText
 pub mod Pieces
 pub mod Adapted
@@ -9,8 +9,8 @@ pub mod Varint
 pub mod Join
 pub mod Number
 pub mod Field
-pub mod Left
-pub mod Content
+pub mod Unread
+pub mod PayloadValue
 pub mod Values
 pub mod Scalars
 pub mod Delimited

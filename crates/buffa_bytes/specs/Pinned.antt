@@ -4,8 +4,8 @@ use denote.Param.Members.{Mut}
 use denote.Ref.{Bor, MutBor}
 use Rattle.std.specs.Fn.{CalledAt}
 use Rattle.buffa_bytes.specs.Delimited.{Lends}
-use Rattle.buffa_bytes.specs.Front.{FullOnlyIf, Gives, GivesUnlessFull}
-use Rattle.buffa_bytes.specs.Left.{LeavesUnlessFull, IsChunkOf, IsFrontOf, MovesUnlessFull}
+use Rattle.buffa_bytes.specs.Readings.{FullOnlyIf, Gives, GivesUnlessFull}
+use Rattle.buffa_bytes.specs.Unread.{LeavesUnlessFull, IsChunkOf, IsFrontOf, MovesUnlessFull}
 use Rattle.buffa_bytes.specs.Written.{UsesRoom, Writes}
 use Rattle.buffa_bytes.specs.declared.error.DecodeError.{DecodeError}
 use Rattle.buffa_bytes.specs.declared.error.DecodeError.TheVariants.{OutOfMemory}

@@ -5,7 +5,7 @@ use Rattle.std.specs.Prelude.{ℕ, ℤ, pos, negsuc, ◌+◌, ◌*◌, ◌/◌, 
 use Rattle.std.specs.Int.{cast_unsigned, cast_signed, from_bool, from_le_bytes, to_le_bytes, w32, w64}
 use Rattle.buffa_bytes.specs.declared.error.DecodeError.{DecodeError}
 use Rattle.buffa_bytes.specs.Varint.{varint_encoding}
-use Rattle.buffa_bytes.specs.Front.{varint_at, taken, ◌>>=◌}
+use Rattle.buffa_bytes.specs.Readings.{varint_at, taken, ◌>>=◌}
 pub use Rattle.buffa_bytes.specs.Values.{int32_encoding, int32_of, int32_at}
 
 -- ---- zigzag: signed numbers of small magnitude as small numbers

@@ -7,7 +7,7 @@ use Rattle.buffa_bytes.specs.declared.wire_type.WireType.{WireType}
 use Rattle.buffa_bytes.specs.declared.error.DecodeError.{DecodeError}
 use Rattle.buffa_bytes.specs.declared.error.DecodeError.TheVariants.{InvalidUtf8}
 use Rattle.buffa_bytes.specs.Varint.{varint_encoding}
-use Rattle.buffa_bytes.specs.Front.{varint_at, delimited_at, ◌>>=◌}
+use Rattle.buffa_bytes.specs.Readings.{varint_at, delimited_at, ◌>>=◌}
 use Rattle.buffa_bytes.specs.Number.{wire_number}
 
 -- the shortest tag

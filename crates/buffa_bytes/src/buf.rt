@@ -1,8 +1,8 @@
 //! Bytes in: reading from the front of a buffer.
 
 ghost use Rattle.std.specs.Prelude.{◌≡◌, ℕ, ◌<◌, ◌≤◌, List, [], length, drop, IsOk, MatchOption};
-ghost use Rattle.buffa_bytes.specs.Front.{taken, FullOnlyIf, GivesUnlessFull};
-ghost use Rattle.buffa_bytes.specs.Left.{IsChunkOf, IsFrontOf, IsTailOf, MayBeCut, MovesUnlessFull};
+ghost use Rattle.buffa_bytes.specs.Readings.{taken, FullOnlyIf, GivesUnlessFull};
+ghost use Rattle.buffa_bytes.specs.Unread.{IsChunkOf, IsFrontOf, IsTailOf, MayBeCut, MovesUnlessFull};
 
 use crate::error::DecodeError;
 use bytes::Bytes;
@@ -138,7 +138,7 @@ pub fn front<B: Buf>(buf: &B, len: u64) -> Option<&[u8]>
 /// ```ignore
 /// let front = copy_bytes(alloc, buf, len)?; // of "abc" and 2: "ab", and `buf` is "c" then
 /// ```
-#[tactic(auto, using(crate::proofs::TailLemmas::tail_whole, crate::proofs::TailLemmas::tail_rest), unfolding(crate::specs::Front::taken))]
+#[tactic(auto, using(crate::proofs::TailLemmas::tail_whole, crate::proofs::TailLemmas::tail_rest), unfolding(crate::specs::Readings::taken))]
 pub fn copy_bytes<B: Buf>(alloc: Global, buf: &mut B, len: u64) -> Result<Vec<u8>, DecodeError>
     ensures reads { GivesUnlessFull (λ bytes. (bytes.items, B.unread buf.new)) result (taken len (B.unread buf.old)) }
     ensures full { FullOnlyIf result (IsOk (taken len (B.unread buf.old))) }

@@ -1,6 +1,6 @@
 //! Whether a field has the wire type that it is declared with.
 
-ghost use Rattle.buffa_bytes.specs.Front.{check_wire, Gives};
+ghost use Rattle.buffa_bytes.specs.Readings.{check_wire, Gives};
 
 use crate::error::DecodeError;
 use crate::tag::Tag;

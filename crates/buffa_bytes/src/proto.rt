@@ -2,7 +2,7 @@
 
 ghost use Rattle.std.specs.Prelude.{◌≡◌, ℕ, IsOk, List, [], MatchResult, refl, true};
 ghost use Rattle.std.specs.Str.{is_utf8};
-ghost use Rattle.buffa_bytes.specs.Front.{FullOnlyIf, GivesUnlessFull};
+ghost use Rattle.buffa_bytes.specs.Readings.{FullOnlyIf, GivesUnlessFull};
 ghost use Rattle.buffa_bytes.specs.Delimited.{string_is_text, text_as};
 ghost use Rattle.buffa_bytes.specs.declared.error.DecodeError.TheVariants.{OutOfMemory};
 

@@ -1,8 +1,8 @@
 //! Passing over a field that is not looked at.
 
 ghost use Rattle.std.specs.Prelude.{◌≡◌, ◌≢◌, ◌<◌, length, OnErr};
-ghost use Rattle.buffa_bytes.specs.Left.{past_no_payload, IsTailOf};
-ghost use Rattle.buffa_bytes.specs.Front.{past, skip_at, group_at, Gives};
+ghost use Rattle.buffa_bytes.specs.Unread.{past_no_payload, IsTailOf};
+ghost use Rattle.buffa_bytes.specs.Readings.{past, skip_at, group_at, Gives};
 
 use crate::buf::Buf;
 use crate::error::DecodeError;
@@ -11,7 +11,7 @@ use crate::varint::decode_varint;
 use crate::wire_type::WireType;
 
 // Passes over `n` bytes.
-#[tactic(auto, using(crate::proofs::TailLemmas::tail_whole, crate::proofs::TailLemmas::tail_dropped), unfolding(crate::specs::Front::past))]
+#[tactic(auto, using(crate::proofs::TailLemmas::tail_whole, crate::proofs::TailLemmas::tail_dropped), unfolding(crate::specs::Readings::past))]
 fn skip_bytes<B: Buf>(buf: &mut B, n: u64) -> Result<(), DecodeError>
     ensures reads { Gives (λ _. B.unread buf.new) result (past n (B.unread buf.old)) }
     ensures short { length (B.unread buf.old) < n → B.unread buf.new ≡ B.unread buf.old }

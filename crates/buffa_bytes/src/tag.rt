@@ -34,9 +34,9 @@ pub struct Tag {
 
 impl Tag {
     ghost use Rattle.std.specs.Prelude.{◌≡◌, OnErr};
-    ghost use Rattle.buffa_bytes.specs.Left.{past_no_tag, IsTailOf};
+    ghost use Rattle.buffa_bytes.specs.Unread.{past_no_tag, IsTailOf};
     ghost use Rattle.buffa_bytes.specs.Number.{IsNumber};
-    ghost use Rattle.buffa_bytes.specs.Front.{tag_at, Gives};
+    ghost use Rattle.buffa_bytes.specs.Readings.{tag_at, Gives};
     ghost use Rattle.buffa_bytes.specs.Values.{tag_encoding};
     ghost use Rattle.buffa_bytes.specs.Written.{UsesRoom, Writes};
 
@@ -113,7 +113,7 @@ impl Tag {
     /// ```ignore
     /// let tag = Tag::decode(&mut rest)?; // of 2A: number 5, WireType::LengthDelimited
     /// ```
-    #[tactic(auto, unfolding(crate::specs::Front::tag_at, crate::specs::Front::tag_of, crate::specs::Left::past_no_tag))]
+    #[tactic(auto, unfolding(crate::specs::Readings::tag_at, crate::specs::Readings::tag_of, crate::specs::Unread::past_no_tag))]
     pub fn decode<B: Buf>(buf: &mut B) -> Result<Tag, DecodeError>
         ensures reads { Gives (λ tag. (tag.number, tag.wire_type, B.unread buf.new)) result
             (tag_at (B.unread buf.old)) }

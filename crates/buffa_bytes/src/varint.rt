@@ -1,8 +1,8 @@
 //! Varints: seven bits a byte, the lowest first.
 
 ghost use Rattle.std.specs.Prelude.{◌≡◌, ◌<◌, ◌≤◌, ◌∷◌, [], Ok, drop, length, IfSome, MatchOption, OnErr};
-ghost use Rattle.buffa_bytes.specs.Left.{past_no_varint, IsTailOf};
-ghost use Rattle.buffa_bytes.specs.Front.{varint_at, Gives};
+ghost use Rattle.buffa_bytes.specs.Unread.{past_no_varint, IsTailOf};
+ghost use Rattle.buffa_bytes.specs.Readings.{varint_at, Gives};
 ghost use Rattle.buffa_bytes.specs.Varint.{varint_encoding};
 ghost use Rattle.buffa_bytes.specs.Written.{UsesRoom, Writes};
 
@@ -39,7 +39,7 @@ pub fn take_byte<B: Buf>(buf: &mut B) -> Option<u8>
 /// ```ignore
 /// let number = decode_varint(&mut rest)?; // of 96 01: 150
 /// ```
-#[tactic(auto, unfolding(crate::specs::Front::varint_at, crate::specs::Front::varint_within))]
+#[tactic(auto, unfolding(crate::specs::Readings::varint_at, crate::specs::Readings::varint_within))]
 #[inline]
 pub fn decode_varint<B: Buf>(buf: &mut B) -> Result<u64, DecodeError>
     ensures reads { Gives (λ n. (n, B.unread buf.new)) result (varint_at (B.unread buf.old)) }

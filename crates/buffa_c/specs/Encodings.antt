@@ -18,33 +18,33 @@ pub record Puts (bytes : List ℕ) (answer : ℕ) (old new : List ℕ) (written 
   pub full : answer ≢ ACCEPTED → (answer ≡ NO_ROOM) × (length old < length bytes) × (new ≡ old) × (written ≡ 0)
 
 -- the message that the bytes mean, and whose encoding has fewer than 2^31 bytes
-pub record IsWritable {X : Type 0} (meant : Option X) (encoding : X → List ℕ) (value : X) : Type 0 where
-  pub means : meant ≡ Some value
+pub record IsWritable {X : Type 0} (merged : Option X) (encoding : X → List ℕ) (value : X) : Type 0 where
+  pub means : merged ≡ Some value
   pub small : length (encoding value) < 2 ^ 31
 
 -- memory may run out where it does as the bytes are read, or where they mean a message
 abbrev pub IsUnwritten : {X : Type 0} → Option X → BudgetLeft → Limits → List ℕ → ℕ → Type 0
-IsUnwritten meant cost limits bytes answer =
-    AreRefused meant cost limits bytes answer ⊎ ((answer ≡ OUT_OF_MEMORY) × IsSome meant)
+IsUnwritten merged cost limits bytes answer =
+    AreRefused merged cost limits bytes answer ⊎ ((answer ≡ OUT_OF_MEMORY) × IsSome merged)
 
 -- The encoding of the message that the bytes mean is written into the caller's room. Each answer is given where its field says,
 -- and nowhere else, memory aside.
-pub record Rewrites {X : Type 0} (meant : Option X) (cost : BudgetLeft) (encoding : X → List ℕ) (limits : Limits) (bytes : List ℕ) (answer : ℕ) (old new : List ℕ) (written : ℕ) : Type 0 where
-  pub done : answer ≡ ACCEPTED → AreAccepted meant cost limits bytes × ((v : X) × IsWritable meant encoding v × FillsFront (encoding v) old new written)
+pub record Rewrites {X : Type 0} (merged : Option X) (cost : BudgetLeft) (encoding : X → List ℕ) (limits : Limits) (bytes : List ℕ) (answer : ℕ) (old new : List ℕ) (written : ℕ) : Type 0 where
+  pub done : answer ≡ ACCEPTED → AreAccepted merged cost limits bytes × ((v : X) × IsWritable merged encoding v × FillsFront (encoding v) old new written)
   pub kept : answer ≢ ACCEPTED → (new ≡ old) × (written ≡ 0)
-  pub no_room : answer ≡ NO_ROOM → AreAccepted meant cost limits bytes × ((v : X) × IsWritable meant encoding v × (length old < length (encoding v)))
-  pub too_large : answer ≡ TOO_LARGE → AreAccepted meant cost limits bytes × ((v : X) × (meant ≡ Some v) × (2 ^ 31 ≤ length (encoding v)))
-  pub other : answer ≢ ACCEPTED → answer ≢ NO_ROOM → answer ≢ TOO_LARGE → IsUnwritten meant cost limits bytes answer
+  pub no_room : answer ≡ NO_ROOM → AreAccepted merged cost limits bytes × ((v : X) × IsWritable merged encoding v × (length old < length (encoding v)))
+  pub too_large : answer ≡ TOO_LARGE → AreAccepted merged cost limits bytes × ((v : X) × (merged ≡ Some v) × (2 ^ 31 ≤ length (encoding v)))
+  pub other : answer ≢ ACCEPTED → answer ≢ NO_ROOM → answer ≢ TOO_LARGE → IsUnwritten merged cost limits bytes answer
 
 -- the same of how many bytes that encoding has
-pub record Measures {X : Type 0} (meant : Option X) (cost : BudgetLeft) (encoding : X → List ℕ) (limits : Limits) (bytes : List ℕ) (answer : ℕ) (room : ℕ) : Type 0 where
-  pub done : answer ≡ ACCEPTED → AreAccepted meant cost limits bytes × ((v : X) × IsWritable meant encoding v × (room ≡ length (encoding v)))
+pub record Measures {X : Type 0} (merged : Option X) (cost : BudgetLeft) (encoding : X → List ℕ) (limits : Limits) (bytes : List ℕ) (answer : ℕ) (room : ℕ) : Type 0 where
+  pub done : answer ≡ ACCEPTED → AreAccepted merged cost limits bytes × ((v : X) × IsWritable merged encoding v × (room ≡ length (encoding v)))
   pub kept : answer ≢ ACCEPTED → room ≡ 0
-  pub too_large : answer ≡ TOO_LARGE → AreAccepted meant cost limits bytes × ((v : X) × (meant ≡ Some v) × (2 ^ 31 ≤ length (encoding v)))
-  pub other : answer ≢ ACCEPTED → answer ≢ TOO_LARGE → IsUnwritten meant cost limits bytes answer
+  pub too_large : answer ≡ TOO_LARGE → AreAccepted merged cost limits bytes × ((v : X) × (merged ≡ Some v) × (2 ^ 31 ≤ length (encoding v)))
+  pub other : answer ≢ ACCEPTED → answer ≢ TOO_LARGE → IsUnwritten merged cost limits bytes answer
 
 -- Whether the bytes are the encoding of the message that they mean.
-pub record ChecksCanonical {X : Type 0} (meant : Option X) (cost : BudgetLeft) (encoding : X → List ℕ) (limits : Limits) (bytes : List ℕ) (answer : ℕ) : Type 0 where
-  pub done : answer ≡ ACCEPTED → AreAccepted meant cost limits bytes × ((v : X) × IsCanonical meant encoding bytes v)
-  pub not_canonical : answer ≡ NOT_CANONICAL → AreAccepted meant cost limits bytes × ((v : X) → IsCanonical meant encoding bytes v → ⊥)
-  pub other : answer ≢ ACCEPTED → answer ≢ NOT_CANONICAL → IsUnwritten meant cost limits bytes answer
+pub record ChecksCanonical {X : Type 0} (merged : Option X) (cost : BudgetLeft) (encoding : X → List ℕ) (limits : Limits) (bytes : List ℕ) (answer : ℕ) : Type 0 where
+  pub done : answer ≡ ACCEPTED → AreAccepted merged cost limits bytes × ((v : X) × IsCanonical merged encoding bytes v)
+  pub not_canonical : answer ≡ NOT_CANONICAL → AreAccepted merged cost limits bytes × ((v : X) → IsCanonical merged encoding bytes v → ⊥)
+  pub other : answer ≢ ACCEPTED → answer ≢ NOT_CANONICAL → IsUnwritten merged cost limits bytes answer

@@ -4,8 +4,8 @@ use Rattle.std.specs.Result.{OnErr}
 use Rattle.std.specs.List.{filter_map, last_or, cons_option}
 use Rattle.std.proofs.lemmas.List.{drop_more}
 use Rattle.std.proofs.lemmas.List.Elements.{filter_map-append}
-use Rattle.buffa_wire.specs.Records.{Datum}
-use Rattle.buffa_wire.specs.View.{record_of, records_in, datum_of}
+use Rattle.buffa_wire.specs.Records.{FieldData}
+use Rattle.buffa_wire.specs.View.{record_of, records_in, field_data_of}
 use Rattle.buffa_wire.specs.declared.unknown_fields.UnknownField.{UnknownField}
 use Rattle.buffa_codec.specs.Sub.{sub}
 use Rattle.buffa_codec.specs.Decoded.{HasLast, last_read}
@@ -24,13 +24,13 @@ sub-drop_less n xs i x pos le e =
     ap (λ l. sub n (records_in l)) (drop_more xs (i - 1) x (below i (length xs) pos le) ∙ ap (λ y. y ∷ drop ((i - 1) + 1) xs) (sym e) ∙ ap (λ k. x ∷ drop k xs) (step_down i pos))
     ∙ sub-append n (record_of x ∷ []) (records_in (drop i xs))
 
-pub none_at_other : {M : Type 0} (one : Datum → Option M) (n : ℕ) (xs : List UnknownField) (i : ℕ) (x : UnknownField) → 0 < i → i ≤ length xs → x ≡ get_or xs (i - 1) x → x.number ≢ n
+pub none_at_other : {M : Type 0} (one : FieldData → Option M) (n : ℕ) (xs : List UnknownField) (i : ℕ) (x : UnknownField) → 0 < i → i ≤ length xs → x ≡ get_or xs (i - 1) x → x.number ≢ n
     → filter_map one (sub n (records_in (drop i xs))) ≡ [] → filter_map one (sub n (records_in (drop (i - 1) xs))) ≡ []
 none_at_other one n xs i x pos le e other h =
     ap (filter_map one) (sub-drop_less n xs i x pos le e ∙ ap (λ l. l ++ sub n (records_in (drop i xs))) (sub-one_other n x other)) ∙ h
 
-pub none_at_unread : {M : Type 0} (one : Datum → Option M) (n : ℕ) (xs : List UnknownField) (i : ℕ) (x : UnknownField) → 0 < i → i ≤ length xs → x ≡ get_or xs (i - 1) x → x.number ≡ n
-    → one (datum_of x.payload) ≡ None
+pub none_at_unread : {M : Type 0} (one : FieldData → Option M) (n : ℕ) (xs : List UnknownField) (i : ℕ) (x : UnknownField) → 0 < i → i ≤ length xs → x ≡ get_or xs (i - 1) x → x.number ≡ n
+    → one (field_data_of x.payload) ≡ None
     → filter_map one (sub n (records_in (drop i xs))) ≡ [] → filter_map one (sub n (records_in (drop (i - 1) xs))) ≡ []
 none_at_unread one n xs i x pos le e same none h =
     ap (filter_map one) (sub-drop_less n xs i x pos le e ∙ ap (λ l. l ++ sub n (records_in (drop i xs))) (sub-one_same n x same))
@@ -38,24 +38,24 @@ none_at_unread one n xs i x pos le e same none h =
 
 -- the records of one number, cut at one of them
 last_cut : (n : ℕ) (xs : List UnknownField) (i : ℕ) (x : UnknownField) → 0 < i → i ≤ length xs → x ≡ get_or xs (i - 1) x → x.number ≡ n
-    → sub n (records_in xs) ≡ sub n (records_in (take (i - 1) xs)) ++ (datum_of x.payload ∷ sub n (records_in (drop i xs)))
+    → sub n (records_in xs) ≡ sub n (records_in (take (i - 1) xs)) ++ (field_data_of x.payload ∷ sub n (records_in (drop i xs)))
 last_cut n xs i x pos le e same =
     sub-cut n xs (i - 1) x (below i (length xs) pos le) e same
-    ∙ ap (λ k. sub n (records_in (take (i - 1) xs)) ++ (datum_of x.payload ∷ sub n (records_in (drop k xs)))) (step_down i pos)
+    ∙ ap (λ k. sub n (records_in (take (i - 1) xs)) ++ (field_data_of x.payload ∷ sub n (records_in (drop k xs)))) (step_down i pos)
 
 -- such a record, and none behind it that is read
-pub last_there : {M T E : Type 0} (r : Result T E) (P : Datum → Type 0) (one : Datum → Option M) (n : ℕ) (xs : List UnknownField) (i : ℕ) (x : UnknownField) (rs : List (ℕ × Datum)) → 0 < i → i ≤ length xs → x ≡ get_or xs (i - 1) x → x.number ≡ n
-    → records_in xs ≡ rs → filter_map one (sub n (records_in (drop i xs))) ≡ [] → P (datum_of x.payload) → OnErr r (HasLast P one (sub n rs))
+pub last_there : {M T E : Type 0} (r : Result T E) (P : FieldData → Type 0) (one : FieldData → Option M) (n : ℕ) (xs : List UnknownField) (i : ℕ) (x : UnknownField) (rs : List (ℕ × FieldData)) → 0 < i → i ≤ length xs → x ≡ get_or xs (i - 1) x → x.number ≡ n
+    → records_in xs ≡ rs → filter_map one (sub n (records_in (drop i xs))) ≡ [] → P (field_data_of x.payload) → OnErr r (HasLast P one (sub n rs))
 last_there (Ok u) P one n xs i x rs pos le e same whole none p = tt
 last_there (Err u) P one n xs i x rs pos le e same whole none p =
-    (sub n (records_in (take (i - 1) xs)), datum_of x.payload, sub n (records_in (drop i xs)), p, none, ap (sub n) (sym whole) ∙ last_cut n xs i x pos le e same)
+    (sub n (records_in (take (i - 1) xs)), field_data_of x.payload, sub n (records_in (drop i xs)), p, none, ap (sub n) (sym whole) ∙ last_cut n xs i x pos le e same)
 
-pub found_last : {M : Type 0} (one : Datum → Option M) (n : ℕ) (xs : List UnknownField) (i : ℕ) (x : UnknownField) (v : M) → 0 < i → i ≤ length xs → x ≡ get_or xs (i - 1) x → x.number ≡ n
-    → Some v ≡ one (datum_of x.payload)
+pub found_last : {M : Type 0} (one : FieldData → Option M) (n : ℕ) (xs : List UnknownField) (i : ℕ) (x : UnknownField) (v : M) → 0 < i → i ≤ length xs → x ≡ get_or xs (i - 1) x → x.number ≡ n
+    → Some v ≡ one (field_data_of x.payload)
     → filter_map one (sub n (records_in (drop i xs))) ≡ [] → Some v ≡ last_read one (sub n (records_in xs))
 found_last one n xs i x v pos le e same some h =
     let front = sub n (records_in (take (i - 1) xs)) in
-    let d = datum_of x.payload in
+    let d = field_data_of x.payload in
     let cut = last_cut n xs i x pos le e same in
     sym (ap (last_read one) cut
     ∙ ap (last_or None) (filter_map-append one front (d ∷ sub n (records_in (drop i xs)))

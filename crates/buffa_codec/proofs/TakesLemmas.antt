@@ -5,10 +5,10 @@ use Rattle.std.proofs.lemmas.List.{map-append}
 use Rattle.buffa_bytes.proofs.ResultLemmas.{OnErr-always}
 use Rattle.buffa_bytes.specs.declared.wire_type.WireType.{WireType}
 use Rattle.buffa_wire.specs.BudgetLeft.{BudgetLeft}
-use Rattle.buffa_bytes.specs.Content.{content_at}
-use Rattle.buffa_bytes.specs.Content.Content.{number}
-use Rattle.buffa_wire.specs.Records.{Datum, bytes}
-use Rattle.buffa_wire.specs.View.{records_in, datum_of}
+use Rattle.buffa_bytes.specs.PayloadValue.{payload_value_at}
+use Rattle.buffa_bytes.specs.PayloadValue.PayloadValue.{number}
+use Rattle.buffa_wire.specs.Records.{FieldData, bytes}
+use Rattle.buffa_wire.specs.View.{records_in, field_data_of}
 use Rattle.buffa_wire.specs.declared.unknown_fields.UnknownField.{UnknownField}
 use Rattle.buffa_codec.specs.Packed.{numbers_in}
 use Rattle.buffa_codec.specs.PackedFacts.{numbers_step}
@@ -18,14 +18,14 @@ use Rattle.buffa_codec.proofs.ListLemmas.{some_there}
 use Rattle.buffa_codec.proofs.TurnLemmas.{sub-cut}
 
 -- a record of the number that stands somewhere is such
-pub has_record : {T E : Type 0} (r : Result T E) (P : Datum → Type 0) (n : ℕ) (xs : List UnknownField) (i : ℕ) (x : UnknownField) (rs : List (ℕ × Datum)) → i < length xs → x ≡ get_or xs i x → x.number ≡ n
-    → records_in xs ≡ rs → P (datum_of x.payload) → OnErr r (Has P (sub n rs))
+pub has_record : {T E : Type 0} (r : Result T E) (P : FieldData → Type 0) (n : ℕ) (xs : List UnknownField) (i : ℕ) (x : UnknownField) (rs : List (ℕ × FieldData)) → i < length xs → x ≡ get_or xs i x → x.number ≡ n
+    → records_in xs ≡ rs → P (field_data_of x.payload) → OnErr r (Has P (sub n rs))
 has_record r P n xs i x rs lt e same whole p =
-    OnErr-always r (sub n (records_in (take i xs)), datum_of x.payload, sub n (records_in (drop (i + 1) xs)), p, ap (sub n) (sym whole) ∙ sub-cut n xs i x lt e same)
+    OnErr-always r (sub n (records_in (take i xs)), field_data_of x.payload, sub n (records_in (drop (i + 1) xs)), p, ap (sub n) (sym whole) ∙ sub-cut n xs i x lt e same)
 
 -- ---- elements of lists
 
-module _ {M T E : Type 0} (r : Result T E) (asks : Datum → Type 0) (one : BudgetLeft → Datum → Option M) (packed : List ℕ → List M) (d : Datum) where
+module _ {M T E : Type 0} (r : Result T E) (asks : FieldData → Type 0) (one : BudgetLeft → FieldData → Option M) (packed : List ℕ → List M) (d : FieldData) where
   pub takes_own : asks d → OnErr r (AsksInList asks one packed d)
   takes_own h = OnErr-always r (inl h)
 
@@ -43,7 +43,7 @@ module _ {M T E : Type 0} (r : Result T E) (asks : Datum → Type 0) (one : Budg
 
 -- ---- packed numbers
 
-pub packs_some : {M T E : Type 0} (r : Result T E) (w : WireType) (of : ℕ → M) (all rest left : List ℕ) (n : ℕ) (done : List ℕ) → content_at w rest ≡ Ok (number n, left)
+pub packs_some : {M T E : Type 0} (r : Result T E) (w : WireType) (of : ℕ → M) (all rest left : List ℕ) (n : ℕ) (done : List ℕ) → payload_value_at w rest ≡ Ok (number n, left)
     → numbers_in w all ≡ done ++ numbers_in w rest → OnErr r (map of (numbers_in w all) ≢ [])
 packs_some r w of all rest left n done e h =
     OnErr-always r (λ none. some_there (map of done) (map of (numbers_in w left)) (of n)
@@ -51,5 +51,5 @@ packs_some r w of all rest left n done e h =
 
 -- ---- strings
 
-pub takes_text : {T E : Type 0} (r : Result T E) (d : Datum) (b : List ℕ) → Some b ≡ string_held d → b ≢ [] → OnErr r (HasByte (string_held d))
+pub takes_text : {T E : Type 0} (r : Result T E) (d : FieldData) (b : List ℕ) → Some b ≡ string_held d → b ≢ [] → OnErr r (HasByte (string_held d))
 takes_text r d b e some = OnErr-always r (subst HasByte e some)

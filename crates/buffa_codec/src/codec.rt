@@ -6,8 +6,8 @@ ghost use Rattle.std.specs.Prelude.{IsOk, ◌+◌, ◌-◌, ◌<◌, ◌≤◌, 
 ghost use Rattle.buffa_bytes.specs.declared.error.EncodeError.{EncodeError};
 ghost use Rattle.buffa_bytes.specs.Written.{UsesRoom};
 ghost use Rattle.buffa_wire.specs.BudgetLeft.{BudgetLeft, Covers, Pays, budget_left, defaults};
-ghost use Rattle.buffa_wire.specs.Records.{Datum, bytes};
-ghost use Rattle.buffa_wire.specs.View.{datum_of};
+ghost use Rattle.buffa_wire.specs.Records.{FieldData, bytes};
+ghost use Rattle.buffa_wire.specs.View.{field_data_of};
 ghost use Rattle.buffa_codec.specs.Sub.{sub, tagged};
 ghost use Rattle.buffa_codec.specs.Decoded.{Adds, AddsSome, AddsSomeValues, AddsValues, KeepsCapacity, LeavesIn, Refuses};
 ghost use Rattle.buffa_codec.specs.Decoded.{SpendsIn, UsesVecRoom, one_in};
@@ -51,10 +51,10 @@ pub trait ExtensionCodec {
     ghost answer: { Self.Output → Answer };
 
     /// Whether the records of the number may be read as that.
-    ghost reads: { List Datum → Answer → Type 0 };
+    ghost reads: { List FieldData → Answer → Type 0 };
 
     /// The records of a value.
-    ghost recs: { Meaning → List Datum };
+    ghost extension_data: { Meaning → List FieldData };
 
     /// Why a value can't be written, memory aside.
     ghost refusal: { Meaning → Option EncodeError };
@@ -75,7 +75,7 @@ pub trait ExtensionCodec {
     ghost in_room: { Meaning → Type 0 };
 
     /// Whether reading these records of the number takes memory. Of a codec of one value, only the record that counts does.
-    ghost asks: { List Datum → Type 0 };
+    ghost asks: { List FieldData → Type 0 };
 
     /// Reads the records of the number.
     ///
@@ -109,12 +109,12 @@ pub trait ExtensionCodec {
         value: Self::Value,
         fields: &mut UnknownFields,
     ) -> Result<(), EncodeError>
-        ensures ok { OnOk result (Adds fields.old.records (tagged number (recs (meaning value))) fields.new.records) }
-        ensures err { OnErr result (AddsSome fields.old.records (tagged number (recs (meaning value)))
+        ensures ok { OnOk result (Adds fields.old.records (tagged number (extension_data (meaning value))) fields.new.records) }
+        ensures err { OnErr result (AddsSome fields.old.records (tagged number (extension_data (meaning value)))
             fields.new.records) }
         ensures refused { Refuses result (refusal (meaning value)) }
         ensures room { KeepsCapacity fields.old fields.new }
-        ensures reserved { in_room (meaning value) → length (recs (meaning value)) ≤ fields.old.spare → IsOk result }
+        ensures reserved { in_room (meaning value) → length (extension_data (meaning value)) ≤ fields.old.spare → IsOk result }
         ensures fits { OnOk result (fits (meaning value)) };
 
     /// The same as [`ExtensionCodec::try_encode`].
@@ -131,19 +131,19 @@ pub trait ExtensionCodec {
         value: Self::Value,
         fields: &mut UnknownFields,
     ) -> Result<(), EncodeError>
-        ensures ok { OnOk result (Adds fields.old.records (tagged number (recs (meaning value))) fields.new.records) }
-        ensures err { OnErr result (AddsSome fields.old.records (tagged number (recs (meaning value)))
+        ensures ok { OnOk result (Adds fields.old.records (tagged number (extension_data (meaning value))) fields.new.records) }
+        ensures err { OnErr result (AddsSome fields.old.records (tagged number (extension_data (meaning value)))
             fields.new.records) }
         ensures refused { Refuses result (refusal (meaning value)) }
         ensures room { KeepsCapacity fields.old fields.new }
-        ensures reserved { in_room (meaning value) → length (recs (meaning value)) ≤ fields.old.spare → IsOk result }
+        ensures reserved { in_room (meaning value) → length (extension_data (meaning value)) ≤ fields.old.spare → IsOk result }
         ensures fits { OnOk result (fits (meaning value)) }
     {
         Self::try_encode(alloc, number, value, fields)
     }
 
     /// The records of a value are read back.
-    ghost reads_back: { (v : Meaning) (o : Answer) → fits v → normal v → reads (recs v) o → holds v o };
+    ghost reads_back: { (v : Meaning) (o : Answer) → fits v → normal v → reads (extension_data v) o → holds v o };
 }
 
 /// How one record is read as a value, and a value is written as one record.
@@ -161,16 +161,16 @@ pub trait SingularCodec {
     type Value: Blank;
 
     /// What a record is read as, at a depth and of what is left of a budget.
-    ghost one: { ℕ → BudgetLeft → Datum → Option Self.Value.Meaning };
+    ghost one: { ℕ → BudgetLeft → FieldData → Option Self.Value.Meaning };
 
     /// What reading a record may leave of a budget.
-    ghost leaves: { ℕ → BudgetLeft → Datum → BudgetLeft → Type 0 };
+    ghost leaves: { ℕ → BudgetLeft → FieldData → BudgetLeft → Type 0 };
 
     /// The packed values in bytes.
     ghost packed: { List ℕ → List Self.Value.Meaning };
 
     /// The record of a value.
-    ghost datum: { Self.Value.Meaning → Datum };
+    ghost field_data: { Self.Value.Meaning → FieldData };
 
     /// Why a value can't be written, memory aside.
     ghost refusal: { Self.Value.Meaning → Option EncodeError };
@@ -185,10 +185,10 @@ pub trait SingularCodec {
     ghost back: { Self.Value.Meaning → Self.Value.Meaning };
 
     /// What a record costs that is read as a value.
-    ghost cost: { Datum → BudgetLeft };
+    ghost cost: { FieldData → BudgetLeft };
 
     /// The most that reading a record spends, at a depth.
-    ghost most: { ℕ → Datum → BudgetLeft };
+    ghost most: { ℕ → FieldData → BudgetLeft };
 
     /// Neither reading nor writing one record takes memory.
     ghost never_fails: { Type 0 };
@@ -197,7 +197,7 @@ pub trait SingularCodec {
     ghost made_free: { Self.Value.Meaning → Type 0 };
 
     /// Whether reading a record takes memory.
-    ghost asks: { Datum → Type 0 };
+    ghost asks: { FieldData → Type 0 };
 
     /// Reads a record under a default budget, 100 levels deep.
     ///
@@ -211,9 +211,9 @@ pub trait SingularCodec {
         alloc: Global,
         payload: &UnknownFieldData,
     ) -> Result<Option<Self::Value>, AllocError>
-        ensures reads { IfOk result (λ o. option_map Self.Value.meaning o ≡ one 100 defaults (datum_of payload.now)) }
+        ensures reads { IfOk result (λ o. option_map Self.Value.meaning o ≡ one 100 defaults (field_data_of payload.now)) }
         ensures always { never_fails → IsOk result }
-        ensures full { OnErr result (asks (datum_of payload.now)) };
+        ensures full { OnErr result (asks (field_data_of payload.now)) };
 
     /// Reads a record at the context's depth, of what its budget has left.
     ///
@@ -230,12 +230,12 @@ pub trait SingularCodec {
         ctx: DecodeContext<'_>,
     ) -> Result<Option<Self::Value>, AllocError>
         ensures reads { IfOk result (λ o. option_map Self.Value.meaning o
-            ≡ one_in one ctx.entry (datum_of payload.now)) }
-        ensures leaves { IsOk result → LeavesIn leaves ctx.entry (datum_of payload.now) (budget_left ctx.exit) }
+            ≡ one_in one ctx.entry (field_data_of payload.now)) }
+        ensures leaves { IsOk result → LeavesIn leaves ctx.entry (field_data_of payload.now) (budget_left ctx.exit) }
         ensures spent { OnErr result (Covers ctx.entry.budget.now (budget_left ctx.exit)) }
-        ensures most { SpendsIn most ctx.entry (datum_of payload.now) (budget_left ctx.exit) }
+        ensures most { SpendsIn most ctx.entry (field_data_of payload.now) (budget_left ctx.exit) }
         ensures always { never_fails → IsOk result }
-        ensures full { OnErr result (asks (datum_of payload.now)) };
+        ensures full { OnErr result (asks (field_data_of payload.now)) };
 
     /// Puts the packed values behind the others.
     ///
@@ -263,7 +263,7 @@ pub trait SingularCodec {
     /// let payload = <Int32 as SingularCodec>::try_encode_one(alloc, &5)?; // UnknownFieldData::Varint(5)
     /// ```
     fn try_encode_one(alloc: Global, value: &Self::Value) -> Result<UnknownFieldData, EncodeError>
-        ensures record { IfOk result (λ d. datum_of d ≡ datum (Self.Value.meaning value.now)) }
+        ensures record { IfOk result (λ d. field_data_of d ≡ field_data (Self.Value.meaning value.now)) }
         ensures refused { Refuses result (refusal (Self.Value.meaning value.now)) }
         ensures fits { OnOk result (fits (Self.Value.meaning value.now)) }
         ensures always { never_fails → IsOk result }
@@ -278,7 +278,7 @@ pub trait SingularCodec {
     /// let payload = <Int32 as SingularCodec>::encode_one(alloc, &5)?; // UnknownFieldData::Varint(5)
     /// ```
     fn encode_one(alloc: Global, value: &Self::Value) -> Result<UnknownFieldData, EncodeError>
-        ensures record { IfOk result (λ d. datum_of d ≡ datum (Self.Value.meaning value.now)) }
+        ensures record { IfOk result (λ d. field_data_of d ≡ field_data (Self.Value.meaning value.now)) }
         ensures refused { Refuses result (refusal (Self.Value.meaning value.now)) }
         ensures fits { OnOk result (fits (Self.Value.meaning value.now)) }
         ensures always { never_fails → IsOk result }
@@ -288,7 +288,7 @@ pub trait SingularCodec {
     }
 
     /// The record of a value is read back, where its cost is left.
-    ghost reads_datum: { (v : _) (b : _) → fits v → normal v → Covers b (cost (datum v)) → one 100 b (datum v)
+    ghost reads_field_data: { (v : _) (b : _) → fits v → normal v → Covers b (cost (field_data v)) → one 100 b (field_data v)
         ≡ Some (back v) };
 
     /// A record that is read as a value spends its cost.
@@ -296,7 +296,7 @@ pub trait SingularCodec {
         Pays b (cost d) left };
 
     /// No record gives back what was spent.
-    ghost spends: { (b left : BudgetLeft) (d : Datum) → leaves 100 b d left → Covers b left };
+    ghost spends: { (b left : BudgetLeft) (d : FieldData) → leaves 100 b d left → Covers b left };
 }
 
 /// How values are packed into the bytes of one record.
@@ -345,7 +345,7 @@ pub(crate) fn push_record(
     payload: UnknownFieldData,
     fields: &mut UnknownFields,
 ) -> Result<(), EncodeError>
-    ensures ok { OnOk result (Adds fields.old.records ((number, datum_of payload) ∷ []) fields.new.records) }
+    ensures ok { OnOk result (Adds fields.old.records ((number, field_data_of payload) ∷ []) fields.new.records) }
     ensures err { OnErr result (fields.new ≡ fields.old) }
     ensures refused { Refuses result None }
     ensures room { KeepsCapacity fields.old fields.new }

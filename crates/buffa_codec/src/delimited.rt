@@ -38,7 +38,7 @@ impl SingularCodec for StringCodec {
 
     ghost packed = { λ bs. [] };
 
-    ghost datum = { bytes };
+    ghost field_data = { bytes };
 
     ghost refusal = { λ v. None };
 
@@ -86,7 +86,7 @@ impl SingularCodec for StringCodec {
         Ok(UnknownFieldData::LengthDelimited(copied(alloc, value.as_bytes())?))
     }
 
-    ghost reads_datum = { λ v b f n h. string_back v f };
+    ghost reads_field_data = { λ v b f n h. string_back v f };
 
     ghost spends_cost = { λ b left d v e h. pays_nothing b left h };
 
@@ -119,7 +119,7 @@ impl SingularCodec for BytesCodec {
 
     ghost packed = { λ bs. [] };
 
-    ghost datum = { bytes };
+    ghost field_data = { bytes };
 
     ghost refusal = { λ v. None };
 
@@ -166,7 +166,7 @@ impl SingularCodec for BytesCodec {
         Ok(UnknownFieldData::LengthDelimited(copied(alloc, value.as_slice())?))
     }
 
-    ghost reads_datum = { λ v b f n h. refl };
+    ghost reads_field_data = { λ v b f n h. refl };
 
     ghost spends_cost = { λ b left d v e h. pays_nothing b left h };
 

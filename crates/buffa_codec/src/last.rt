@@ -2,7 +2,7 @@
 
 ghost use Rattle.std.specs.Prelude.{◌≡◌, [], ◌∷◌, Option, Some, None, option_map};
 ghost use Rattle.buffa_wire.specs.BudgetLeft.{BudgetLeft, Covers, defaults};
-ghost use Rattle.buffa_wire.specs.Records.{Datum};
+ghost use Rattle.buffa_wire.specs.Records.{FieldData};
 ghost use Rattle.buffa_codec.specs.Decoded.{HasLast, last_read};
 ghost use Rattle.buffa_codec.specs.CodecFacts.{last_of_one};
 
@@ -17,16 +17,16 @@ use std::alloc::{AllocError, Global};
 /// ```
 pub trait LastWins: SingularCodec {
     /// No budget changes what a record is read as.
-    ghost same: { (b c : BudgetLeft) (d : Datum) → Self.one 100 b d ≡ Self.one 100 c d };
+    ghost same: { (b c : BudgetLeft) (d : FieldData) → Self.one 100 b d ≡ Self.one 100 c d };
 
     /// A reading spends nothing.
-    ghost free: { (b left : BudgetLeft) (d : Datum) → Self.leaves 100 b d left → left ≡ b };
+    ghost free: { (b left : BudgetLeft) (d : FieldData) → Self.leaves 100 b d left → left ≡ b };
 
     /// A reading may be made.
-    ghost made: { (b : BudgetLeft) (d : Datum) → Self.leaves 100 b d b };
+    ghost made: { (b : BudgetLeft) (d : FieldData) → Self.leaves 100 b d b };
 
     /// The record of a value costs no more than there is.
-    ghost covered: { (v : Self.Value.Meaning) → Covers defaults (Self.cost (Self.datum v)) };
+    ghost covered: { (v : Self.Value.Meaning) → Covers defaults (Self.cost (Self.field_data v)) };
 }
 
 impl<C: LastWins> ExtensionCodec for C {
@@ -44,7 +44,7 @@ impl<C: LastWins> ExtensionCodec for C {
 
     ghost reads = { λ ds o. o ≡ last_read (C.one 100 defaults) ds };
 
-    ghost recs = { λ v. C.datum v ∷ [] };
+    ghost extension_data = { λ v. C.field_data v ∷ [] };
 
     ghost refusal = { C.refusal };
 
@@ -91,6 +91,6 @@ impl<C: LastWins> ExtensionCodec for C {
     }
 
     ghost reads_back = { λ v o f n h.
-        last_of_one (C.one 100 defaults) (C.datum v) (C.back v) o
-        (C.SingularCodec.reads_datum v defaults f n (C.LastWins.covered v)) h };
+        last_of_one (C.one 100 defaults) (C.field_data v) (C.back v) o
+        (C.SingularCodec.reads_field_data v defaults f n (C.LastWins.covered v)) h };
 }

@@ -105,7 +105,7 @@ impl<N: Numbered> SingularCodec for N {
 
     ghost packed = { λ bs. map N.value_of (numbers_in N.Form.WIRE_TYPE bs) };
 
-    ghost datum = { λ v. N.Form.datum (N.number_of v) };
+    ghost field_data = { λ v. N.Form.field_data (N.number_of v) };
 
     ghost refusal = { λ v. None };
 
@@ -155,7 +155,7 @@ impl<N: Numbered> SingularCodec for N {
         Ok(<N::Form as Form>::record_of(N::number_of(value)))
     }
 
-    ghost reads_datum = { λ v b f n h.
+    ghost reads_field_data = { λ v b f n h.
         ap (option_map N.value_of) (N.Form.Form.kept (N.number_of v)) ∙ ap some_of (N.Numbered.means v f) };
 
     ghost spends_cost = { λ b left d v e h. pays_nothing b left h };

@@ -36,7 +36,7 @@ impl<C: PackableCodec> ExtensionCodec for PackedRepeated<C> {
 
     ghost reads = { ReadsList (C.one 100) (C.leaves 100) C.packed };
 
-    ghost recs = { packed_record C.packed_encoding };
+    ghost extension_data = { packed_record C.packed_encoding };
 
     ghost refusal = { λ vs. None };
 

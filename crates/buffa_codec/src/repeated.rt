@@ -2,7 +2,7 @@
 
 ghost use Rattle.std.specs.Prelude.{◌≡◌, List, map, OnErr, OnOk};
 ghost use Rattle.std.specs.List.{AllByRecursion};
-ghost use Rattle.buffa_wire.specs.View.{datum_of};
+ghost use Rattle.buffa_wire.specs.View.{field_data_of};
 ghost use Rattle.buffa_codec.specs.Decoded.{AddsRecord, AsksInList, CoversAll, Has, ReadsList};
 ghost use Rattle.buffa_codec.specs.Decoded.{first_refusal};
 ghost use Rattle.buffa_wire.specs.BudgetLeft.{defaults};
@@ -40,13 +40,13 @@ impl<C: SingularCodec> ExtensionCodec for Repeated<C> {
 
     ghost reads = { ReadsList (C.one 100) (C.leaves 100) C.packed };
 
-    ghost recs = { map C.datum };
+    ghost extension_data = { map C.field_data };
 
     ghost refusal = { first_refusal C.refusal };
 
     ghost fits = { AllByRecursion C.fits };
 
-    ghost normal = { λ vs. AllByRecursion C.normal vs × CoversAll C.cost defaults (map C.datum vs) };
+    ghost normal = { λ vs. AllByRecursion C.normal vs × CoversAll C.cost defaults (map C.field_data vs) };
 
     ghost holds = { λ v o. o ≡ map C.back v };
 
@@ -85,7 +85,7 @@ impl<C: SingularCodec> ExtensionCodec for Repeated<C> {
     }
 
     ghost reads_back = { λ v o f n h.
-        list_back C.fits C.normal C.cost (C.one 100) (C.leaves 100) C.packed C.datum C.back C.SingularCodec.reads_datum
+        list_back C.fits C.normal C.cost (C.one 100) (C.leaves 100) C.packed C.field_data C.back C.SingularCodec.reads_field_data
         C.SingularCodec.spends_cost defaults v o h.0 f n.0 n.1 h.1 };
 }
 
@@ -96,10 +96,10 @@ fn read_one<C: SingularCodec>(
     budget: &mut Budget,
     out: &mut Vec<C::Value>,
 ) -> Result<(), AllocError>
-    ensures leaves { OnOk result (C.leaves 100 budget.old (datum_of payload.now) budget.new) }
+    ensures leaves { OnOk result (C.leaves 100 budget.old (field_data_of payload.now) budget.new) }
     ensures values { OnOk result (AddsRecord C.Value.meaning C.packed (C.one 100 budget.old) out.old.items
-        (datum_of payload.now) out.new.items) }
-    ensures full { OnErr result (AsksInList C.asks (C.one 100) C.packed (datum_of payload.now)) }
+        (field_data_of payload.now) out.new.items) }
+    ensures full { OnErr result (AsksInList C.asks (C.one 100) C.packed (field_data_of payload.now)) }
 {
     let ctx = DecodeContext {
         depth: RECURSION_LIMIT,

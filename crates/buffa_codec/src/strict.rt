@@ -4,8 +4,8 @@ ghost use Rattle.std.specs.Prelude.{◌≡◌, ℕ, List, None, Option, Some, If
 ghost use Rattle.std.proofs.Common.{ap, sym, ◌∙◌};
 ghost use Rattle.buffa_bytes.specs.declared.error.DecodeError.{DecodeError};
 ghost use Rattle.buffa_wire.specs.BudgetLeft.{BudgetLeft, PaysAtMost, defaults};
-ghost use Rattle.buffa_wire.specs.Records.{Datum};
-ghost use Rattle.buffa_wire.specs.View.{datum_of};
+ghost use Rattle.buffa_wire.specs.Records.{FieldData};
+ghost use Rattle.buffa_wire.specs.View.{field_data_of};
 ghost use Rattle.buffa_codec.specs.Decoded.{Has};
 ghost use Rattle.buffa_codec.specs.Strict.{AreElements, Faultless, FirstElementFault, FirstFault, IsFaultOrFull};
 ghost use Rattle.buffa_codec.specs.Strict.{bytes_fault, number_list_fault, packed_fault, string_fault, unless_found};
@@ -32,10 +32,10 @@ use std::alloc::Global;
 /// ```
 pub trait StrictCodec: ExtensionCodec {
     /// Each record of the number is read.
-    ghost IsFaultless: { ℕ → List Datum → Type 0 };
+    ghost IsFaultless: { ℕ → List FieldData → Type 0 };
 
     /// The fault of the first record of the number that isn't read.
-    ghost HasFault: { ℕ → List Datum → DecodeError → Type 0 };
+    ghost HasFault: { ℕ → List FieldData → DecodeError → Type 0 };
 
     /// Reads the records of the number as [`ExtensionCodec::decode`] does, where each of them is read.
     ///
@@ -56,7 +56,7 @@ pub trait StrictCodec: ExtensionCodec {
             (Self.asks (sub number fields.now.records))) };
 
     /// Records that are all read have no fault.
-    ghost not_both: { (n : ℕ) (ds : List Datum) (e : DecodeError) → IsFaultless n ds → HasFault n ds e → ⊥ };
+    ghost not_both: { (n : ℕ) (ds : List FieldData) (e : DecodeError) → IsFaultless n ds → HasFault n ds e → ⊥ };
 }
 
 /// A codec of one value that says why a record can't be read as a value.
@@ -66,7 +66,7 @@ pub trait StrictCodec: ExtensionCodec {
 /// ```
 pub trait StrictSingularCodec: SingularCodec {
     /// Why a record of the number is no value.
-    ghost fault: { ℕ → Datum → Option DecodeError };
+    ghost fault: { ℕ → FieldData → Option DecodeError };
 
     /// Why a record of the number is no value, where it is none. It takes no memory.
     ///
@@ -74,14 +74,14 @@ pub trait StrictSingularCodec: SingularCodec {
     /// let fault = C::fault(number, &field.payload); // Some(DecodeError::InvalidUtf8)
     /// ```
     fn fault(number: u32, payload: &UnknownFieldData) -> Option<DecodeError>
-        ensures { result ≡ fault number (datum_of payload.now) };
+        ensures { result ≡ fault number (field_data_of payload.now) };
 
     /// A record without a fault is a value.
-    ghost faultless_read: { (n : ℕ) (b : BudgetLeft) (d : Datum) → fault n d ≡ None →
+    ghost faultless_read: { (n : ℕ) (b : BudgetLeft) (d : FieldData) → fault n d ≡ None →
         (v : Self.Value.Meaning) × (Self.one 100 b d ≡ Some v) };
 
     /// A record that is a value has no fault.
-    ghost read_faultless: { (n : ℕ) (b : BudgetLeft) (d : Datum) (v : Self.Value.Meaning) → Self.one 100 b d ≡ Some v →
+    ghost read_faultless: { (n : ℕ) (b : BudgetLeft) (d : FieldData) (v : Self.Value.Meaning) → Self.one 100 b d ≡ Some v →
         fault n d ≡ None };
 }
 
@@ -92,10 +92,10 @@ pub trait StrictSingularCodec: SingularCodec {
 /// ```
 pub trait StrictElementCodec: SingularCodec {
     /// A record of the number is an element, or packed ones to its end, by what is left of a budget.
-    ghost IsElement: { ℕ → BudgetLeft → Datum → Type 0 };
+    ghost IsElement: { ℕ → BudgetLeft → FieldData → Type 0 };
 
     /// Why it is not.
-    ghost ElementFault: { ℕ → BudgetLeft → Datum → DecodeError → Type 0 };
+    ghost ElementFault: { ℕ → BudgetLeft → FieldData → DecodeError → Type 0 };
 
     /// Checks that a record of the number is an element, or packed elements to its end, and spends what reading it
     /// spends.
@@ -112,22 +112,22 @@ pub trait StrictElementCodec: SingularCodec {
         payload: &UnknownFieldData,
         budget: &mut Budget,
     ) -> Result<(), DecodeError>
-        ensures element { OnOk result (IsElement number budget.old (datum_of payload.now)) }
-        ensures leaves { OnOk result (Self.leaves 100 budget.old (datum_of payload.now) budget.new) }
-        ensures most { PaysAtMost budget.old (Self.most 100 (datum_of payload.now)) budget.new }
-        ensures fault { IfErr result (IsFaultOrFull (ElementFault number budget.old (datum_of payload.now))
-            (Self.asks (datum_of payload.now))) };
+        ensures element { OnOk result (IsElement number budget.old (field_data_of payload.now)) }
+        ensures leaves { OnOk result (Self.leaves 100 budget.old (field_data_of payload.now) budget.new) }
+        ensures most { PaysAtMost budget.old (Self.most 100 (field_data_of payload.now)) budget.new }
+        ensures fault { IfErr result (IsFaultOrFull (ElementFault number budget.old (field_data_of payload.now))
+            (Self.asks (field_data_of payload.now))) };
 
     /// An element has no fault.
-    ghost no_element_fault: { (n : ℕ) (b : BudgetLeft) (d : Datum) (e : DecodeError) → IsElement n b d →
+    ghost no_element_fault: { (n : ℕ) (b : BudgetLeft) (d : FieldData) (e : DecodeError) → IsElement n b d →
         ElementFault n b d e → ⊥ };
 
     /// What an element leaves of a budget is one.
-    ghost element_leaves: { (n : ℕ) (b x y : BudgetLeft) (d : Datum) → IsElement n b d → Self.leaves 100 b d x →
+    ghost element_leaves: { (n : ℕ) (b x y : BudgetLeft) (d : FieldData) → IsElement n b d → Self.leaves 100 b d x →
         Self.leaves 100 b d y → x ≡ y };
 
     /// A record that is a value is an element.
-    ghost value_is_element: { (n : ℕ) (b : BudgetLeft) (d : Datum) (v : Self.Value.Meaning) →
+    ghost value_is_element: { (n : ℕ) (b : BudgetLeft) (d : FieldData) (v : Self.Value.Meaning) →
         Self.one 100 b d ≡ Some v → IsElement n b d };
 }
 

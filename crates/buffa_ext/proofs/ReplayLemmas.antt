@@ -2,15 +2,15 @@
 use Rattle.std.proofs.Common.{◌≡◌, ℕ, ◌+◌, ◌≤◌, add_assoc, List, [], ◌∷◌, ◌++◌, refl, sym, ◌∙◌, ap, drop, map, take, length, arith}
 use Rattle.std.proofs.lemmas.List.{map-append, take-map}
 use Rattle.std.proofs.Math.Seq.{take-append_seam}
-use Rattle.buffa_wire.specs.Records.{Datum}
+use Rattle.buffa_wire.specs.Records.{FieldData}
 use Rattle.buffa_ext.specs.Steps.{NumberStep, RefusedAt, StepTakesMemory, after, after_one, put_count, put_in}
 
 -- one more step
-pub after-snoc : (rs : List (ℕ × Datum)) (cs : List NumberStep) (c : NumberStep) → after rs (cs ++ c ∷ []) ≡ after_one (after rs cs) c
+pub after-snoc : (rs : List (ℕ × FieldData)) (cs : List NumberStep) (c : NumberStep) → after rs (cs ++ c ∷ []) ≡ after_one (after rs cs) c
 after-snoc rs [] c = refl
 after-snoc rs (d ∷ cs) c = after-snoc (after_one rs d) cs c
 
-pub replays_one_more : {S : Type 0} (f : S → NumberStep) (start now next : List (ℕ × Datum)) (done : List S) (s : S)
+pub replays_one_more : {S : Type 0} (f : S → NumberStep) (start now next : List (ℕ × FieldData)) (done : List S) (s : S)
     → now ≡ after start (map f done) → next ≡ after_one now (f s) → next ≡ after start (map f (done ++ s ∷ []))
 replays_one_more f start now next done s so_far one =
     one ∙ ap (λ l. after_one l (f s)) so_far ∙ sym (after-snoc start (map f done) (f s)) ∙ ap (after start) (sym (map-append f done (s ∷ [])))

@@ -1,10 +1,10 @@
 -- Declared defaults.
 use Rattle.std.specs.Prelude.{ℕ, ◌⊎◌, List, Option, Some, None}
-use Rattle.buffa_wire.specs.Records.{Datum, Held}
+use Rattle.buffa_wire.specs.Records.{FieldData, Held}
 use Rattle.buffa_codec.specs.Sub.{sub}
 
 -- the records of a number are read as that
-abbrev pub ReadsNumber : {V A : Type 0} → (List Datum → A → Type 0) → (Option V → A) → ℕ → Held → Option V → Type 0
+abbrev pub ReadsNumber : {V A : Type 0} → (List FieldData → A → Type 0) → (Option V → A) → ℕ → Held → Option V → Type 0
 ReadsNumber reads answer n held o = reads (sub n held.records) (answer o)
 
 -- the value is the one that is read, else a declared one, else the blank

@@ -15,24 +15,24 @@ use Rattle.buffa_wire.specs.Message.{MergeFault}
 use Rattle.buffa_wire.specs.Parse.{AreValid, Fits}
 use Rattle.buffa_wire.specs.ReadableFacts.{Readable, readable}
 use Rattle.buffa_wire.specs.RecordReading.{list_at}
-use Rattle.buffa_wire.specs.Records.{Datum, group, records_of, records_height}
+use Rattle.buffa_wire.specs.Records.{FieldData, group, records_of, records_height}
 use Rattle.buffa_wire.specs.Encoding.{records_encoding, fields_encoding}
 use Rattle.buffa_wire.proofs.ByPayloadLemmas.{nothing_plus, plus_assoc}
 use Rattle.buffa_wire.proofs.LoopLemmas.{list_is_read}
 use Rattle.buffa_wire.proofs.ParseLemmas.{one_reading, encoding_parses}
 use Rattle.buffa_ext.specs.Messages.{LeavesOf, IsAllMerged, IsAnswer, IsEncodingRefused, MergesRecords, cost_all, group_held, group_of, group_refusal, is_left, merged_all, message_of, or_none, some_there, encoding_refusal, encodings_in, why_refused}
 
-pub left_yes : (b need : BudgetLeft) → Covers b need → is_left b need ≡ true
-left_yes b need h = rw (le-leb need.unknown b.unknown h.0, le-leb need.memory b.memory h.1) refl
+pub left_yes : (b charge : BudgetLeft) → Covers b charge → is_left b charge ≡ true
+left_yes b charge h = rw (le-leb charge.unknown b.unknown h.0, le-leb charge.memory b.memory h.1) refl
 
-pub left_no : (b need : BudgetLeft) → Lacks b need → is_left b need ≡ false
-left_no b need (inl h) = rw (lt-leb need.unknown b.unknown h) refl
-left_no b need (inr h) = rw (lt-leb need.memory b.memory h) (and_right (nat_le need.unknown b.unknown) false refl)
+pub left_no : (b charge : BudgetLeft) → Lacks b charge → is_left b charge ≡ false
+left_no b charge (inl h) = rw (lt-leb charge.unknown b.unknown h) refl
+left_no b charge (inr h) = rw (lt-leb charge.memory b.memory h) (and_right (nat_le charge.unknown b.unknown) false refl)
 
-pub left_true : (b need : BudgetLeft) → is_left b need ≡ true → Covers b need
-left_true b need h =
-    let t = and_parts (nat_le need.unknown b.unknown) (nat_le need.memory b.memory) h in
-    (leb-true need.unknown b.unknown t.0, leb-true need.memory b.memory t.1)
+pub left_true : (b charge : BudgetLeft) → is_left b charge ≡ true → Covers b charge
+left_true b charge h =
+    let t = and_parts (nat_le charge.unknown b.unknown) (nat_le charge.memory b.memory) h in
+    (leb-true charge.unknown b.unknown t.0, leb-true charge.memory b.memory t.1)
 
 -- the default budget
 pub is_full : (b : BudgetLeft) → b.unknown ≡ 1000000 → b.memory ≡ 268435456 → b ≡ defaults
@@ -42,8 +42,8 @@ some_if : {X : Type 0} (b : Bool) (o : Option X) (v : X) → (if b then o else N
 some_if true o v h = refl
 some_if false o v h = cc
 
-pub pays_covers : (b need over : BudgetLeft) → Pays b need over → Covers b need
-pays_covers b need over h = (omega (arith, h.0), omega (arith, h.1))
+pub pays_covers : (b charge over : BudgetLeft) → Pays b charge over → Covers b charge
+pays_covers b charge over h = (omega (arith, h.0), omega (arith, h.1))
 
 none_either : {X : Type 0} (b : Bool) (o : Option X) → o ≡ None → (if b then o else None) ≡ None
 none_either true o h = h
@@ -75,9 +75,9 @@ module _ {X : Type 0} (merged : X → List ℕ → Option X) (cost : List ℕ �
   answers blank new left after bs (Ok false) o m a = a ∙ sym (no_encoding blank left bs m.0)
   answers blank new left after bs (Err e) o m a = a.0 ∙ sym (message_none blank left bs e (m.1 a.1))
 
-  spent_by : (o : Option X) (b need left : BudgetLeft) → LeavesOf o b need left → Covers b left
-  spent_by (Some v) b need left h = (omega (arith, h), omega (arith, h))
-  spent_by None b need left h = (omega (arith, h), omega (arith, h))
+  spent_by : (o : Option X) (b charge left : BudgetLeft) → LeavesOf o b charge left → Covers b left
+  spent_by (Some v) b charge left h = (omega (arith, h), omega (arith, h))
+  spent_by None b charge left h = (omega (arith, h), omega (arith, h))
 
   pub spent : (blank : X) (b left : BudgetLeft) (bs : List (List ℕ)) → LeavesOf (message_of merged cost blank b bs) b (cost_all cost bs) left → Covers b left
   spent blank b left bs h = spent_by (message_of merged cost blank b bs) b (cost_all cost bs) left h
@@ -161,7 +161,7 @@ module _ {X : Type 0} (merged : X → List ℕ → Option X) (cost : List ℕ �
   fault_of_one t mid m err (inr h) = inr (alone_too (merged mid t) h.0, h.1)
 
   -- the encoding in one record is refused
-  pub encoding_refused : (held : Datum → Option (List ℕ)) (asks : Datum → Type 0) (d : Datum) (o : Option (List ℕ)) (mid new : X) (m a : BudgetLeft) (err : DecodeError) → held d ≡ o → encodings_in held (d ∷ []) ≢ []
+  pub encoding_refused : (held : FieldData → Option (List ℕ)) (asks : FieldData → Type 0) (d : FieldData) (o : Option (List ℕ)) (mid new : X) (m a : BudgetLeft) (err : DecodeError) → held d ≡ o → encodings_in held (d ∷ []) ≢ []
       → (err ≡ OutOfMemory → asks d) → IsAllMerged merged cost (encodings_in held (d ∷ [])) mid m (Err err) new a → IsEncodingRefused merged cost held asks d mid m err a
   encoding_refused held asks d None mid new m a err e some full k = absurd (some (ap (λ z. cons_option z []) e))
   encoding_refused held asks d (Some t) mid new m a err e some full k =
@@ -169,14 +169,14 @@ module _ {X : Type 0} (merged : X → List ℕ → Option X) (cost : List ℕ �
       let q = subst (λ l. IsAllMerged merged cost l mid m (Err err) new a) same k in
       (t, e, (omega (arith, q.0), omega (arith, q.0), omega (arith, q.0), omega (arith, q.0)), full, λ ne. fault_alone t mid m err (q.1 ne))
 
-  one_of_all : (held : Datum → Option (List ℕ)) (asks : Datum → Type 0) (d : Datum) (mid new : X) (m a : BudgetLeft) (err : DecodeError) → IsEncodingRefused merged cost held asks d mid m err a
+  one_of_all : (held : FieldData → Option (List ℕ)) (asks : FieldData → Type 0) (d : FieldData) (mid new : X) (m a : BudgetLeft) (err : DecodeError) → IsEncodingRefused merged cost held asks d mid m err a
       → IsAllMerged merged cost (encodings_in held (d ∷ [])) mid m (Err err) new a
   one_of_all held asks d mid new m a err h =
       subst (λ l. IsAllMerged merged cost l mid m (Err err) new a) (sym (ap (λ z. cons_option z []) h.1))
       ((omega (arith, h.2), omega (arith, h.2), omega (arith, h.2), omega (arith, h.2)), λ ne. fault_of_one h.0 mid m err (h.4 ne))
 
   -- so the encodings in all records are merged, or refused
-  pub all_merged : (held : Datum → Option (List ℕ)) (asks : Datum → Type 0) (ds : List Datum) (old new : X) (before after : BudgetLeft) (r : Result Bool DecodeError)
+  pub all_merged : (held : FieldData → Option (List ℕ)) (asks : FieldData → Type 0) (ds : List FieldData) (old new : X) (before after : BudgetLeft) (r : Result Bool DecodeError)
       → MergesRecords merged cost held asks ds old before r new after → IsAllMerged merged cost (encodings_in held ds) old before r new after
   all_merged held asks ds old new before after (Ok f) h = (h.0, h.1.0, h.1.1)
   all_merged held asks ds old new before after (Err e) (front, d, back, mid, left, cut, done, refused) =
@@ -185,7 +185,7 @@ module _ {X : Type 0} (merged : X → List ℕ → Option X) (cost : List ℕ �
       (refl, done.0, done.1) (one_of_all held asks d mid new left after e refused)
 
   -- the answer after merging records into a blank is the message of the encodings in them
-  pub records_answer : {V E : Type 0} (held : Datum → Option (List ℕ)) (asks : Datum → Type 0) (ds : List Datum) (old blank new : X) (before left after : BudgetLeft) (r : Result Bool DecodeError) (x : Result V E) (f : V → Option X)
+  pub records_answer : {V E : Type 0} (held : FieldData → Option (List ℕ)) (asks : FieldData → Type 0) (ds : List FieldData) (old blank new : X) (before left after : BudgetLeft) (r : Result Bool DecodeError) (x : Result V E) (f : V → Option X)
       → old ≡ blank → before ≡ left → MergesRecords merged cost held asks ds old before r new after → IfOk x (λ o. IsAnswer r new (f o)) → IfOk x (λ o. f o ≡ message_of merged cost blank left (encodings_in held ds))
   records_answer held asks ds old blank new before left after r (Ok o) f s b m a =
       let whole = all_merged held asks ds old new before after r m in
@@ -194,7 +194,7 @@ module _ {X : Type 0} (merged : X → List ℕ → Option X) (cost : List ℕ �
   records_answer held asks ds old blank new before left after r (Err e) f s b m a = tt
 
   -- one record, read back
-  pub one_message_back : (held : Datum → Option (List ℕ)) (blank v : X) (b : BudgetLeft) (d : Datum) (t : List ℕ) → held d ≡ Some t → merged blank t ≡ Some v
+  pub one_message_back : (held : FieldData → Option (List ℕ)) (blank v : X) (b : BudgetLeft) (d : FieldData) (t : List ℕ) → held d ≡ Some t → merged blank t ≡ Some v
       → Covers b (cost_all cost (encodings_in held (d ∷ []))) → message_of merged cost blank b (encodings_in held (d ∷ [])) ≡ Some v
   one_message_back held blank v b d t h e k =
       let same : encodings_in held (d ∷ []) ≡ t ∷ [] = ap (λ o. cons_option o []) h in
@@ -219,7 +219,7 @@ large_refusal refusal t h = ap (λ c. if c then refusal t else Some MessageTooLa
 
 -- ---- groups
 
-group_by : (rs : List (ℕ × Datum)) (r : Result (List (ℕ × Datum)) DecodeError) → list_at 100 1000000 (records_encoding rs) ≡ r → Readable (records_of rs) → why_refused r ≡ None
+group_by : (rs : List (ℕ × FieldData)) (r : Result (List (ℕ × FieldData)) DecodeError) → list_at 100 1000000 (records_encoding rs) ≡ r → Readable (records_of rs) → why_refused r ≡ None
     → group_held (group (records_of (or_none r))) ≡ Some (records_encoding rs)
 group_by rs (Ok qs) e f h =
     let read = agree_ok (list_at 100 1000000 (records_encoding rs)) qs (list_is_read 100 1000000 (records_encoding rs)) e in
@@ -228,16 +228,16 @@ group_by rs (Ok qs) e f h =
 group_by rs (Err g) e f h = absurd (none-some (GroupRefused g) (sym h))
 
 -- the group of an encoding holds it
-pub group_back : (rs : List (ℕ × Datum)) → AreValid (records_of rs) → Fits (records_of rs) → group_refusal (records_encoding rs) ≡ None → group_held (group_of (records_encoding rs)) ≡ Some (records_encoding rs)
+pub group_back : (rs : List (ℕ × FieldData)) → AreValid (records_of rs) → Fits (records_of rs) → group_refusal (records_encoding rs) ≡ None → group_held (group_of (records_encoding rs)) ≡ Some (records_encoding rs)
 group_back rs v f h = group_by rs (list_at 100 1000000 (records_encoding rs)) refl (readable (records_of rs) v f) h
 
 -- what a message's record is read as
-pub message_back : {X : Type 0} (merged : ℕ → X → List ℕ → Option X) (cost : ℕ → List ℕ → BudgetLeft) (held : Datum → Option (List ℕ)) (holder : List ℕ → Datum) (refusal : List ℕ → Option EncodeError)
-    (blank : X) (encoding : X → List ℕ) (records : X → List (ℕ × Datum)) (levels : X → ℕ) (normal : X → Type 0)
+pub message_back : {X : Type 0} (merged : ℕ → X → List ℕ → Option X) (cost : ℕ → List ℕ → BudgetLeft) (held : FieldData → Option (List ℕ)) (holder : List ℕ → FieldData) (refusal : List ℕ → Option EncodeError)
+    (blank : X) (encoding : X → List ℕ) (records : X → List (ℕ × FieldData)) (levels : X → ℕ) (normal : X → Type 0)
     → ((v : X) → encoding v ≡ records_encoding (records v))
     → ((v : X) → normal v → AreValid (records_of (records v)))
     → ((d : ℕ) (v : X) → Fits (records_of (records v)) → normal v → levels v ≤ d → merged d blank (encoding v) ≡ Some v)
-    → ((rs : List (ℕ × Datum)) → AreValid (records_of rs) → Fits (records_of rs) → refusal (records_encoding rs) ≡ None → held (holder (records_encoding rs)) ≡ Some (records_encoding rs))
+    → ((rs : List (ℕ × FieldData)) → AreValid (records_of rs) → Fits (records_of rs) → refusal (records_encoding rs) ≡ None → held (holder (records_encoding rs)) ≡ Some (records_encoding rs))
     → (v : X) (b : BudgetLeft) → encoding_refusal refusal (encoding v) ≡ None → normal v × (levels v ≤ 100) × Fits (records_of (records v))
     → Covers b (cost_all (cost 100) (encodings_in held (holder (encoding v) ∷ []))) → message_of (merged 100) (cost 100) blank b (encodings_in held (holder (encoding v) ∷ [])) ≡ Some v
 message_back merged cost held holder refusal blank encoding records levels normal is_text valid back kept v b f n k =

@@ -30,14 +30,14 @@ pub fn set_then_read<M: ExtensionSet, C: ExtensionCodec, D>(
     requires extendee { ext.now.extendee.now ≡ M.fqn }
     requires normal { C.normal (C.meaning value) }
     ensures value { IfOk result (λ o. C.holds (C.meaning value) (C.answer o)) }
-    ensures ok { OnOk result (IsSet ext.now.number (C.recs (C.meaning value)) (M.fields_of message.old)
+    ensures ok { OnOk result (IsSet ext.now.number (C.extension_data (C.meaning value)) (M.fields_of message.old)
         (M.fields_of message.new)) }
     ensures err { OnErr result (let v = C.meaning value in (message.new ≡ message.old)
-        ⊎ IsSetUnread ext.now.number (C.recs v) (C.refusal v) C.asks (M.fields_of message.old)
+        ⊎ IsSetUnread ext.now.number (C.extension_data v) (C.refusal v) C.asks (M.fields_of message.old)
         (M.fields_of message.new)) }
-    ensures full { OnErr result ((C.recs (C.meaning value) ≢ []) ⊎ C.asks (C.recs (C.meaning value))) }
+    ensures full { OnErr result ((C.extension_data (C.meaning value) ≢ []) ⊎ C.asks (C.extension_data (C.meaning value))) }
     ensures room { (M.fields_of message.old).spare ≤ (M.fields_of message.new).spare
-        + length (C.recs (C.meaning value)) }
+        + length (C.extension_data (C.meaning value)) }
     ensures unchanged { C.never_fails → OnErr result (message.new ≡ message.old) }
     ensures refused { Refuses result (C.refusal (C.meaning value)) }
     ensures fits { OnOk result (C.fits (C.meaning value)) }

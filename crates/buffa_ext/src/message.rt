@@ -7,7 +7,7 @@ ghost use Rattle.buffa_wire.specs.BudgetLeft.{Covers, defaults};
 ghost use Rattle.buffa_wire.specs.Parse.{Fits};
 ghost use Rattle.buffa_wire.specs.Records.{records_of};
 ghost use Rattle.buffa_codec.specs.Sub.{sub};
-ghost use Rattle.buffa_ext.specs.Messages.{IsAnswer, LeavesOfRecord, MergesRecords, ReachesRecord, StandsInRecord, StopsStanding};
+ghost use Rattle.buffa_ext.specs.Messages.{IsAnswer, LeavesOfRecord, MergesRecords, ReachesRecord, PartlyMergedRecord, StopsPartlyMerged};
 ghost use Rattle.buffa_ext.specs.Messages.{cost_all, message_of};
 ghost use Rattle.buffa_ext.specs.Messages.{encoding_refusal, encodings_in};
 ghost use Rattle.buffa_ext.specs.MessageFacts.{message_back, spent, spent_cost};
@@ -70,7 +70,7 @@ impl<K: MessageRecord, M: Message> SingularCodec for MessageIn<K, M> {
 
     ghost packed = { λ bs. [] };
 
-    ghost datum = { λ v. K.holder (M.encoding v) };
+    ghost field_data = { λ v. K.holder (M.encoding v) };
 
     ghost refusal = { λ v. encoding_refusal K.refusal (M.encoding v) };
 
@@ -123,7 +123,7 @@ impl<K: MessageRecord, M: Message> SingularCodec for MessageIn<K, M> {
         K::hold(alloc, encoding)
     }
 
-    ghost reads_datum = { λ v b f n h.
+    ghost reads_field_data = { λ v b f n h.
         message_back M.merged M.cost K.held K.holder K.refusal M.blank_is M.encoding M.records M.levels M.normal
         M.MessageSpec.encoding_records M.MessageSpec.valid M.MessageSpec.merged_encoding K.MessageRecord.held_back v b f n h };
 
@@ -153,8 +153,8 @@ pub fn merge_number<K: MessageRecord, M: Message>(
 ) -> Result<bool, DecodeError>
     ensures merged { MergesRecords (M.merged 100) (M.cost 100) K.held (K.asks 100) (sub number fields.now.records)
         (M.meaning message.old) budget.old result (M.meaning message.new) budget.new }
-    ensures stands { IfErr result (λ e. StopsStanding (M.merged 100) (M.cost 100) K.held (K.asks 100)
-        (StandsInRecord M.merged M.cost M.Refused K.held 100) (sub number fields.now.records) (M.meaning message.old)
+    ensures partly { IfErr result (λ e. StopsPartlyMerged (M.merged 100) (M.cost 100) K.held (K.asks 100)
+        (PartlyMergedRecord M.merged M.cost M.Refused K.held 100) (sub number fields.now.records) (M.meaning message.old)
         budget.old e (M.meaning message.new) budget.new) }
 {
     let mut found = false;
@@ -185,7 +185,7 @@ impl<K: MessageRecord, M: Message> ExtensionCodec for MessageIn<K, M> {
 
     ghost reads = { λ ds o. o ≡ message_of (M.merged 100) (M.cost 100) M.blank_is defaults (encodings_in K.held ds) };
 
-    ghost recs = { λ v. K.holder (M.encoding v) ∷ [] };
+    ghost extension_data = { λ v. K.holder (M.encoding v) ∷ [] };
 
     ghost refusal = { λ v. encoding_refusal K.refusal (M.encoding v) };
 

@@ -4,14 +4,14 @@ ghost use Rattle.std.specs.Prelude.{◌≡◌, ◌≢◌, ℕ, List, [], ◌∷�
 ghost use Rattle.buffa_bytes.specs.declared.error.EncodeError.{EncodeError};
 ghost use Rattle.buffa_bytes.specs.declared.error.EncodeError.TheVariants.{OutOfMemory};
 ghost use Rattle.buffa_bytes.specs.declared.wire_type.WireType.{WireType};
-ghost use Rattle.buffa_bytes.specs.Front.{FullOnlyIf};
+ghost use Rattle.buffa_bytes.specs.Readings.{FullOnlyIf};
 ghost use Rattle.buffa_wire.specs.BudgetLeft.{budget_left};
 ghost use Rattle.buffa_wire.specs.Parse.{AreValid, Fits};
-ghost use Rattle.buffa_wire.specs.Records.{Datum, bytes, records_of};
+ghost use Rattle.buffa_wire.specs.Records.{FieldData, bytes, records_of};
 ghost use Rattle.buffa_wire.specs.Encoding.{records_encoding};
-ghost use Rattle.buffa_wire.specs.View.{datum_of};
+ghost use Rattle.buffa_wire.specs.View.{field_data_of};
 ghost use Rattle.buffa_codec.specs.Decoded.{HasByte, Refuses, bytes_held};
-ghost use Rattle.buffa_ext.specs.Messages.{BeginsFieldIn, MergesOne, StandsInRecord, group_held, group_of};
+ghost use Rattle.buffa_ext.specs.Messages.{BeginsFieldIn, MergesOne, PartlyMergedRecord, group_held, group_of};
 ghost use Rattle.buffa_ext.specs.Messages.{group_refusal, encodings_in};
 ghost use Rattle.buffa_ext.specs.MessageFacts.{group_back};
 
@@ -37,13 +37,13 @@ pub trait MessageRecord {
     ghost WIRE_TYPE: { WireType };
 
     /// The encoding in a record of this kind.
-    ghost held: { Datum → Option (List ℕ) };
+    ghost held: { FieldData → Option (List ℕ) };
 
     /// The record that holds an encoding.
-    ghost holder: { List ℕ → Datum };
+    ghost holder: { List ℕ → FieldData };
 
     /// The records that hold an encoding which may take memory to be merged, at a depth.
-    ghost asks: { ℕ → Datum → Type 0 };
+    ghost asks: { ℕ → FieldData → Type 0 };
 
     /// Why no record holds an encoding, memory aside.
     ghost refusal: { List ℕ → Option EncodeError };
@@ -66,12 +66,12 @@ pub trait MessageRecord {
         message: &mut M,
         ctx: DecodeContext<'_>,
     ) -> Result<bool, DecodeError>
-        ensures merged { MergesOne M.merged M.cost held ctx.entry (datum_of payload.now) (M.meaning message.old) result
+        ensures merged { MergesOne M.merged M.cost held ctx.entry (field_data_of payload.now) (M.meaning message.old) result
             (M.meaning message.new) (budget_left ctx.exit) }
-        ensures encoding { OnErr result (encodings_in held (datum_of payload.now ∷ []) ≢ []) }
-        ensures stands { IfErr result (λ e. StandsInRecord M.merged M.cost M.Refused held ctx.entry.depth
-            (datum_of payload.now) (M.meaning message.old) ctx.entry.budget.now e (M.meaning message.new)) }
-        ensures full { FullOnlyIf result (asks ctx.entry.depth (datum_of payload.now)) };
+        ensures encoding { OnErr result (encodings_in held (field_data_of payload.now ∷ []) ≢ []) }
+        ensures partly { IfErr result (λ e. PartlyMergedRecord M.merged M.cost M.Refused held ctx.entry.depth
+            (field_data_of payload.now) (M.meaning message.old) ctx.entry.budget.now e (M.meaning message.new)) }
+        ensures full { FullOnlyIf result (asks ctx.entry.depth (field_data_of payload.now)) };
 
     /// The record that holds an encoding.
     ///
@@ -79,7 +79,7 @@ pub trait MessageRecord {
     /// Why no record holds it; or out of memory, but never for an encoding of no bytes, nor where holding takes
     /// none.
     fn hold(alloc: Global, encoding: Vec<u8>) -> Result<UnknownFieldData, EncodeError>
-        ensures record { IfOk result (λ d. datum_of d ≡ holder encoding.items) }
+        ensures record { IfOk result (λ d. field_data_of d ≡ holder encoding.items) }
         ensures refused { Refuses result (refusal encoding.items) }
         ensures full { IfErr result (λ e. e ≡ OutOfMemory → encoding.items ≢ []) }
         ensures always { never_fails → IsOk result };

@@ -137,12 +137,12 @@ pub trait ExtensionSet {
     ) -> Result<(), EncodeError>
         requires { ext.now.extendee.now ≡ fqn }
         // Accepted: the value's records stand behind those of other numbers.
-        ensures ok { OnOk result (IsSet ext.now.number (C.recs (C.meaning value)) (fields_of self.old)
+        ensures ok { OnOk result (IsSet ext.now.number (C.extension_data (C.meaning value)) (fields_of self.old)
             (fields_of self.new)) }
         // Refused: nothing is changed, and the error is what is wrong with the value, or want of memory.
         ensures err { OnErr result (self.new ≡ self.old) }
-        ensures room { (fields_of self.old).spare ≤ (fields_of self.new).spare + length (C.recs (C.meaning value)) }
-        ensures full { OnErr result (C.recs (C.meaning value) ≢ []) }
+        ensures room { (fields_of self.old).spare ≤ (fields_of self.new).spare + length (C.extension_data (C.meaning value)) }
+        ensures full { OnErr result (C.extension_data (C.meaning value) ≢ []) }
         ensures refused { Refuses result (C.refusal (C.meaning value)) }
         ensures fits { OnOk result (C.fits (C.meaning value)) }
         // Only the unknown fields are changed.
@@ -169,11 +169,11 @@ pub trait ExtensionSet {
         value: C::Value,
     ) -> Result<(), EncodeError>
         requires { ext.now.extendee.now ≡ fqn }
-        ensures ok { OnOk result (IsSet ext.now.number (C.recs (C.meaning value)) (fields_of self.old)
+        ensures ok { OnOk result (IsSet ext.now.number (C.extension_data (C.meaning value)) (fields_of self.old)
             (fields_of self.new)) }
         ensures err { OnErr result (self.new ≡ self.old) }
-        ensures room { (fields_of self.old).spare ≤ (fields_of self.new).spare + length (C.recs (C.meaning value)) }
-        ensures full { OnErr result (C.recs (C.meaning value) ≢ []) }
+        ensures room { (fields_of self.old).spare ≤ (fields_of self.new).spare + length (C.extension_data (C.meaning value)) }
+        ensures full { OnErr result (C.extension_data (C.meaning value) ≢ []) }
         ensures refused { Refuses result (C.refusal (C.meaning value)) }
         ensures fits { OnOk result (C.fits (C.meaning value)) }
         ensures rest { (w : Held) × (self.new ≡ with_fields self.old w) }

@@ -1,7 +1,7 @@
 //! Sets and clears, one after the other.
 
 ghost use Rattle.std.specs.Prelude.{◌≡◌, ◌≢◌, ◌<◌, [], length, map, take, OnOk, OnErr, IfErr, IfOk};
-ghost use Rattle.buffa_wire.specs.View.{datum_of};
+ghost use Rattle.buffa_wire.specs.View.{field_data_of};
 ghost use Rattle.buffa_codec.specs.Sub.{tagged};
 ghost use Rattle.buffa_ext.specs.Steps.{KeepsRoom, RefusedAt, StepTakesMemory, after, after_one, put_in, step_of};
 ghost use Rattle.std.specs.Prelude.{◌≤◌, ◌+◌};
@@ -50,8 +50,8 @@ fn staged(
     number: u32,
     payloads: Vec<UnknownFieldData>,
 ) -> Result<UnknownFields, AllocError>
-    ensures records { IfOk result (λ f. f.records ≡ tagged number (map datum_of payloads.items)) }
-    ensures memory { OnErr result (map datum_of payloads.items ≢ []) }
+    ensures records { IfOk result (λ f. f.records ≡ tagged number (map field_data_of payloads.items)) }
+    ensures memory { OnErr result (map field_data_of payloads.items ≢ []) }
 {
     let mut fields = UnknownFields::new(alloc);
     for payload in payloads {

@@ -2,10 +2,10 @@
 
 ghost use Rattle.std.specs.Prelude.{◌≡◌, ◌∷◌, [], None, Ok, Some, IfErr, IfOk, OnOk, option_map, true};
 ghost use Rattle.buffa_wire.specs.BudgetLeft.{PaysAtMost, defaults};
-ghost use Rattle.buffa_wire.specs.View.{datum_of};
+ghost use Rattle.buffa_wire.specs.View.{field_data_of};
 ghost use Rattle.buffa_codec.specs.Strict.{Faultless, IsFaultOrFull};
 ghost use Rattle.buffa_codec.specs.Sub.{sub};
-ghost use Rattle.buffa_ext.specs.Messages.{IsAllMerged, IsAnswer, StandsInRecord, cost_all, encodings_in, message_of};
+ghost use Rattle.buffa_ext.specs.Messages.{IsAllMerged, IsAnswer, PartlyMergedRecord, cost_all, encodings_in, message_of};
 ghost use Rattle.buffa_ext.specs.Strict.{AreMessages, FirstRecordFault, ReachesStrictly, MessageRecordFault, kind_fault};
 ghost use Rattle.buffa_ext.specs.StrictFacts.{no_fault, no_first_fault, one_left};
 
@@ -27,14 +27,14 @@ fn merge_one<K: MessageRecord, M: Message>(
     message: &mut M,
 ) -> Result<(), DecodeError>
     ensures merged { OnOk result (IsAllMerged (M.merged 100) (M.cost 100)
-        (encodings_in K.held (datum_of payload.now ∷ [])) (M.meaning message.old) budget.old (Ok true)
+        (encodings_in K.held (field_data_of payload.now ∷ [])) (M.meaning message.old) budget.old (Ok true)
         (M.meaning message.new) budget.new) }
-    ensures kind { OnOk result (kind_fault K.held K.WIRE_TYPE number (datum_of payload.now) ≡ None) }
-    ensures most { PaysAtMost budget.old (cost_all (M.cost 100) (encodings_in K.held (datum_of payload.now ∷ []))) budget.new }
+    ensures kind { OnOk result (kind_fault K.held K.WIRE_TYPE number (field_data_of payload.now) ≡ None) }
+    ensures most { PaysAtMost budget.old (cost_all (M.cost 100) (encodings_in K.held (field_data_of payload.now ∷ []))) budget.new }
     ensures fault { IfErr result (IsFaultOrFull (MessageRecordFault (M.merged 100) (M.cost 100) K.held K.WIRE_TYPE number
-        (datum_of payload.now) (M.meaning message.old) budget.old) (K.asks 100 (datum_of payload.now))) }
-    ensures stands { IfErr result (λ e. kind_fault K.held K.WIRE_TYPE number (datum_of payload.now) ≡ None →
-        StandsInRecord M.merged M.cost M.Refused K.held 100 (datum_of payload.now) (M.meaning message.old) budget.old e
+        (field_data_of payload.now) (M.meaning message.old) budget.old) (K.asks 100 (field_data_of payload.now))) }
+    ensures partly { IfErr result (λ e. kind_fault K.held K.WIRE_TYPE number (field_data_of payload.now) ≡ None →
+        PartlyMergedRecord M.merged M.cost M.Refused K.held 100 (field_data_of payload.now) (M.meaning message.old) budget.old e
         (M.meaning message.new)) }
 {
     let lent = DecodeContext {
@@ -67,8 +67,8 @@ fn merge_each<K: MessageRecord, M: Message>(
     ensures fault { IfErr result (λ e. ReachesStrictly (M.merged 100) (M.cost 100) K.held K.WIRE_TYPE number
         (λ d mid left. IsFaultOrFull (MessageRecordFault (M.merged 100) (M.cost 100) K.held K.WIRE_TYPE number d mid left)
         (K.asks 100 d) e) (M.meaning message.old) budget.old (sub number fields.now.records)) }
-    ensures stands { IfErr result (λ e. ReachesStrictly (M.merged 100) (M.cost 100) K.held K.WIRE_TYPE number
-        (λ d mid left. kind_fault K.held K.WIRE_TYPE number d ≡ None → StandsInRecord M.merged M.cost M.Refused K.held 100 d
+    ensures partly { IfErr result (λ e. ReachesStrictly (M.merged 100) (M.cost 100) K.held K.WIRE_TYPE number
+        (λ d mid left. kind_fault K.held K.WIRE_TYPE number d ≡ None → PartlyMergedRecord M.merged M.cost M.Refused K.held 100 d
         mid left e (M.meaning message.new)) (M.meaning message.old) budget.old (sub number fields.now.records)) }
 {
     let mut found = false;

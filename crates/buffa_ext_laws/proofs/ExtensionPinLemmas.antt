@@ -6,7 +6,7 @@ use Rattle.buffa_bytes.specs.declared.error.DecodeError.{DecodeError}
 use Rattle.buffa_bytes.specs.declared.error.DecodeError.TheVariants.{OutOfMemory}
 use Rattle.buffa_wire.specs.BudgetLeft.{BudgetLeft, Covers, Lacks, Pays, PaysAtMost, defaults, minus, nothing, plus}
 use Rattle.buffa_wire.specs.Message.{MergeFault}
-use Rattle.buffa_wire.specs.Records.{Datum, varint, fixed32, fixed64, bytes, group}
+use Rattle.buffa_wire.specs.Records.{FieldData, varint, fixed32, fixed64, bytes, group}
 use Rattle.buffa_codec.specs.Decoded.{ReadsAll, ReadsList, elements, unpacked}
 use Rattle.buffa_codec.specs.CodecFacts.{left_over, minus_nothing}
 use Rattle.buffa_ext.specs.Defaults.{IsDefaulted}
@@ -20,49 +20,49 @@ use Rattle.buffa_wire.proofs.SpentLemmas.{not_lacked}
 
 -- ---- records that are merged
 
-module _ {X : Type 0} (merged : X → List ℕ → Option X) (cost : List ℕ → BudgetLeft) (held : Datum → Option (List ℕ)) (asks : Datum → Type 0) where
-  paid_all_not_lacked : (before need more left : BudgetLeft) → Pays before (plus need more) left → Lacks before need → ⊥
-  paid_all_not_lacked before need more left p (inl h) = omega (arith, p, h)
-  paid_all_not_lacked before need more left p (inr h) = omega (arith, p, h)
+module _ {X : Type 0} (merged : X → List ℕ → Option X) (cost : List ℕ → BudgetLeft) (held : FieldData → Option (List ℕ)) (asks : FieldData → Type 0) where
+  paid_all_not_lacked : (before charge more left : BudgetLeft) → Pays before (plus charge more) left → Lacks before charge → ⊥
+  paid_all_not_lacked before charge more left p (inl h) = omega (arith, p, h)
+  paid_all_not_lacked before charge more left p (inr h) = omega (arith, p, h)
 
-  no_fault : (o : Option X) (need before left : BudgetLeft) (new : X) (e : DecodeError) → o ≡ Some new → Pays before need left → MergeFault o need before e → ⊥
-  no_fault o need before left new e h p (inl k) = not_lacked before need left p k
-  no_fault o need before left new e h p (inr k) = absurd (none-some new (sym k.0 ∙ h))
+  no_fault : (o : Option X) (charge before left : BudgetLeft) (new : X) (e : DecodeError) → o ≡ Some new → Pays before charge left → MergeFault o charge before e → ⊥
+  no_fault o charge before left new e h p (inl k) = not_lacked before charge left p k
+  no_fault o charge before left new e h p (inr k) = absurd (none-some new (sym k.0 ∙ h))
 
   -- the encoding in a record means no value, or isn't covered
-  abbrev Stuck : Datum → X → BudgetLeft → Type 0
+  abbrev Stuck : FieldData → X → BudgetLeft → Type 0
   Stuck d old before = (t : List ℕ) × (e : DecodeError) × (held d ≡ Some t) × MergeFault (merged old t) (cost t) before e
 
-  abbrev Done : List Datum → X → BudgetLeft → X → BudgetLeft → Type 0
+  abbrev Done : List FieldData → X → BudgetLeft → X → BudgetLeft → Type 0
   Done ds old before mid left = AreMerged merged cost (encodings_in held ds) old before mid left
 
-  not_then : (o : Option X) (ts : List (List ℕ)) (mid : X) (need before left : BudgetLeft) (e : DecodeError) → option_and_then (λ w. merged_all merged w ts) o ≡ Some mid
-      → Pays before (plus need (cost_all cost ts)) left → MergeFault o need before e → ⊥
-  not_then o ts mid need before left e h p (inl k) = paid_all_not_lacked before need (cost_all cost ts) left p k
-  not_then o ts mid need before left e h p (inr k) = absurd (none-some mid (sym (ap (option_and_then (λ w. merged_all merged w ts)) k.0) ∙ h))
+  not_then : (o : Option X) (ts : List (List ℕ)) (mid : X) (charge before left : BudgetLeft) (e : DecodeError) → option_and_then (λ w. merged_all merged w ts) o ≡ Some mid
+      → Pays before (plus charge (cost_all cost ts)) left → MergeFault o charge before e → ⊥
+  not_then o ts mid charge before left e h p (inl k) = paid_all_not_lacked before charge (cost_all cost ts) left p k
+  not_then o ts mid charge before left e h p (inr k) = absurd (none-some mid (sym (ap (option_and_then (λ w. merged_all merged w ts)) k.0) ∙ h))
 
-  encodings_on : (d : Datum) (ds : List Datum) (o : Option (List ℕ)) → held d ≡ o → encodings_in held (d ∷ ds) ≡ cons_option o (encodings_in held ds)
+  encodings_on : (d : FieldData) (ds : List FieldData) (o : Option (List ℕ)) → held d ≡ o → encodings_in held (d ∷ ds) ≡ cons_option o (encodings_in held ds)
   encodings_on d ds o h = ap (λ z. cons_option z (encodings_in held ds)) h
 
   -- what is stuck isn't done
-  stuck_not_done : (d : Datum) (ds : List Datum) (old mid : X) (before left : BudgetLeft) → Stuck d old before → Done (d ∷ ds) old before mid left → ⊥
+  stuck_not_done : (d : FieldData) (ds : List FieldData) (old mid : X) (before left : BudgetLeft) → Stuck d old before → Done (d ∷ ds) old before mid left → ⊥
   stuck_not_done d ds old mid before left (t, e, h, fault) done =
       let k = subst (λ l. AreMerged merged cost l old before mid left) (encodings_on d ds (Some t) h) done in
       not_then (merged old t) (encodings_in held ds) mid (cost t) before left e k.0 k.1 fault
 
-  stuck_from : (d : Datum) (old mid : X) (before left : BudgetLeft) → Done [] old before mid left → Stuck d mid left → Stuck d old before
+  stuck_from : (d : FieldData) (old mid : X) (before left : BudgetLeft) → Done [] old before mid left → Stuck d mid left → Stuck d old before
   stuck_from d old mid before left done stuck =
       let same : left ≡ before = left_over before nothing left done.1 ∙ sym (minus_nothing before) in
       subst (λ b. Stuck d old b) same (subst (λ x. Stuck d x left) (sym (same_Some old mid done.0)) stuck)
 
   -- what follows the first record goes on from what it leaves
-  module _ (f g : List Datum) (mid mid' : X) (left left' : BudgetLeft) (again : (w : X) (b : BudgetLeft) → Done f w b mid left → Done g w b mid' left' → f ≡ g) where
+  module _ (f g : List FieldData) (mid mid' : X) (left left' : BudgetLeft) (again : (w : X) (b : BudgetLeft) → Done f w b mid left → Done g w b mid' left' → f ≡ g) where
     over_encoding : (o : Option X) (c before : BudgetLeft) → option_and_then (λ w. merged_all merged w (encodings_in held f)) o ≡ Some mid → Pays before (plus c (cost_all cost (encodings_in held f))) left
         → option_and_then (λ w. merged_all merged w (encodings_in held g)) o ≡ Some mid' → Pays before (plus c (cost_all cost (encodings_in held g))) left' → f ≡ g
     over_encoding None c before h p k q = absurd (none-some mid h)
     over_encoding (Some w) c before h p k q = again w (minus before c) (h, (omega (arith, p), omega (arith, p))) (k, (omega (arith, q), omega (arith, q)))
 
-    over_record : (d : Datum) (o : Option (List ℕ)) (old : X) (before : BudgetLeft) → held d ≡ o → Done (d ∷ f) old before mid left → Done (d ∷ g) old before mid' left' → f ≡ g
+    over_record : (d : FieldData) (o : Option (List ℕ)) (old : X) (before : BudgetLeft) → held d ≡ o → Done (d ∷ f) old before mid left → Done (d ∷ g) old before mid' left' → f ≡ g
     over_record d None old before e h k =
         again old before (subst (λ l. AreMerged merged cost l old before mid left) (encodings_on d f None e) h) (subst (λ l. AreMerged merged cost l old before mid' left') (encodings_on d g None e) k)
     over_record d (Some t) old before e h k =
@@ -71,7 +71,7 @@ module _ {X : Type 0} (merged : X → List ℕ → Option X) (cost : List ℕ �
         over_encoding (merged old t) (cost t) before p.0 p.1 q.0 q.1
 
   -- merging stops at one record
-  one_stop : (f g : List Datum) (d c : Datum) (fb gb : List Datum) (old mid mid' : X) (before left left' : BudgetLeft) → f ++ d ∷ fb ≡ g ++ c ∷ gb
+  one_stop : (f g : List FieldData) (d c : FieldData) (fb gb : List FieldData) (old mid mid' : X) (before left left' : BudgetLeft) → f ++ d ∷ fb ≡ g ++ c ∷ gb
       → Done f old before mid left → Stuck d mid left → Done g old before mid' left' → Stuck c mid' left' → f ≡ g
   one_stop [] [] d c fb gb old mid mid' before left left' cut h s k r = refl
   one_stop [] (y ∷ g) d c fb gb old mid mid' before left left' cut h s k r =
@@ -85,14 +85,14 @@ module _ {X : Type 0} (merged : X → List ℕ → Option X) (cost : List ℕ �
       x (held x) old before refl h (subst (λ z. Done (z ∷ g) old before mid' left') (sym head) k) in
       ap (λ z. z ∷ f) head ∙ ap (λ l. y ∷ l) rest
 
-  stuck_by : (d : Datum) (mid : X) (left after : BudgetLeft) (e : DecodeError) → e ≢ OutOfMemory → IsEncodingRefused merged cost held asks d mid left e after → Stuck d mid left
+  stuck_by : (d : FieldData) (mid : X) (left after : BudgetLeft) (e : DecodeError) → e ≢ OutOfMemory → IsEncodingRefused merged cost held asks d mid left e after → Stuck d mid left
   stuck_by d mid left after e ne r = (r.0, e, r.1, r.4 ne)
 
   pub record_merge_is_pinned : RecordMergeIsPinned merged cost held
   record_merge_is_pinned = record {
     alike = λ d old new newer before left over f g h k.
-        let need = cost_all cost (encodings_in held (d ∷ [])) in
-        (h.0 ∙ sym k.0, same_Some new newer (sym h.1 ∙ k.1), left_over before need left h.2 ∙ sym (left_over before need over k.2));
+        let charge = cost_all cost (encodings_in held (d ∷ [])) in
+        (h.0 ∙ sym k.0, same_Some new newer (sym h.1 ∙ k.1), left_over before charge left h.2 ∙ sym (left_over before charge over k.2));
     refused = λ d old new newer before left over f e h k ne.
         no_fault (merged_all merged old (encodings_in held (d ∷ []))) (cost_all cost (encodings_in held (d ∷ []))) before left new e h.1 h.2 (k.1 ne);
   }
@@ -111,25 +111,25 @@ module _ {X : Type 0} (merged : X → List ℕ → Option X) (cost : List ℕ �
   }
 
   -- and spends no more than there is to spend
-  pub merging_stays_within : (ds : List Datum) (old new : X) (before after : BudgetLeft) (r : Result Bool DecodeError) → MergesRecords merged cost held asks ds old before r new after
+  pub merging_stays_within : (ds : List FieldData) (old new : X) (before after : BudgetLeft) (r : Result Bool DecodeError) → MergesRecords merged cost held asks ds old before r new after
       → PaysAtMost before (cost_all cost (encodings_in held ds)) after × (IsOk r → Covers before (cost_all cost (encodings_in held ds)))
   merging_stays_within ds old new before after (Ok f) h = ((omega (arith, h.1.1), omega (arith, h.1.1), omega (arith, h.1.1), omega (arith, h.1.1)), λ t. (omega (arith, h.1.1), omega (arith, h.1.1)))
   merging_stays_within ds old new before after (Err e) h = ((all_merged merged cost held asks ds old new before after (Err e) h).0, λ f. absurd (false≢true f))
 
 -- ---- lists of messages
 
-no_elements : (X : Type 0) (d : Datum) → unpacked {M = X} (λ bs. []) d ≡ []
+no_elements : (X : Type 0) (d : FieldData) → unpacked {M = X} (λ bs. []) d ≡ []
 no_elements X (varint n) = refl
 no_elements X (fixed32 n) = refl
 no_elements X (fixed64 n) = refl
 no_elements X (bytes b) = refl
 no_elements X (group rs) = refl
 
-module _ {X : Type 0} (merged : X → List ℕ → Option X) (cost : List ℕ → BudgetLeft) (blank : X) (held : Datum → Option (List ℕ)) where
-  abbrev one : BudgetLeft → Datum → Option X
+module _ {X : Type 0} (merged : X → List ℕ → Option X) (cost : List ℕ → BudgetLeft) (blank : X) (held : FieldData → Option (List ℕ)) where
+  abbrev one : BudgetLeft → FieldData → Option X
   one b d = message_of merged cost blank b (encodings_in held (d ∷ []))
 
-  abbrev leaves : BudgetLeft → Datum → BudgetLeft → Type 0
+  abbrev leaves : BudgetLeft → FieldData → BudgetLeft → Type 0
   leaves b d left = LeavesOf (message_of merged cost blank b (encodings_in held (d ∷ []))) b (cost_all cost (encodings_in held (d ∷ []))) left
 
   abbrev none : List ℕ → List X
@@ -154,7 +154,7 @@ module _ {X : Type 0} (merged : X → List ℕ → Option X) (cost : List ℕ �
   over_none : (b c mid : BudgetLeft) → Covers b c → PaysAtMost b nothing mid → Covers mid c
   over_none b c mid k p = (omega (arith, k, p), omega (arith, k, p))
 
-  encoding_step : (b mid : BudgetLeft) (d : Datum) (t : List ℕ) (ts : List (List ℕ)) (o : Option X) → merged blank t ≡ o → encodings_in held (d ∷ []) ≡ t ∷ [] → Covers b (plus (cost t) (cost_all cost ts)) → leaves b d mid
+  encoding_step : (b mid : BudgetLeft) (d : FieldData) (t : List ℕ) (ts : List (List ℕ)) (o : Option X) → merged blank t ≡ o → encodings_in held (d ∷ []) ≡ t ∷ [] → Covers b (plus (cost t) (cost_all cost ts)) → leaves b d mid
       → Covers mid (cost_all cost ts) × (elements none d (one b d) ++ values ts ≡ cons_option o (values ts))
   encoding_step b mid d t ts (Some v) e same k h =
       let read = read_by b t (Some v) e (small b (cost t) (cost_all cost ts) k) in
@@ -170,7 +170,7 @@ module _ {X : Type 0} (merged : X → List ℕ → Option X) (cost : List ℕ �
             ∙ ap (λ l. l ++ values ts) (no_elements X d),
       )
 
-  step : (b mid : BudgetLeft) (d : Datum) (ts : List (List ℕ)) (o : Option (List ℕ)) → held d ≡ o → Covers b (cost_all cost (cons_option o ts)) → leaves b d mid
+  step : (b mid : BudgetLeft) (d : FieldData) (ts : List (List ℕ)) (o : Option (List ℕ)) → held d ≡ o → Covers b (cost_all cost (cons_option o ts)) → leaves b d mid
       → Covers mid (cost_all cost ts) × (elements none d (one b d) ++ values ts ≡ values (cons_option o ts))
   step b mid d ts None e k h =
       let same : encodings_in held (d ∷ []) ≡ [] = ap (λ z. cons_option z []) e in (
@@ -179,7 +179,7 @@ module _ {X : Type 0} (merged : X → List ℕ → Option X) (cost : List ℕ �
       )
   step b mid d ts (Some t) e k h = encoding_step b mid d t ts (merged blank t) refl (ap (λ z. cons_option z []) e) k h
 
-  list_by : (b left : BudgetLeft) (ds : List Datum) (vs : List X) → Covers b (cost_all cost (encodings_in held ds)) → ReadsAll one leaves none b ds vs left → vs ≡ values (encodings_in held ds)
+  list_by : (b left : BudgetLeft) (ds : List FieldData) (vs : List X) → Covers b (cost_all cost (encodings_in held ds)) → ReadsAll one leaves none b ds vs left → vs ≡ values (encodings_in held ds)
   list_by b left [] vs k h = h.0
   list_by b left (d ∷ ds) vs k h =
       let t = step b h.0 d (encodings_in held ds) (held d) refl k h.2 in

@@ -26,9 +26,9 @@ there d unknown bs x a true e h = let no = none_there d unknown bs e in cc
 there d unknown bs x a false e h =
     (omega (arith, eqb-false unknown 0 e), agree_ok (item_at d bs) (a.0, a.1, x) (read_sound d bs) (sym (read_there d unknown bs e) ∙ h))
 
-told : (d unknown : ℕ) (bs : List ℕ) (f : DecodeError) (b : Bool) → (unknown == 0) ≡ b → item_in d unknown bs ≡ Err f → 0 < unknown → ItemFault d bs f
-told d unknown bs f true e h some = absurd (omega (arith, eqb-true unknown 0 e, some))
-told d unknown bs f false e h some = agree_err (item_at d bs) f (read_sound d bs) (sym (read_there d unknown bs e) ∙ h)
+reported : (d unknown : ℕ) (bs : List ℕ) (f : DecodeError) (b : Bool) → (unknown == 0) ≡ b → item_in d unknown bs ≡ Err f → 0 < unknown → ItemFault d bs f
+reported d unknown bs f true e h some = absurd (omega (arith, eqb-true unknown 0 e, some))
+reported d unknown bs f false e h some = agree_err (item_at d bs) f (read_sound d bs) (sym (read_there d unknown bs e) ∙ h)
 
 spent : (old a b : BudgetLeft) → SpendsUnknown old a → SpendsUnknown old b → a ≡ b
 spent old a b (inl h) (inl k) = h.1 ∙ sym k.1
@@ -44,7 +44,7 @@ item_is_pinned = record {
   is_there = λ d unknown bs x a h. there d unknown bs x a (unknown == 0) refl h;
   refused = λ d unknown bs x y a f h k no. let e = k no in cc;
   fault = λ d unknown bs x y f g h k no nor. let e = h no in let j = k nor in cc;
-  is_a_fault = λ d unknown bs x f h no some. told d unknown bs f (unknown == 0) refl (h no) some;
+  is_a_fault = λ d unknown bs x f h no some. reported d unknown bs f (unknown == 0) refl (h no) some;
   spent = spent;
 }
 

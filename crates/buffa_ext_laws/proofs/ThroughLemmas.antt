@@ -3,7 +3,7 @@ use Rattle.std.proofs.Common.{◌≡◌, ℕ, List, [], ◌∷◌, ◌++◌, map
 use Rattle.std.specs.List.{filter_map, last_or, cons_option}
 use Rattle.std.proofs.lemmas.List.{map-append}
 use Rattle.buffa_wire.specs.BudgetLeft.{BudgetLeft, defaults}
-use Rattle.buffa_wire.specs.Records.{Datum, varint, fixed32, fixed64, bytes, group}
+use Rattle.buffa_wire.specs.Records.{FieldData, varint, fixed32, fixed64, bytes, group}
 use Rattle.buffa_codec.specs.Decoded.{ReadsAll, ReadsList, elements, last_read, packed_record}
 use Rattle.buffa_ext_laws.specs.Through.{ListsThrough, ReadsThrough}
 use Rattle.buffa_wire.specs.Encoding.{encodings}
@@ -12,20 +12,20 @@ pub option_twice : {A B C : Type 0} (g : A → B) (f : B → C) (o : Option A) �
 option_twice g f None = refl
 option_twice g f (Some x) = refl
 
-module _ {M N : Type 0} (f : M → N) (one : BudgetLeft → Datum → Option M) (two : BudgetLeft → Datum → Option N) (same : (b : BudgetLeft) (d : Datum) → two b d ≡ option_map f (one b d)) where
-  last_by : (b : BudgetLeft) (ds : List Datum) (o x : Option M)
+module _ {M N : Type 0} (f : M → N) (one : BudgetLeft → FieldData → Option M) (two : BudgetLeft → FieldData → Option N) (same : (b : BudgetLeft) (d : FieldData) → two b d ≡ option_map f (one b d)) where
+  last_by : (b : BudgetLeft) (ds : List FieldData) (o x : Option M)
       → ((p : Option M) → last_or (option_map f p) (filter_map (two b) ds) ≡ option_map f (last_or p (filter_map (one b) ds)))
       → last_or (option_map f o) (cons_option (option_map f x) (filter_map (two b) ds)) ≡ option_map f (last_or o (cons_option x (filter_map (one b) ds)))
   last_by b ds o None again = again o
   last_by b ds o (Some m) again = again (Some m)
 
-  pub last_through : (b : BudgetLeft) (ds : List Datum) (o : Option M) → last_or (option_map f o) (filter_map (two b) ds) ≡ option_map f (last_or o (filter_map (one b) ds))
+  pub last_through : (b : BudgetLeft) (ds : List FieldData) (o : Option M) → last_or (option_map f o) (filter_map (two b) ds) ≡ option_map f (last_or o (filter_map (one b) ds))
   last_through b [] o = refl
   last_through b (d ∷ ds) o =
       ap (λ x. last_or (option_map f o) (cons_option x (filter_map (two b) ds))) (same b d) ∙ last_by b ds o (one b d) (last_through b ds)
 
-  module _ (leaves : BudgetLeft → Datum → BudgetLeft → Type 0) (packed : List ℕ → List M) (also : List ℕ → List N) (unpacks : (bs : List ℕ) → also bs ≡ map f (packed bs)) where
-    elements_by : (d : Datum) (x : Option M) → elements also d (option_map f x) ≡ map f (elements packed d x)
+  module _ (leaves : BudgetLeft → FieldData → BudgetLeft → Type 0) (packed : List ℕ → List M) (also : List ℕ → List N) (unpacks : (bs : List ℕ) → also bs ≡ map f (packed bs)) where
+    elements_by : (d : FieldData) (x : Option M) → elements also d (option_map f x) ≡ map f (elements packed d x)
     elements_by d (Some v) = refl
     elements_by (varint n) None = refl
     elements_by (fixed32 n) None = refl
@@ -33,7 +33,7 @@ module _ {M N : Type 0} (f : M → N) (one : BudgetLeft → Datum → Option M) 
     elements_by (bytes b) None = unpacks b
     elements_by (group rs) None = refl
 
-    pub list_from : (b : BudgetLeft) (ds : List Datum) (out : List N) (left : BudgetLeft) → ReadsAll two leaves also b ds out left
+    pub list_from : (b : BudgetLeft) (ds : List FieldData) (out : List N) (left : BudgetLeft) → ReadsAll two leaves also b ds out left
         → (ms : List M) × ReadsAll one leaves packed b ds ms left × (out ≡ map f ms)
     list_from b [] out left h = ([], (refl, h.1), h.0)
     list_from b (d ∷ ds) out left h =
@@ -44,7 +44,7 @@ module _ {M N : Type 0} (f : M → N) (one : BudgetLeft → Datum → Option M) 
               ∙ ap (λ l. map f (elements packed d (one b d)) ++ l) t.2 ∙ sym (map-append f (elements packed d (one b d)) t.0),
         )
 
-    pub list_to : (b : BudgetLeft) (ds : List Datum) (ms : List M) (left : BudgetLeft) → ReadsAll one leaves packed b ds ms left → ReadsAll two leaves also b ds (map f ms) left
+    pub list_to : (b : BudgetLeft) (ds : List FieldData) (ms : List M) (left : BudgetLeft) → ReadsAll one leaves packed b ds ms left → ReadsAll two leaves also b ds (map f ms) left
     list_to b [] ms left h = (ap (map f) h.0, h.1)
     list_to b (d ∷ ds) ms left h = (
       h.0,

@@ -5,7 +5,7 @@ ghost use Rattle.std.specs.Int.{cast_unsigned, from_bool, w32, w64};
 ghost use Rattle.buffa_bytes.specs.Scalars.{bool_of, fixed32_of, fixed64_of, int32_of, int64_of, sfixed32_of};
 ghost use Rattle.buffa_bytes.specs.Scalars.{sfixed64_of, sint32_of, sint64_of, uint32_of, uint64_of, zigzag};
 ghost use Rattle.buffa_wire.specs.Found.{fixed32_in, fixed64_in, varint_in};
-ghost use Rattle.buffa_wire.specs.Records.{Datum, bytes, fixed32, fixed64, varint};
+ghost use Rattle.buffa_wire.specs.Records.{FieldData, bytes, fixed32, fixed64, varint};
 ghost use Rattle.buffa_codec.specs.Decoded.{ReadsList, bytes_held, packed_record, string_held};
 ghost use Rattle.buffa_ext.specs.Messages.{ReadsMessages, group_held, group_of};
 ghost use Rattle.buffa_ext_laws.specs.Names.{IsOf, enum_in};
@@ -25,33 +25,33 @@ use std::marker::PhantomData;
 /// Each name of a number is the codec that reads and writes it so, what the law of numbers says holds of it, and it is the
 /// type of that scalar.
 pub fn number_names_are_these()
-    ensures bool { IsOf ⟦<Bool as SingularCodec>⟧.one ⟦<Bool as SingularCodec>⟧.datum
+    ensures bool { IsOf ⟦<Bool as SingularCodec>⟧.one ⟦<Bool as SingularCodec>⟧.field_data
         (λ d. option_map bool_of (varint_in d)) (λ v. varint (from_bool v)) }
-    ensures int32 { IsOf ⟦<Int32 as SingularCodec>⟧.one ⟦<Int32 as SingularCodec>⟧.datum
+    ensures int32 { IsOf ⟦<Int32 as SingularCodec>⟧.one ⟦<Int32 as SingularCodec>⟧.field_data
         (λ d. option_map int32_of (varint_in d)) (λ v. varint (cast_unsigned w64 v)) }
-    ensures enum_i32 { IsOf ⟦<EnumI32 as SingularCodec>⟧.one ⟦<EnumI32 as SingularCodec>⟧.datum
+    ensures enum_i32 { IsOf ⟦<EnumI32 as SingularCodec>⟧.one ⟦<EnumI32 as SingularCodec>⟧.field_data
         (λ d. option_map int32_of (varint_in d)) (λ v. varint (cast_unsigned w64 v)) }
-    ensures int64 { IsOf ⟦<Int64 as SingularCodec>⟧.one ⟦<Int64 as SingularCodec>⟧.datum
+    ensures int64 { IsOf ⟦<Int64 as SingularCodec>⟧.one ⟦<Int64 as SingularCodec>⟧.field_data
         (λ d. option_map int64_of (varint_in d)) (λ v. varint (cast_unsigned w64 v)) }
-    ensures uint32 { IsOf ⟦<Uint32 as SingularCodec>⟧.one ⟦<Uint32 as SingularCodec>⟧.datum
+    ensures uint32 { IsOf ⟦<Uint32 as SingularCodec>⟧.one ⟦<Uint32 as SingularCodec>⟧.field_data
         (λ d. option_map uint32_of (varint_in d)) varint }
-    ensures uint64 { IsOf ⟦<Uint64 as SingularCodec>⟧.one ⟦<Uint64 as SingularCodec>⟧.datum
+    ensures uint64 { IsOf ⟦<Uint64 as SingularCodec>⟧.one ⟦<Uint64 as SingularCodec>⟧.field_data
         (λ d. option_map uint64_of (varint_in d)) varint }
-    ensures sint32 { IsOf ⟦<Sint32 as SingularCodec>⟧.one ⟦<Sint32 as SingularCodec>⟧.datum
+    ensures sint32 { IsOf ⟦<Sint32 as SingularCodec>⟧.one ⟦<Sint32 as SingularCodec>⟧.field_data
         (λ d. option_map sint32_of (varint_in d)) (λ v. varint (zigzag v)) }
-    ensures sint64 { IsOf ⟦<Sint64 as SingularCodec>⟧.one ⟦<Sint64 as SingularCodec>⟧.datum
+    ensures sint64 { IsOf ⟦<Sint64 as SingularCodec>⟧.one ⟦<Sint64 as SingularCodec>⟧.field_data
         (λ d. option_map sint64_of (varint_in d)) (λ v. varint (zigzag v)) }
-    ensures fixed32 { IsOf ⟦<Fixed32 as SingularCodec>⟧.one ⟦<Fixed32 as SingularCodec>⟧.datum
+    ensures fixed32 { IsOf ⟦<Fixed32 as SingularCodec>⟧.one ⟦<Fixed32 as SingularCodec>⟧.field_data
         (λ d. option_map fixed32_of (fixed32_in d)) fixed32 }
-    ensures fixed64 { IsOf ⟦<Fixed64 as SingularCodec>⟧.one ⟦<Fixed64 as SingularCodec>⟧.datum
+    ensures fixed64 { IsOf ⟦<Fixed64 as SingularCodec>⟧.one ⟦<Fixed64 as SingularCodec>⟧.field_data
         (λ d. option_map fixed64_of (fixed64_in d)) fixed64 }
-    ensures sfixed32 { IsOf ⟦<Sfixed32 as SingularCodec>⟧.one ⟦<Sfixed32 as SingularCodec>⟧.datum
+    ensures sfixed32 { IsOf ⟦<Sfixed32 as SingularCodec>⟧.one ⟦<Sfixed32 as SingularCodec>⟧.field_data
         (λ d. option_map sfixed32_of (fixed32_in d)) (λ v. fixed32 (cast_unsigned w32 v)) }
-    ensures sfixed64 { IsOf ⟦<Sfixed64 as SingularCodec>⟧.one ⟦<Sfixed64 as SingularCodec>⟧.datum
+    ensures sfixed64 { IsOf ⟦<Sfixed64 as SingularCodec>⟧.one ⟦<Sfixed64 as SingularCodec>⟧.field_data
         (λ d. option_map sfixed64_of (fixed64_in d)) (λ v. fixed64 (cast_unsigned w64 v)) }
-    ensures float { IsOf ⟦<Float as SingularCodec>⟧.one ⟦<Float as SingularCodec>⟧.datum
+    ensures float { IsOf ⟦<Float as SingularCodec>⟧.one ⟦<Float as SingularCodec>⟧.field_data
         (λ d. option_map fixed32_of (fixed32_in d)) fixed32 }
-    ensures double { IsOf ⟦<Double as SingularCodec>⟧.one ⟦<Double as SingularCodec>⟧.datum
+    ensures double { IsOf ⟦<Double as SingularCodec>⟧.one ⟦<Double as SingularCodec>⟧.field_data
         (λ d. option_map fixed64_of (fixed64_in d)) fixed64 }
 {
     numbers_are_read::<Bool>();
@@ -87,23 +87,23 @@ pub fn number_names_are_these()
 /// The names of codecs of strings, bytes, enums, lists and messages are those that read and write them so. Of strings and
 /// bytes the last record wins, an enum is a number, and all are the types of the laws of these.
 pub fn other_names_are_these<E: Enumeration, C: SingularCodec, P: PackableCodec, M: Message>()
-    ensures string { IsOf ⟦<StringCodec as SingularCodec>⟧.one ⟦<StringCodec as SingularCodec>⟧.datum string_held bytes }
-    ensures bytes { IsOf ⟦<BytesCodec as SingularCodec>⟧.one ⟦<BytesCodec as SingularCodec>⟧.datum bytes_held bytes }
-    ensures enums { IsOf ⟦<EnumCodec<E> as SingularCodec>⟧.one ⟦<EnumCodec<E> as SingularCodec>⟧.datum
+    ensures string { IsOf ⟦<StringCodec as SingularCodec>⟧.one ⟦<StringCodec as SingularCodec>⟧.field_data string_held bytes }
+    ensures bytes { IsOf ⟦<BytesCodec as SingularCodec>⟧.one ⟦<BytesCodec as SingularCodec>⟧.field_data bytes_held bytes }
+    ensures enums { IsOf ⟦<EnumCodec<E> as SingularCodec>⟧.one ⟦<EnumCodec<E> as SingularCodec>⟧.field_data
         (enum_in E.of_number) (λ v. varint (cast_unsigned w64 v.1)) }
-    ensures lists { (ds : List Datum) (vs : List C.Value.Meaning) → ⟦<Repeated<C> as ExtensionCodec>⟧.reads ds vs
+    ensures lists { (ds : List FieldData) (vs : List C.Value.Meaning) → ⟦<Repeated<C> as ExtensionCodec>⟧.reads ds vs
         ↔ ReadsList (C.one 100) (C.leaves 100) C.packed ds vs }
-    ensures list_records { (vs : List C.Value.Meaning) → ⟦<Repeated<C> as ExtensionCodec>⟧.recs vs ≡ map C.datum vs }
-    ensures packed { (ds : List Datum) (vs : List P.Value.Meaning) → ⟦<PackedRepeated<P> as ExtensionCodec>⟧.reads ds vs
+    ensures list_records { (vs : List C.Value.Meaning) → ⟦<Repeated<C> as ExtensionCodec>⟧.extension_data vs ≡ map C.field_data vs }
+    ensures packed { (ds : List FieldData) (vs : List P.Value.Meaning) → ⟦<PackedRepeated<P> as ExtensionCodec>⟧.reads ds vs
         ↔ ReadsList (P.one 100) (P.leaves 100) P.packed ds vs }
-    ensures packed_records { (vs : List P.Value.Meaning) → ⟦<PackedRepeated<P> as ExtensionCodec>⟧.recs vs
+    ensures packed_records { (vs : List P.Value.Meaning) → ⟦<PackedRepeated<P> as ExtensionCodec>⟧.extension_data vs
         ≡ packed_record P.packed_encoding vs }
     ensures messages { ReadsMessages ⟦<MessageCodec<M> as ExtensionCodec>⟧.reads (M.merged 100) (M.cost 100) M.blank_is
         bytes_held }
-    ensures message_records { (v : _) → ⟦<MessageCodec<M> as ExtensionCodec>⟧.recs v ≡ bytes (M.encoding v) ∷ [] }
+    ensures message_records { (v : _) → ⟦<MessageCodec<M> as ExtensionCodec>⟧.extension_data v ≡ bytes (M.encoding v) ∷ [] }
     ensures groups { ReadsMessages ⟦<GroupCodec<M> as ExtensionCodec>⟧.reads (M.merged 100) (M.cost 100) M.blank_is
         group_held }
-    ensures group_records { (v : _) → ⟦<GroupCodec<M> as ExtensionCodec>⟧.recs v ≡ group_of (M.encoding v) ∷ [] }
+    ensures group_records { (v : _) → ⟦<GroupCodec<M> as ExtensionCodec>⟧.extension_data v ≡ group_of (M.encoding v) ∷ [] }
 {
     the_last_record_is_read::<StringCodec>();
     the_last_record_is_read::<BytesCodec>();

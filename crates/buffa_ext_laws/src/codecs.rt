@@ -5,7 +5,7 @@ ghost use Rattle.std.specs.Prelude.{◌≡◌, ◌≢◌, ◌↔◌, ℕ, ℤ, L
 ghost use Rattle.std.specs.List.{AllByRecursion, filter_map, last_or};
 ghost use Rattle.std.specs.Prelude.{FitsSigned, string_bytes, true};
 ghost use Rattle.std.specs.Str.{is_utf8};
-ghost use Rattle.buffa_bytes.specs.Content.{Content, ContentFault, TakesContent, number_in};
+ghost use Rattle.buffa_bytes.specs.PayloadValue.{PayloadValue, PayloadValueFault, TakesPayloadValue, number_in};
 ghost use Rattle.buffa_bytes.specs.declared.error.DecodeError.{DecodeError};
 ghost use Rattle.buffa_bytes.specs.declared.error.EncodeError.{EncodeError};
 ghost use Rattle.buffa_bytes.specs.declared.wire_type.WireType.TheVariants.{Fixed32 as FourBytes, Fixed64 as EightBytes, Varint};
@@ -19,7 +19,7 @@ ghost use Rattle.buffa_ext_laws.specs.PinnedCodecs.{BeginsAlike, EncodingIsPinne
 ghost use Rattle.buffa_ext_laws.specs.PinnedCodecs.{RefusalIsPinned, UnpackingIsPinned};
 ghost use Rattle.buffa_wire.specs.Enums.{open_number};
 ghost use Rattle.buffa_wire.specs.Found.{fixed32_in, fixed64_in, varint_in};
-ghost use Rattle.buffa_wire.specs.Records.{Datum, bytes as held_bytes};
+ghost use Rattle.buffa_wire.specs.Records.{FieldData, bytes as held_bytes};
 ghost use Rattle.buffa_ext_laws.specs.Costs.{StaysWithin};
 ghost use Rattle.buffa_codec.specs.Packed.{numbers_in};
 ghost use Rattle.buffa_codec.specs.Decoded.{HasByte};
@@ -56,16 +56,16 @@ pub fn later_readings_win<C: LastWins>()
 
 /// One value is read of the last record that is read at all; and reading takes memory only for that one.
 pub fn the_last_record_is_read<C: LastWins>()
-    ensures reads { (ds : List Datum) (o : Option C.Value.Meaning) → ⟦<C as ExtensionCodec>⟧.reads ds o
+    ensures reads { (ds : List FieldData) (o : Option C.Value.Meaning) → ⟦<C as ExtensionCodec>⟧.reads ds o
         ↔ (o ≡ last_or None (filter_map (C.one 100 defaults) ds)) }
-    ensures records { (v : C.Value.Meaning) → ⟦<C as ExtensionCodec>⟧.recs v ≡ C.datum v ∷ [] }
-    ensures memory { (ds : List Datum) → ⟦<C as ExtensionCodec>⟧.asks ds
-        ↔ ((front : List Datum) × (d : Datum) × (back : List Datum) × C.asks d
+    ensures records { (v : C.Value.Meaning) → ⟦<C as ExtensionCodec>⟧.extension_data v ≡ C.field_data v ∷ [] }
+    ensures memory { (ds : List FieldData) → ⟦<C as ExtensionCodec>⟧.asks ds
+        ↔ ((front : List FieldData) × (d : FieldData) × (back : List FieldData) × C.asks d
         × (filter_map (C.one 100 defaults) back ≡ []) × (ds ≡ front ++ d ∷ back)) }
     ensures in_room { (v : C.Value.Meaning) → ⟦<C as ExtensionCodec>⟧.in_room v ↔ C.made_free v }
     ensures holds { (v : C.Value.Meaning) (o : Option C.Value.Meaning) → ⟦<C as ExtensionCodec>⟧.holds v o
         ↔ (o ≡ Some (C.back v)) }
-    ensures spends { (b left : BudgetLeft) (d : Datum) → C.leaves 100 b d left ↔ (left ≡ b) }
+    ensures spends { (b left : BudgetLeft) (d : FieldData) → C.leaves 100 b d left ↔ (left ≡ b) }
     ensures refusal { (v : C.Value.Meaning) → ⟦<C as ExtensionCodec>⟧.refusal v ≡ C.refusal v }
     ensures fits { (v : C.Value.Meaning) → ⟦<C as ExtensionCodec>⟧.fits v ↔ C.fits v }
     ensures normal { (v : C.Value.Meaning) → ⟦<C as ExtensionCodec>⟧.normal v ↔ C.normal v }
@@ -104,19 +104,19 @@ pub fn strings_and_bytes_mean_these(
 
 /// The record of each scalar.
 pub fn scalars_are_written()
-    ensures int32 { (v : ℤ) → ⟦<Int32 as SingularCodec>⟧.datum v ≡ varint (cast_unsigned w64 v) }
-    ensures int64 { (v : ℤ) → ⟦<Int64 as SingularCodec>⟧.datum v ≡ varint (cast_unsigned w64 v) }
-    ensures uint32 { (v : ℕ) → ⟦<Uint32 as SingularCodec>⟧.datum v ≡ varint v }
-    ensures uint64 { (v : ℕ) → ⟦<Uint64 as SingularCodec>⟧.datum v ≡ varint v }
-    ensures sint32 { (v : ℤ) → ⟦<Sint32 as SingularCodec>⟧.datum v ≡ varint (zigzag v) }
-    ensures sint64 { (v : ℤ) → ⟦<Sint64 as SingularCodec>⟧.datum v ≡ varint (zigzag v) }
-    ensures bool { (v : Bool) → ⟦<BoolScalar as SingularCodec>⟧.datum v ≡ varint (from_bool v) }
-    ensures fixed32 { (v : ℕ) → ⟦<Fixed32 as SingularCodec>⟧.datum v ≡ fixed32 v }
-    ensures fixed64 { (v : ℕ) → ⟦<Fixed64 as SingularCodec>⟧.datum v ≡ fixed64 v }
-    ensures sfixed32 { (v : ℤ) → ⟦<Sfixed32 as SingularCodec>⟧.datum v ≡ fixed32 (cast_unsigned w32 v) }
-    ensures sfixed64 { (v : ℤ) → ⟦<Sfixed64 as SingularCodec>⟧.datum v ≡ fixed64 (cast_unsigned w64 v) }
-    ensures float { (v : ℕ) → ⟦<Float as SingularCodec>⟧.datum v ≡ fixed32 v }
-    ensures double { (v : ℕ) → ⟦<Double as SingularCodec>⟧.datum v ≡ fixed64 v }
+    ensures int32 { (v : ℤ) → ⟦<Int32 as SingularCodec>⟧.field_data v ≡ varint (cast_unsigned w64 v) }
+    ensures int64 { (v : ℤ) → ⟦<Int64 as SingularCodec>⟧.field_data v ≡ varint (cast_unsigned w64 v) }
+    ensures uint32 { (v : ℕ) → ⟦<Uint32 as SingularCodec>⟧.field_data v ≡ varint v }
+    ensures uint64 { (v : ℕ) → ⟦<Uint64 as SingularCodec>⟧.field_data v ≡ varint v }
+    ensures sint32 { (v : ℤ) → ⟦<Sint32 as SingularCodec>⟧.field_data v ≡ varint (zigzag v) }
+    ensures sint64 { (v : ℤ) → ⟦<Sint64 as SingularCodec>⟧.field_data v ≡ varint (zigzag v) }
+    ensures bool { (v : Bool) → ⟦<BoolScalar as SingularCodec>⟧.field_data v ≡ varint (from_bool v) }
+    ensures fixed32 { (v : ℕ) → ⟦<Fixed32 as SingularCodec>⟧.field_data v ≡ fixed32 v }
+    ensures fixed64 { (v : ℕ) → ⟦<Fixed64 as SingularCodec>⟧.field_data v ≡ fixed64 v }
+    ensures sfixed32 { (v : ℤ) → ⟦<Sfixed32 as SingularCodec>⟧.field_data v ≡ fixed32 (cast_unsigned w32 v) }
+    ensures sfixed64 { (v : ℤ) → ⟦<Sfixed64 as SingularCodec>⟧.field_data v ≡ fixed64 (cast_unsigned w64 v) }
+    ensures float { (v : ℕ) → ⟦<Float as SingularCodec>⟧.field_data v ≡ fixed32 v }
+    ensures double { (v : ℕ) → ⟦<Double as SingularCodec>⟧.field_data v ≡ fixed64 v }
 {}
 
 /// A scalar is read back as it was, and each value of its type is one.
@@ -177,9 +177,9 @@ pub fn lists_read_alike<C: PackableCodec>()
 
 /// A value of one record has a record, and no values have none.
 pub fn records_of_values<C: LastWins, P: PackableCodec>()
-    ensures one { (v : C.Value.Meaning) → ⟦<C as ExtensionCodec>⟧.recs v ≢ [] }
-    ensures repeated { ⟦<Repeated<C> as ExtensionCodec>⟧.recs [] ≡ [] }
-    ensures packed { ⟦<PackedRepeated<P> as ExtensionCodec>⟧.recs [] ≡ [] }
+    ensures one { (v : C.Value.Meaning) → ⟦<C as ExtensionCodec>⟧.extension_data v ≢ [] }
+    ensures repeated { ⟦<Repeated<C> as ExtensionCodec>⟧.extension_data [] ≡ [] }
+    ensures packed { ⟦<PackedRepeated<P> as ExtensionCodec>⟧.extension_data [] ≡ [] }
 {}
 
 /// However records are read one after the other from a default budget, those that are read as
@@ -193,9 +193,9 @@ pub fn lists_stay_within_a_budget<C: SingularCodec>()
 /// of what follows it.
 pub fn packed_numbers_are_read()
     ensures whole { (w : WireType) (bs ns : List ℕ) → (numbers_in w bs ≡ ns) ↔ ArePacked w ns bs }
-    ensures next { (w : WireType) (bs rest : List ℕ) (c : Content) → TakesContent w bs c rest →
+    ensures next { (w : WireType) (bs rest : List ℕ) (c : PayloadValue) → TakesPayloadValue w bs c rest →
         numbers_in w bs ≡ number_in c ∷ numbers_in w rest }
-    ensures end { (w : WireType) (bs : List ℕ) (e : DecodeError) → ContentFault w bs e → numbers_in w bs ≡ [] }
+    ensures end { (w : WireType) (bs : List ℕ) (e : DecodeError) → PayloadValueFault w bs e → numbers_in w bs ≡ [] }
     ensures none { (w : WireType) → numbers_in w [] ≡ [] }
 {}
 
@@ -208,12 +208,12 @@ pub fn enums_are_read_as_numbers<E: Enumeration>()
         ⟦<Repeated<EnumCodec<E>> as ExtensionCodec>⟧.reads }
     ensures packed { ListsThrough (open_number E.of_number) ⟦<PackedRepeated<Int32> as ExtensionCodec>⟧.reads
         ⟦<PackedRepeated<EnumCodec<E>> as ExtensionCodec>⟧.reads }
-    ensures records { WritesThrough (λ v. v.1) ⟦<Int32 as ExtensionCodec>⟧.recs
-        ⟦<EnumCodec<E> as ExtensionCodec>⟧.recs }
-    ensures list_records { WritesThrough (map (λ v. v.1)) ⟦<Repeated<Int32> as ExtensionCodec>⟧.recs
-        ⟦<Repeated<EnumCodec<E>> as ExtensionCodec>⟧.recs }
-    ensures packed_records { WritesThrough (map (λ v. v.1)) ⟦<PackedRepeated<Int32> as ExtensionCodec>⟧.recs
-        ⟦<PackedRepeated<EnumCodec<E>> as ExtensionCodec>⟧.recs }
+    ensures records { WritesThrough (λ v. v.1) ⟦<Int32 as ExtensionCodec>⟧.extension_data
+        ⟦<EnumCodec<E> as ExtensionCodec>⟧.extension_data }
+    ensures list_records { WritesThrough (map (λ v. v.1)) ⟦<Repeated<Int32> as ExtensionCodec>⟧.extension_data
+        ⟦<Repeated<EnumCodec<E>> as ExtensionCodec>⟧.extension_data }
+    ensures packed_records { WritesThrough (map (λ v. v.1)) ⟦<PackedRepeated<Int32> as ExtensionCodec>⟧.extension_data
+        ⟦<PackedRepeated<EnumCodec<E>> as ExtensionCodec>⟧.extension_data }
     ensures holds { (v : Bool × ℤ) (o : Option (Bool × ℤ)) → ⟦<EnumCodec<E> as ExtensionCodec>⟧.holds v o
         ↔ (o ≡ Some (open_number E.of_number v.1)) }
     ensures list_holds { (vs os : List (Bool × ℤ)) → ⟦<Repeated<EnumCodec<E>> as ExtensionCodec>⟧.holds vs os
@@ -228,11 +228,11 @@ pub fn enums_are_read_as_numbers<E: Enumeration>()
 pub fn enum_records_are_read<E: Enumeration>()
     ensures value { (n : ℕ) → ⟦<EnumCodec<E> as Numbered>⟧.value_of n ≡ open_number E.of_number (int32_of n) }
     ensures number { (v : Bool × ℤ) → ⟦<EnumCodec<E> as Numbered>⟧.number_of v ≡ cast_unsigned w64 v.1 }
-    ensures one { (n : ℕ) (b : BudgetLeft) (d : Datum) → ⟦<EnumCodec<E> as SingularCodec>⟧.one n b d
+    ensures one { (n : ℕ) (b : BudgetLeft) (d : FieldData) → ⟦<EnumCodec<E> as SingularCodec>⟧.one n b d
         ≡ option_map (λ k. open_number E.of_number (int32_of k)) (varint_in d) }
     ensures packed { (bs : List ℕ) → ⟦<EnumCodec<E> as SingularCodec>⟧.packed bs
         ≡ map (λ k. open_number E.of_number (int32_of k)) (numbers_in Varint bs) }
-    ensures datum { (v : Bool × ℤ) → ⟦<EnumCodec<E> as SingularCodec>⟧.datum v ≡ varint (cast_unsigned w64 v.1) }
+    ensures field_data { (v : Bool × ℤ) → ⟦<EnumCodec<E> as SingularCodec>⟧.field_data v ≡ varint (cast_unsigned w64 v.1) }
     ensures packed_encoding { (v : Bool × ℤ) → ⟦<EnumCodec<E> as PackableCodec>⟧.packed_encoding v ≡ int32_encoding v.1 }
     ensures back { (v : Bool × ℤ) → ⟦<EnumCodec<E> as SingularCodec>⟧.back v ≡ open_number E.of_number v.1 }
     ensures fits { (v : Bool × ℤ) → ⟦<EnumCodec<E> as SingularCodec>⟧.fits v ↔ FitsSigned w32 v.1 }
@@ -243,59 +243,59 @@ pub fn enum_records_are_read<E: Enumeration>()
 /// Values of numbers are read of the last record of their form, and packed ones of the payloads that begin
 /// the bytes; all of them are written, and read back; and neither takes memory.
 pub fn numbers_are_read<N: Numbered>()
-    ensures reads { (ds : List Datum) (o : Option N.Value.Meaning) → ⟦<N as ExtensionCodec>⟧.reads ds o
+    ensures reads { (ds : List FieldData) (o : Option N.Value.Meaning) → ⟦<N as ExtensionCodec>⟧.reads ds o
         ↔ (o ≡ last_or None (filter_map (λ d. option_map N.value_of (N.Form.found d)) ds)) }
     ensures packed { (bs : List ℕ) → ⟦<N as SingularCodec>⟧.packed bs
         ≡ map N.value_of (numbers_in N.Form.WIRE_TYPE bs) }
-    ensures records { (v : N.Value.Meaning) → ⟦<N as ExtensionCodec>⟧.recs v ≡ N.Form.datum (N.number_of v) ∷ [] }
+    ensures records { (v : N.Value.Meaning) → ⟦<N as ExtensionCodec>⟧.extension_data v ≡ N.Form.field_data (N.number_of v) ∷ [] }
     ensures written { (v : N.Value.Meaning) → ⟦<N as ExtensionCodec>⟧.refusal v ≡ None }
     ensures normal { (v : N.Value.Meaning) → ⟦<N as ExtensionCodec>⟧.normal v }
     ensures holds { (v : N.Value.Meaning) (o : Option N.Value.Meaning) → ⟦<N as ExtensionCodec>⟧.holds v o
         ↔ (o ≡ Some (N.back v)) }
     ensures memory { ⟦<N as ExtensionCodec>⟧.never_fails }
     ensures in_room { (v : N.Value.Meaning) → ⟦<N as ExtensionCodec>⟧.in_room v }
-    ensures spends { (n : ℕ) (b left : BudgetLeft) (d : Datum) → ⟦<N as SingularCodec>⟧.leaves n b d left ↔ (left ≡ b) }
-    ensures record { (v : N.Value.Meaning) → ⟦<N as SingularCodec>⟧.datum v ≡ N.Form.datum (N.number_of v) }
+    ensures spends { (n : ℕ) (b left : BudgetLeft) (d : FieldData) → ⟦<N as SingularCodec>⟧.leaves n b d left ↔ (left ≡ b) }
+    ensures record { (v : N.Value.Meaning) → ⟦<N as SingularCodec>⟧.field_data v ≡ N.Form.field_data (N.number_of v) }
     ensures record_written { (v : N.Value.Meaning) → ⟦<N as SingularCodec>⟧.refusal v ≡ None }
     ensures record_normal { (v : N.Value.Meaning) → ⟦<N as SingularCodec>⟧.normal v }
     ensures fits { (v : N.Value.Meaning) → (⟦<N as SingularCodec>⟧.fits v ↔ N.fits v)
         × (⟦<N as ExtensionCodec>⟧.fits v ↔ N.fits v) }
     ensures back { (v : N.Value.Meaning) → ⟦<N as SingularCodec>⟧.back v ≡ N.back v }
     ensures packed_encoding { (v : N.Value.Meaning) → ⟦<N as PackableCodec>⟧.packed_encoding v ≡ N.Form.encoding (N.number_of v) }
-    ensures costs { (n : ℕ) (d : Datum) → (⟦<N as SingularCodec>⟧.cost d ≡ nothing)
+    ensures costs { (n : ℕ) (d : FieldData) → (⟦<N as SingularCodec>⟧.cost d ≡ nothing)
         × (⟦<N as SingularCodec>⟧.most n d ≡ nothing) }
     ensures free { ⟦<N as SingularCodec>⟧.never_fails × ((v : N.Value.Meaning) → ⟦<N as SingularCodec>⟧.made_free v) }
-    ensures asks { (d : Datum) → ⟦<N as SingularCodec>⟧.asks d → ⊥ }
+    ensures asks { (d : FieldData) → ⟦<N as SingularCodec>⟧.asks d → ⊥ }
 {}
 
 /// Which values each scalar reads in a record, also of numbers that its values don't have. Each is a number
 /// ([`numbers_are_read`]).
 pub fn scalars_are_read()
-    ensures int32 { (n : ℕ) (b : BudgetLeft) (d : Datum) → ⟦<Int32 as SingularCodec>⟧.one n b d
+    ensures int32 { (n : ℕ) (b : BudgetLeft) (d : FieldData) → ⟦<Int32 as SingularCodec>⟧.one n b d
         ≡ option_map int32_of (varint_in d) }
-    ensures int64 { (n : ℕ) (b : BudgetLeft) (d : Datum) → ⟦<Int64 as SingularCodec>⟧.one n b d
+    ensures int64 { (n : ℕ) (b : BudgetLeft) (d : FieldData) → ⟦<Int64 as SingularCodec>⟧.one n b d
         ≡ option_map int64_of (varint_in d) }
-    ensures uint32 { (n : ℕ) (b : BudgetLeft) (d : Datum) → ⟦<Uint32 as SingularCodec>⟧.one n b d
+    ensures uint32 { (n : ℕ) (b : BudgetLeft) (d : FieldData) → ⟦<Uint32 as SingularCodec>⟧.one n b d
         ≡ option_map uint32_of (varint_in d) }
-    ensures uint64 { (n : ℕ) (b : BudgetLeft) (d : Datum) → ⟦<Uint64 as SingularCodec>⟧.one n b d
+    ensures uint64 { (n : ℕ) (b : BudgetLeft) (d : FieldData) → ⟦<Uint64 as SingularCodec>⟧.one n b d
         ≡ option_map uint64_of (varint_in d) }
-    ensures sint32 { (n : ℕ) (b : BudgetLeft) (d : Datum) → ⟦<Sint32 as SingularCodec>⟧.one n b d
+    ensures sint32 { (n : ℕ) (b : BudgetLeft) (d : FieldData) → ⟦<Sint32 as SingularCodec>⟧.one n b d
         ≡ option_map sint32_of (varint_in d) }
-    ensures sint64 { (n : ℕ) (b : BudgetLeft) (d : Datum) → ⟦<Sint64 as SingularCodec>⟧.one n b d
+    ensures sint64 { (n : ℕ) (b : BudgetLeft) (d : FieldData) → ⟦<Sint64 as SingularCodec>⟧.one n b d
         ≡ option_map sint64_of (varint_in d) }
-    ensures bool { (n : ℕ) (b : BudgetLeft) (d : Datum) → ⟦<BoolScalar as SingularCodec>⟧.one n b d
+    ensures bool { (n : ℕ) (b : BudgetLeft) (d : FieldData) → ⟦<BoolScalar as SingularCodec>⟧.one n b d
         ≡ option_map bool_of (varint_in d) }
-    ensures fixed32 { (n : ℕ) (b : BudgetLeft) (d : Datum) → ⟦<Fixed32 as SingularCodec>⟧.one n b d
+    ensures fixed32 { (n : ℕ) (b : BudgetLeft) (d : FieldData) → ⟦<Fixed32 as SingularCodec>⟧.one n b d
         ≡ option_map fixed32_of (fixed32_in d) }
-    ensures fixed64 { (n : ℕ) (b : BudgetLeft) (d : Datum) → ⟦<Fixed64 as SingularCodec>⟧.one n b d
+    ensures fixed64 { (n : ℕ) (b : BudgetLeft) (d : FieldData) → ⟦<Fixed64 as SingularCodec>⟧.one n b d
         ≡ option_map fixed64_of (fixed64_in d) }
-    ensures sfixed32 { (n : ℕ) (b : BudgetLeft) (d : Datum) → ⟦<Sfixed32 as SingularCodec>⟧.one n b d
+    ensures sfixed32 { (n : ℕ) (b : BudgetLeft) (d : FieldData) → ⟦<Sfixed32 as SingularCodec>⟧.one n b d
         ≡ option_map sfixed32_of (fixed32_in d) }
-    ensures sfixed64 { (n : ℕ) (b : BudgetLeft) (d : Datum) → ⟦<Sfixed64 as SingularCodec>⟧.one n b d
+    ensures sfixed64 { (n : ℕ) (b : BudgetLeft) (d : FieldData) → ⟦<Sfixed64 as SingularCodec>⟧.one n b d
         ≡ option_map sfixed64_of (fixed64_in d) }
-    ensures float { (n : ℕ) (b : BudgetLeft) (d : Datum) → ⟦<Float as SingularCodec>⟧.one n b d
+    ensures float { (n : ℕ) (b : BudgetLeft) (d : FieldData) → ⟦<Float as SingularCodec>⟧.one n b d
         ≡ option_map fixed32_of (fixed32_in d) }
-    ensures double { (n : ℕ) (b : BudgetLeft) (d : Datum) → ⟦<Double as SingularCodec>⟧.one n b d
+    ensures double { (n : ℕ) (b : BudgetLeft) (d : FieldData) → ⟦<Double as SingularCodec>⟧.one n b d
         ≡ option_map fixed64_of (fixed64_in d) }
 {
     numbers_are_read::<BoolScalar>();
@@ -317,25 +317,25 @@ pub fn scalars_are_read()
 /// written, and read back; and no packed ones are read. Only a value of a byte or more takes memory to be
 /// read, the last one alone, and an empty one is written in the list's spare capacity.
 pub fn strings_and_bytes_are_read()
-    ensures strings { (ds : List Datum) (o : Option (List ℕ)) → ⟦<StringCodec as ExtensionCodec>⟧.reads ds o
+    ensures strings { (ds : List FieldData) (o : Option (List ℕ)) → ⟦<StringCodec as ExtensionCodec>⟧.reads ds o
         ↔ (o ≡ last_or None (filter_map string_held ds)) }
-    ensures bytes { (ds : List Datum) (o : Option (List ℕ)) → ⟦<BytesCodec as ExtensionCodec>⟧.reads ds o
+    ensures bytes { (ds : List FieldData) (o : Option (List ℕ)) → ⟦<BytesCodec as ExtensionCodec>⟧.reads ds o
         ↔ (o ≡ last_or None (filter_map bytes_held ds)) }
-    ensures string { (v : List ℕ) → ⟦<StringCodec as ExtensionCodec>⟧.recs v ≡ held_bytes v ∷ [] }
-    ensures byte_string { (v : List ℕ) → ⟦<BytesCodec as ExtensionCodec>⟧.recs v ≡ held_bytes v ∷ [] }
+    ensures string { (v : List ℕ) → ⟦<StringCodec as ExtensionCodec>⟧.extension_data v ≡ held_bytes v ∷ [] }
+    ensures byte_string { (v : List ℕ) → ⟦<BytesCodec as ExtensionCodec>⟧.extension_data v ≡ held_bytes v ∷ [] }
     ensures written { (v : List ℕ) → (⟦<StringCodec as ExtensionCodec>⟧.refusal v ≡ None)
         × (⟦<BytesCodec as ExtensionCodec>⟧.refusal v ≡ None) }
     ensures normal { (v : List ℕ) → ⟦<StringCodec as ExtensionCodec>⟧.normal v
         × ⟦<BytesCodec as ExtensionCodec>⟧.normal v }
     ensures packed { (bs : List ℕ) → (⟦<StringCodec as SingularCodec>⟧.packed bs ≡ [])
         × (⟦<BytesCodec as SingularCodec>⟧.packed bs ≡ []) }
-    ensures memory { (d : Datum) → (⟦<StringCodec as SingularCodec>⟧.asks d ↔ HasByte (string_held d))
+    ensures memory { (d : FieldData) → (⟦<StringCodec as SingularCodec>⟧.asks d ↔ HasByte (string_held d))
         × (⟦<BytesCodec as SingularCodec>⟧.asks d ↔ HasByte (bytes_held d)) }
-    ensures counts { (ds : List Datum) → ⟦<StringCodec as ExtensionCodec>⟧.asks ds
-        ↔ ((front : List Datum) × (d : Datum) × (back : List Datum) × HasByte (string_held d)
+    ensures counts { (ds : List FieldData) → ⟦<StringCodec as ExtensionCodec>⟧.asks ds
+        ↔ ((front : List FieldData) × (d : FieldData) × (back : List FieldData) × HasByte (string_held d)
         × (filter_map string_held back ≡ []) × (ds ≡ front ++ d ∷ back)) }
-    ensures bytes_count { (ds : List Datum) → ⟦<BytesCodec as ExtensionCodec>⟧.asks ds
-        ↔ ((front : List Datum) × (d : Datum) × (back : List Datum) × HasByte (bytes_held d)
+    ensures bytes_count { (ds : List FieldData) → ⟦<BytesCodec as ExtensionCodec>⟧.asks ds
+        ↔ ((front : List FieldData) × (d : FieldData) × (back : List FieldData) × HasByte (bytes_held d)
         × (filter_map bytes_held back ≡ []) × (ds ≡ front ++ d ∷ back)) }
     ensures in_room { (v : List ℕ) → (⟦<StringCodec as ExtensionCodec>⟧.in_room v ↔ (v ≡ []))
         × (⟦<BytesCodec as ExtensionCodec>⟧.in_room v ↔ (v ≡ [])) }
@@ -343,19 +343,19 @@ pub fn strings_and_bytes_are_read()
         × (⟦<BytesCodec as ExtensionCodec>⟧.holds v o ↔ (o ≡ Some v)) }
     ensures free { (v : List ℕ) → (⟦<StringCodec as SingularCodec>⟧.made_free v ↔ (v ≡ []))
         × (⟦<BytesCodec as SingularCodec>⟧.made_free v ↔ (v ≡ [])) }
-    ensures one { (n : ℕ) (b : BudgetLeft) (d : Datum) → (⟦<StringCodec as SingularCodec>⟧.one n b d ≡ string_held d)
+    ensures one { (n : ℕ) (b : BudgetLeft) (d : FieldData) → (⟦<StringCodec as SingularCodec>⟧.one n b d ≡ string_held d)
         × (⟦<BytesCodec as SingularCodec>⟧.one n b d ≡ bytes_held d) }
-    ensures spends { (n : ℕ) (b left : BudgetLeft) (d : Datum) →
+    ensures spends { (n : ℕ) (b left : BudgetLeft) (d : FieldData) →
         (⟦<StringCodec as SingularCodec>⟧.leaves n b d left ↔ (left ≡ b))
         × (⟦<BytesCodec as SingularCodec>⟧.leaves n b d left ↔ (left ≡ b)) }
-    ensures most { (n : ℕ) (d : Datum) → (⟦<StringCodec as SingularCodec>⟧.most n d ≡ nothing)
+    ensures most { (n : ℕ) (d : FieldData) → (⟦<StringCodec as SingularCodec>⟧.most n d ≡ nothing)
         × (⟦<BytesCodec as SingularCodec>⟧.most n d ≡ nothing) }
-    ensures costs { (d : Datum) → (⟦<StringCodec as SingularCodec>⟧.cost d ≡ nothing)
+    ensures costs { (d : FieldData) → (⟦<StringCodec as SingularCodec>⟧.cost d ≡ nothing)
         × (⟦<BytesCodec as SingularCodec>⟧.cost d ≡ nothing) }
     ensures fits { (v : List ℕ) → (⟦<StringCodec as SingularCodec>⟧.fits v ↔ (is_utf8 v ≡ true))
         × ⟦<BytesCodec as SingularCodec>⟧.fits v }
-    ensures record { (v : List ℕ) → (⟦<StringCodec as SingularCodec>⟧.datum v ≡ held_bytes v)
-        × (⟦<BytesCodec as SingularCodec>⟧.datum v ≡ held_bytes v) }
+    ensures record { (v : List ℕ) → (⟦<StringCodec as SingularCodec>⟧.field_data v ≡ held_bytes v)
+        × (⟦<BytesCodec as SingularCodec>⟧.field_data v ≡ held_bytes v) }
     ensures refusal { (v : List ℕ) → (⟦<StringCodec as SingularCodec>⟧.refusal v ≡ None)
         × (⟦<BytesCodec as SingularCodec>⟧.refusal v ≡ None) }
     ensures record_normal { (v : List ℕ) → ⟦<StringCodec as SingularCodec>⟧.normal v
@@ -371,16 +371,16 @@ pub fn strings_and_bytes_are_read()
 /// each as it is read back. A list is read back of records that are, and that together cost no more than the
 /// budgets; a packed one always.
 pub fn lists_are_read<C: SingularCodec, P: PackableCodec>()
-    ensures reads { (ds : List Datum) (vs : List C.Value.Meaning) → ⟦<Repeated<C> as ExtensionCodec>⟧.reads ds vs
+    ensures reads { (ds : List FieldData) (vs : List C.Value.Meaning) → ⟦<Repeated<C> as ExtensionCodec>⟧.reads ds vs
         ↔ ReadsList (C.one 100) (C.leaves 100) C.packed ds vs }
-    ensures records { (vs : List C.Value.Meaning) → ⟦<Repeated<C> as ExtensionCodec>⟧.recs vs ≡ map C.datum vs }
-    ensures packed { (vs : List P.Value.Meaning) → ⟦<PackedRepeated<P> as ExtensionCodec>⟧.recs vs
+    ensures records { (vs : List C.Value.Meaning) → ⟦<Repeated<C> as ExtensionCodec>⟧.extension_data vs ≡ map C.field_data vs }
+    ensures packed { (vs : List P.Value.Meaning) → ⟦<PackedRepeated<P> as ExtensionCodec>⟧.extension_data vs
         ≡ packed_record P.packed_encoding vs }
     ensures refusal { (vs : List C.Value.Meaning) → ⟦<Repeated<C> as ExtensionCodec>⟧.refusal vs
         ≡ first_refusal C.refusal vs }
     ensures written { (vs : List P.Value.Meaning) → ⟦<PackedRepeated<P> as ExtensionCodec>⟧.refusal vs ≡ None }
     ensures normal { (vs : List C.Value.Meaning) → ⟦<Repeated<C> as ExtensionCodec>⟧.normal vs
-        ↔ (AllByRecursion C.normal vs × CoversAll C.cost defaults (map C.datum vs)) }
+        ↔ (AllByRecursion C.normal vs × CoversAll C.cost defaults (map C.field_data vs)) }
     ensures always { (vs : List P.Value.Meaning) → ⟦<PackedRepeated<P> as ExtensionCodec>⟧.normal vs }
     ensures holds { (vs os : List C.Value.Meaning) → ⟦<Repeated<C> as ExtensionCodec>⟧.holds vs os
         ↔ (os ≡ map C.back vs) }
@@ -388,14 +388,14 @@ pub fn lists_are_read<C: SingularCodec, P: PackableCodec>()
         ↔ (os ≡ map P.back vs) }
     ensures in_room { (vs : List C.Value.Meaning) → ⟦<Repeated<C> as ExtensionCodec>⟧.in_room vs ↔ AllByRecursion C.made_free vs }
     ensures packed_in_room { (vs : List P.Value.Meaning) → ⟦<PackedRepeated<P> as ExtensionCodec>⟧.in_room vs → ⊥ }
-    ensures memory { (ds : List Datum) → ⟦<Repeated<C> as ExtensionCodec>⟧.asks ds
-        ↔ ((front : List Datum) × (d : Datum) × (back : List Datum)
+    ensures memory { (ds : List FieldData) → ⟦<Repeated<C> as ExtensionCodec>⟧.asks ds
+        ↔ ((front : List FieldData) × (d : FieldData) × (back : List FieldData)
         × (C.asks d ⊎ ((b : BudgetLeft) × (elements C.packed d (C.one 100 b d) ≢ []))) × (ds ≡ front ++ d ∷ back)) }
     ensures fits { (vs : List C.Value.Meaning) → ⟦<Repeated<C> as ExtensionCodec>⟧.fits vs ↔ AllByRecursion C.fits vs }
     ensures packed_fits { (vs : List P.Value.Meaning) → ⟦<PackedRepeated<P> as ExtensionCodec>⟧.fits vs
         ↔ AllByRecursion P.fits vs }
-    ensures packed_memory { (ds : List Datum) → ⟦<PackedRepeated<P> as ExtensionCodec>⟧.asks ds
-        ↔ ((front : List Datum) × (d : Datum) × (back : List Datum)
+    ensures packed_memory { (ds : List FieldData) → ⟦<PackedRepeated<P> as ExtensionCodec>⟧.asks ds
+        ↔ ((front : List FieldData) × (d : FieldData) × (back : List FieldData)
         × (P.asks d ⊎ ((b : BudgetLeft) × (elements P.packed d (P.one 100 b d) ≢ []))) × (ds ≡ front ++ d ∷ back)) }
 {}
 

@@ -14,7 +14,7 @@ ghost use Rattle.buffa_bytes.specs.declared.error.EncodeError.TheVariants.{Messa
 ghost use Rattle.buffa_bytes.specs.declared.wire_type.WireType.TheVariants.{LengthDelimited, StartGroup};
 ghost use Rattle.buffa_wire.specs.BudgetLeft.{BudgetLeft, Covers, Pays, PaysAtMost, defaults};
 ghost use Rattle.buffa_wire.specs.Parse.{Fits};
-ghost use Rattle.buffa_wire.specs.Records.{Datum, bytes as held_bytes, records_of};
+ghost use Rattle.buffa_wire.specs.Records.{FieldData, bytes as held_bytes, records_of};
 ghost use Rattle.buffa_ext_laws.specs.PinnedCodecs.{OneAnswer};
 ghost use Rattle.buffa_codec.specs.Decoded.{HasByte, bytes_held};
 ghost use Rattle.buffa_codec.specs.Sub.{sub};
@@ -24,7 +24,7 @@ ghost use Rattle.buffa_ext.specs.Messages.{group_refusal, merged_all, message_of
 ghost use Rattle.buffa_ext_laws.specs.PinnedExtensions.{ClearIsPinned, DefaultIsPinned, ListIsExact, MergingIsPinned};
 ghost use Rattle.buffa_ext_laws.specs.PinnedExtensions.{RecordMergeIsPinned, SetIsPinned};
 ghost use Rattle.buffa_ext.specs.Steps.{ClearsAreOne, IsExactlySet, KeepsTheRest, LeavesOthers, NumberStep};
-ghost use Rattle.buffa_ext.specs.Steps.{ReadsHistory, SecondCounts, StandsLast, TakesOut, TakesThePlace, after, history};
+ghost use Rattle.buffa_ext.specs.Steps.{ReadsHistory, SecondCounts, ComesLast, TakesOut, TakesThePlace, after, history};
 
 pub use crate::codec_names::{number_names_are_these, other_names_are_these};
 pub use crate::extension_words::{
@@ -62,13 +62,13 @@ pub fn clones_are_these()
 
 /// The records of a number after steps are what its last step says.
 pub fn last_step_counts()
-    ensures { (n : ℕ) (rs : List (ℕ × Datum)) (cs : List NumberStep) → sub n (after rs cs) ≡ history n rs cs }
+    ensures { (n : ℕ) (rs : List (ℕ × FieldData)) (cs : List NumberStep) → sub n (after rs cs) ≡ history n rs cs }
 {}
 
 /// A set leaves the other numbers, and its records come last.
 pub fn sets_leave_others()
     ensures others { LeavesOthers }
-    ensures last { StandsLast }
+    ensures last { ComesLast }
 {}
 
 /// After a set the number's records hold what was set, those of other numbers stay, and no other list is so.
@@ -91,8 +91,8 @@ pub fn reads_after_steps<C: ExtensionCodec>()
 
 /// A value that was set is what is read, also after steps at other numbers.
 pub fn set_values_are_read<C: ExtensionCodec>()
-    ensures { (n : ℕ) (rs : List (ℕ × Datum)) (cs : List NumberStep) (v : C.Meaning) (o : C.Answer) → C.fits v →
-        C.normal v → history n rs cs ≡ C.recs v → C.reads (sub n (after rs cs)) o → C.holds v o }
+    ensures { (n : ℕ) (rs : List (ℕ × FieldData)) (cs : List NumberStep) (v : C.Meaning) (o : C.Answer) → C.fits v →
+        C.normal v → history n rs cs ≡ C.extension_data v → C.reads (sub n (after rs cs)) o → C.holds v o }
 {}
 
 /// Two sets are the second, and two clears are one.
@@ -105,9 +105,9 @@ pub fn last_set_counts()
 /// records under any budget never spends more than the encodings in them cost together, nor more than was
 /// there.
 pub fn messages_stay_within_a_budget<K: MessageRecord, M: Message>()
-    ensures read { (ds : List Datum) (v : M.Meaning) → ⟦<MessageIn<K, M> as ExtensionCodec>⟧.reads ds (Some v)
+    ensures read { (ds : List FieldData) (v : M.Meaning) → ⟦<MessageIn<K, M> as ExtensionCodec>⟧.reads ds (Some v)
         → Covers defaults (cost_all (M.cost 100) (encodings_in K.held ds)) }
-    ensures merged { (ds : List Datum) (old new : M.Meaning) (before left : BudgetLeft) (r : Result Bool DecodeError) →
+    ensures merged { (ds : List FieldData) (old new : M.Meaning) (before left : BudgetLeft) (r : Result Bool DecodeError) →
         MergesRecords (M.merged 100) (M.cost 100) K.held (K.asks 100) ds old before r new left →
         PaysAtMost before (cost_all (M.cost 100) (filter_map K.held ds)) left
         × (IsOk r → Covers before (cost_all (M.cost 100) (filter_map K.held ds))) }
@@ -117,12 +117,12 @@ pub fn messages_stay_within_a_budget<K: MessageRecord, M: Message>()
 /// groups, merged in order. A value is read back whose type says so, and whose encoding isn't too deep, nor
 /// costs more than the default budget.
 pub fn messages_are_read<M: Message>()
-    ensures delimited { (ds : List Datum) (o : Option M.Meaning) → ⟦<MessageCodec<M> as ExtensionCodec>⟧.reads ds o
+    ensures delimited { (ds : List FieldData) (o : Option M.Meaning) → ⟦<MessageCodec<M> as ExtensionCodec>⟧.reads ds o
         ↔ (o ≡ message_of (M.merged 100) (M.cost 100) M.blank_is defaults (filter_map bytes_held ds)) }
-    ensures groups { (ds : List Datum) (o : Option M.Meaning) → ⟦<GroupCodec<M> as ExtensionCodec>⟧.reads ds o
+    ensures groups { (ds : List FieldData) (o : Option M.Meaning) → ⟦<GroupCodec<M> as ExtensionCodec>⟧.reads ds o
         ↔ (o ≡ message_of (M.merged 100) (M.cost 100) M.blank_is defaults (filter_map group_held ds)) }
-    ensures bytes { (v : M.Meaning) → ⟦<MessageCodec<M> as ExtensionCodec>⟧.recs v ≡ held_bytes (M.encoding v) ∷ [] }
-    ensures group { (v : M.Meaning) → ⟦<GroupCodec<M> as ExtensionCodec>⟧.recs v ≡ group_of (M.encoding v) ∷ [] }
+    ensures bytes { (v : M.Meaning) → ⟦<MessageCodec<M> as ExtensionCodec>⟧.extension_data v ≡ held_bytes (M.encoding v) ∷ [] }
+    ensures group { (v : M.Meaning) → ⟦<GroupCodec<M> as ExtensionCodec>⟧.extension_data v ≡ group_of (M.encoding v) ∷ [] }
     ensures normal { (v : M.Meaning) → ⟦<MessageCodec<M> as ExtensionCodec>⟧.normal v
         ↔ ((M.normal v × (M.levels v ≤ 100) × Fits (records_of (M.records v)))
         × Covers defaults (cost_all (M.cost 100) (M.encoding v ∷ []))) }
@@ -133,12 +133,12 @@ pub fn messages_are_read<M: Message>()
         ↔ (o ≡ Some v) }
     ensures group_holds { (v : M.Meaning) (o : Option M.Meaning) → ⟦<GroupCodec<M> as ExtensionCodec>⟧.holds v o
         ↔ (o ≡ Some v) }
-    ensures asks { (ds : List Datum) → ⟦<MessageCodec<M> as ExtensionCodec>⟧.asks ds
-        ↔ ((front : List Datum) × (d : Datum) × (back : List Datum) × (mid : M.Meaning) × (left : BudgetLeft)
+    ensures asks { (ds : List FieldData) → ⟦<MessageCodec<M> as ExtensionCodec>⟧.asks ds
+        ↔ ((front : List FieldData) × (d : FieldData) × (back : List FieldData) × (mid : M.Meaning) × (left : BudgetLeft)
         × (ds ≡ front ++ d ∷ back) × ((merged_all (M.merged 100) M.blank_is (encodings_in bytes_held front) ≡ Some mid)
         × Pays defaults (cost_all (M.cost 100) (encodings_in bytes_held front)) left) × BeginsFieldIn bytes_held d) }
-    ensures group_asks { (ds : List Datum) → ⟦<GroupCodec<M> as ExtensionCodec>⟧.asks ds
-        ↔ ((front : List Datum) × (d : Datum) × (back : List Datum) × (mid : M.Meaning) × (left : BudgetLeft)
+    ensures group_asks { (ds : List FieldData) → ⟦<GroupCodec<M> as ExtensionCodec>⟧.asks ds
+        ↔ ((front : List FieldData) × (d : FieldData) × (back : List FieldData) × (mid : M.Meaning) × (left : BudgetLeft)
         × (ds ≡ front ++ d ∷ back) × ((merged_all (M.merged 100) M.blank_is (encodings_in group_held front) ≡ Some mid)
         × Pays defaults (cost_all (M.cost 100) (encodings_in group_held front)) left) × HasByte (group_held d)) }
     ensures too_large { (v : M.Meaning) → 2 ^ 31 ≤ length (M.encoding v) → ⟦<MessageCodec<M> as ExtensionCodec>⟧.refusal v
@@ -157,16 +157,16 @@ pub fn messages_are_read<M: Message>()
 /// The same of a message in records of any kind, by what the kind says a record holds, which record holds an encoding, which
 /// take memory, and why none holds one.
 pub fn messages_in_records_are_read<K: MessageRecord, M: Message>()
-    ensures read { (ds : List Datum) (o : Option M.Meaning) → ⟦<MessageIn<K, M> as ExtensionCodec>⟧.reads ds o
+    ensures read { (ds : List FieldData) (o : Option M.Meaning) → ⟦<MessageIn<K, M> as ExtensionCodec>⟧.reads ds o
         ↔ (o ≡ message_of (M.merged 100) (M.cost 100) M.blank_is defaults (filter_map K.held ds)) }
-    ensures records { (v : M.Meaning) → ⟦<MessageIn<K, M> as ExtensionCodec>⟧.recs v ≡ K.holder (M.encoding v) ∷ [] }
+    ensures records { (v : M.Meaning) → ⟦<MessageIn<K, M> as ExtensionCodec>⟧.extension_data v ≡ K.holder (M.encoding v) ∷ [] }
     ensures normal { (v : M.Meaning) → ⟦<MessageIn<K, M> as ExtensionCodec>⟧.normal v
         ↔ ((M.normal v × (M.levels v ≤ 100) × Fits (records_of (M.records v)))
         × Covers defaults (cost_all (M.cost 100) (filter_map K.held (K.holder (M.encoding v) ∷ [])))) }
     ensures holds { (v : M.Meaning) (o : Option M.Meaning) → ⟦<MessageIn<K, M> as ExtensionCodec>⟧.holds v o
         ↔ (o ≡ Some v) }
-    ensures asks { (ds : List Datum) → ⟦<MessageIn<K, M> as ExtensionCodec>⟧.asks ds
-        ↔ ((front : List Datum) × (d : Datum) × (back : List Datum) × (mid : M.Meaning) × (left : BudgetLeft)
+    ensures asks { (ds : List FieldData) → ⟦<MessageIn<K, M> as ExtensionCodec>⟧.asks ds
+        ↔ ((front : List FieldData) × (d : FieldData) × (back : List FieldData) × (mid : M.Meaning) × (left : BudgetLeft)
         × (ds ≡ front ++ d ∷ back) × ((merged_all (M.merged 100) M.blank_is (encodings_in K.held front) ≡ Some mid)
         × Pays defaults (cost_all (M.cost 100) (encodings_in K.held front)) left) × K.asks 100 d) }
     ensures too_large { (v : M.Meaning) → 2 ^ 31 ≤ length (M.encoding v) → ⟦<MessageIn<K, M> as ExtensionCodec>⟧.refusal v
@@ -180,16 +180,16 @@ pub fn messages_in_records_are_read<K: MessageRecord, M: Message>()
 /// One record of a kind, a user's own too, is read and written as the message whose encoding it holds, at any depth and of any budget,
 /// and so is an element of a list. A value is refused where its encoding is 2^31 bytes long or longer, or no record of the kind holds it.
 pub fn records_of_a_kind_are_read<K: MessageRecord, M: Message>()
-    ensures one { (n : ℕ) (b : BudgetLeft) (d : Datum) → ⟦<MessageIn<K, M> as SingularCodec>⟧.one n b d
+    ensures one { (n : ℕ) (b : BudgetLeft) (d : FieldData) → ⟦<MessageIn<K, M> as SingularCodec>⟧.one n b d
         ≡ message_of (M.merged n) (M.cost n) M.blank_is b (filter_map K.held (d ∷ [])) }
-    ensures leaves { (n : ℕ) (b left : BudgetLeft) (d : Datum) → ⟦<MessageIn<K, M> as SingularCodec>⟧.leaves n b d left
+    ensures leaves { (n : ℕ) (b left : BudgetLeft) (d : FieldData) → ⟦<MessageIn<K, M> as SingularCodec>⟧.leaves n b d left
         ↔ LeavesOf (message_of (M.merged n) (M.cost n) M.blank_is b (filter_map K.held (d ∷ []))) b
         (cost_all (M.cost n) (filter_map K.held (d ∷ []))) left }
-    ensures cost { (d : Datum) → ⟦<MessageIn<K, M> as SingularCodec>⟧.cost d
+    ensures cost { (d : FieldData) → ⟦<MessageIn<K, M> as SingularCodec>⟧.cost d
         ≡ cost_all (M.cost 100) (filter_map K.held (d ∷ [])) }
-    ensures most { (n : ℕ) (d : Datum) → ⟦<MessageIn<K, M> as SingularCodec>⟧.most n d
+    ensures most { (n : ℕ) (d : FieldData) → ⟦<MessageIn<K, M> as SingularCodec>⟧.most n d
         ≡ cost_all (M.cost n) (filter_map K.held (d ∷ [])) }
-    ensures datum { (v : M.Meaning) → ⟦<MessageIn<K, M> as SingularCodec>⟧.datum v ≡ K.holder (M.encoding v) }
+    ensures field_data { (v : M.Meaning) → ⟦<MessageIn<K, M> as SingularCodec>⟧.field_data v ≡ K.holder (M.encoding v) }
     ensures too_large { (v : M.Meaning) → 2 ^ 31 ≤ length (M.encoding v) → ⟦<MessageIn<K, M> as SingularCodec>⟧.refusal v
         ≡ Some MessageTooLarge }
     ensures written { (v : M.Meaning) → length (M.encoding v) < 2 ^ 31 → ⟦<MessageIn<K, M> as SingularCodec>⟧.refusal v
@@ -199,23 +199,23 @@ pub fn records_of_a_kind_are_read<K: MessageRecord, M: Message>()
     ensures normal { (v : M.Meaning) → ⟦<MessageIn<K, M> as SingularCodec>⟧.normal v
         ↔ (M.normal v × (M.levels v ≤ 100) × Fits (records_of (M.records v))) }
     ensures back { (v : M.Meaning) → ⟦<MessageIn<K, M> as SingularCodec>⟧.back v ≡ v }
-    ensures asks { (d : Datum) → ⟦<MessageIn<K, M> as SingularCodec>⟧.asks d ↔ ((n : ℕ) × K.asks n d) }
+    ensures asks { (d : FieldData) → ⟦<MessageIn<K, M> as SingularCodec>⟧.asks d ↔ ((n : ℕ) × K.asks n d) }
     ensures packed { (bs : List ℕ) → ⟦<MessageIn<K, M> as SingularCodec>⟧.packed bs ≡ [] }
 {}
 
 /// One record of bytes is read and written as a message, at any depth and of any budget, and so is an element
 /// of a list. A value is refused exactly where its encoding is 2^31 bytes long or longer.
 pub fn message_records_are_read<M: Message>()
-    ensures one { (n : ℕ) (b : BudgetLeft) (d : Datum) → ⟦<MessageCodec<M> as SingularCodec>⟧.one n b d
+    ensures one { (n : ℕ) (b : BudgetLeft) (d : FieldData) → ⟦<MessageCodec<M> as SingularCodec>⟧.one n b d
         ≡ message_of (M.merged n) (M.cost n) M.blank_is b (encodings_in bytes_held (d ∷ [])) }
-    ensures leaves { (n : ℕ) (b left : BudgetLeft) (d : Datum) → ⟦<MessageCodec<M> as SingularCodec>⟧.leaves n b d left
+    ensures leaves { (n : ℕ) (b left : BudgetLeft) (d : FieldData) → ⟦<MessageCodec<M> as SingularCodec>⟧.leaves n b d left
         ↔ LeavesOf (message_of (M.merged n) (M.cost n) M.blank_is b (filter_map bytes_held (d ∷ []))) b
         (cost_all (M.cost n) (filter_map bytes_held (d ∷ []))) left }
-    ensures cost { (d : Datum) → ⟦<MessageCodec<M> as SingularCodec>⟧.cost d
+    ensures cost { (d : FieldData) → ⟦<MessageCodec<M> as SingularCodec>⟧.cost d
         ≡ cost_all (M.cost 100) (encodings_in bytes_held (d ∷ [])) }
-    ensures most { (n : ℕ) (d : Datum) → ⟦<MessageCodec<M> as SingularCodec>⟧.most n d
+    ensures most { (n : ℕ) (d : FieldData) → ⟦<MessageCodec<M> as SingularCodec>⟧.most n d
         ≡ cost_all (M.cost n) (encodings_in bytes_held (d ∷ [])) }
-    ensures datum { (v : M.Meaning) → ⟦<MessageCodec<M> as SingularCodec>⟧.datum v ≡ held_bytes (M.encoding v) }
+    ensures field_data { (v : M.Meaning) → ⟦<MessageCodec<M> as SingularCodec>⟧.field_data v ≡ held_bytes (M.encoding v) }
     ensures refusal { (v : M.Meaning) → ⟦<MessageCodec<M> as SingularCodec>⟧.refusal v
         ≡ encoding_refusal (λ t. None) (M.encoding v) }
     ensures fits { (v : M.Meaning) → ⟦<MessageCodec<M> as SingularCodec>⟧.fits v
@@ -229,22 +229,22 @@ pub fn message_records_are_read<M: Message>()
     ensures normal { (v : M.Meaning) → ⟦<MessageCodec<M> as SingularCodec>⟧.normal v
         ↔ (M.normal v × (M.levels v ≤ 100) × Fits (records_of (M.records v))) }
     ensures back { (v : M.Meaning) → ⟦<MessageCodec<M> as SingularCodec>⟧.back v ≡ v }
-    ensures asks { (d : Datum) → ⟦<MessageCodec<M> as SingularCodec>⟧.asks d ↔ BeginsFieldIn bytes_held d }
+    ensures asks { (d : FieldData) → ⟦<MessageCodec<M> as SingularCodec>⟧.asks d ↔ BeginsFieldIn bytes_held d }
     ensures packed { (bs : List ℕ) → ⟦<MessageCodec<M> as SingularCodec>⟧.packed bs ≡ [] }
 {}
 
 /// The same of a group, where a shorter encoding is refused too if no records are read of it.
 pub fn group_records_are_read<M: Message>()
-    ensures one { (n : ℕ) (b : BudgetLeft) (d : Datum) → ⟦<GroupCodec<M> as SingularCodec>⟧.one n b d
+    ensures one { (n : ℕ) (b : BudgetLeft) (d : FieldData) → ⟦<GroupCodec<M> as SingularCodec>⟧.one n b d
         ≡ message_of (M.merged n) (M.cost n) M.blank_is b (encodings_in group_held (d ∷ [])) }
-    ensures leaves { (n : ℕ) (b left : BudgetLeft) (d : Datum) → ⟦<GroupCodec<M> as SingularCodec>⟧.leaves n b d left
+    ensures leaves { (n : ℕ) (b left : BudgetLeft) (d : FieldData) → ⟦<GroupCodec<M> as SingularCodec>⟧.leaves n b d left
         ↔ LeavesOf (message_of (M.merged n) (M.cost n) M.blank_is b (filter_map group_held (d ∷ []))) b
         (cost_all (M.cost n) (filter_map group_held (d ∷ []))) left }
-    ensures cost { (d : Datum) → ⟦<GroupCodec<M> as SingularCodec>⟧.cost d
+    ensures cost { (d : FieldData) → ⟦<GroupCodec<M> as SingularCodec>⟧.cost d
         ≡ cost_all (M.cost 100) (encodings_in group_held (d ∷ [])) }
-    ensures most { (n : ℕ) (d : Datum) → ⟦<GroupCodec<M> as SingularCodec>⟧.most n d
+    ensures most { (n : ℕ) (d : FieldData) → ⟦<GroupCodec<M> as SingularCodec>⟧.most n d
         ≡ cost_all (M.cost n) (encodings_in group_held (d ∷ [])) }
-    ensures datum { (v : M.Meaning) → ⟦<GroupCodec<M> as SingularCodec>⟧.datum v ≡ group_of (M.encoding v) }
+    ensures field_data { (v : M.Meaning) → ⟦<GroupCodec<M> as SingularCodec>⟧.field_data v ≡ group_of (M.encoding v) }
     ensures refusal { (v : M.Meaning) → ⟦<GroupCodec<M> as SingularCodec>⟧.refusal v
         ≡ encoding_refusal group_refusal (M.encoding v) }
     ensures fits { (v : M.Meaning) → ⟦<GroupCodec<M> as SingularCodec>⟧.fits v
@@ -258,7 +258,7 @@ pub fn group_records_are_read<M: Message>()
     ensures normal { (v : M.Meaning) → ⟦<GroupCodec<M> as SingularCodec>⟧.normal v
         ↔ (M.normal v × (M.levels v ≤ 100) × Fits (records_of (M.records v))) }
     ensures back { (v : M.Meaning) → ⟦<GroupCodec<M> as SingularCodec>⟧.back v ≡ v }
-    ensures asks { (d : Datum) → ⟦<GroupCodec<M> as SingularCodec>⟧.asks d ↔ ((n : ℕ) × HasByte (group_held d)) }
+    ensures asks { (d : FieldData) → ⟦<GroupCodec<M> as SingularCodec>⟧.asks d ↔ ((n : ℕ) × HasByte (group_held d)) }
     ensures packed { (bs : List ℕ) → ⟦<GroupCodec<M> as SingularCodec>⟧.packed bs ≡ [] }
 {}
 
@@ -275,11 +275,11 @@ pub fn messages_mean_these<K: MessageRecord, M: Message>(value: &M, output: &Opt
 pub fn held_encodings_are_these()
     ensures wire_type { (⟦<Delimited as MessageRecord>⟧.WIRE_TYPE ≡ LengthDelimited)
         × (⟦<Grouped as MessageRecord>⟧.WIRE_TYPE ≡ StartGroup) }
-    ensures held { (d : Datum) → (⟦<Delimited as MessageRecord>⟧.held d ≡ bytes_held d)
+    ensures held { (d : FieldData) → (⟦<Delimited as MessageRecord>⟧.held d ≡ bytes_held d)
         × (⟦<Grouped as MessageRecord>⟧.held d ≡ group_held d) }
     ensures holder { (t : List ℕ) → (⟦<Delimited as MessageRecord>⟧.holder t ≡ held_bytes t)
         × (⟦<Grouped as MessageRecord>⟧.holder t ≡ group_of t) }
-    ensures asks { (n : ℕ) (d : Datum) → (⟦<Delimited as MessageRecord>⟧.asks n d ↔ BeginsFieldIn bytes_held d)
+    ensures asks { (n : ℕ) (d : FieldData) → (⟦<Delimited as MessageRecord>⟧.asks n d ↔ BeginsFieldIn bytes_held d)
         × (⟦<Grouped as MessageRecord>⟧.asks n d ↔ HasByte (group_held d)) }
     ensures refusal { (t : List ℕ) → (⟦<Delimited as MessageRecord>⟧.refusal t ≡ None)
         × (⟦<Grouped as MessageRecord>⟧.refusal t ≡ group_refusal t) }

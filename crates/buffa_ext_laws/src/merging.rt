@@ -6,10 +6,10 @@ ghost use Rattle.std.specs.List.{filter_map};
 ghost use Rattle.buffa_bytes.specs.declared.error.DecodeError.{DecodeError};
 ghost use Rattle.buffa_bytes.specs.declared.error.DecodeError.TheVariants.{OutOfMemory};
 ghost use Rattle.buffa_wire.specs.BudgetLeft.{BudgetLeft, Pays, PaysAtMost};
-ghost use Rattle.buffa_wire.specs.Message.{MergeFault, Stands};
-ghost use Rattle.buffa_wire.specs.Records.{Datum};
+ghost use Rattle.buffa_wire.specs.Message.{MergeFault, PartlyMerged};
+ghost use Rattle.buffa_wire.specs.Records.{FieldData};
 ghost use Rattle.buffa_wire.specs.declared.context.DecodeContext.{DecodeContext};
-ghost use Rattle.buffa_ext.specs.Messages.{MergesOne, MergesRecords, StandsInRecord, StopsStanding, cost_all, merged_all, some_there};
+ghost use Rattle.buffa_ext.specs.Messages.{MergesOne, MergesRecords, PartlyMergedRecord, StopsPartlyMerged, cost_all, merged_all, some_there};
 
 use buffa_ext::record::MessageRecord;
 use buffa_wire::Message;
@@ -20,19 +20,19 @@ use buffa_wire::Message;
 pub fn one_record_is_merged_so<K: MessageRecord, M: Message>()
     ensures none { some_there [] ≡ false }
     ensures some { (b : List ℕ) (bs : List (List ℕ)) → some_there (b ∷ bs) ≡ true }
-    ensures merged { (ctx : DecodeContext) (d : Datum) (old new : M.Meaning) (some : Bool) (left : BudgetLeft) →
+    ensures merged { (ctx : DecodeContext) (d : FieldData) (old new : M.Meaning) (some : Bool) (left : BudgetLeft) →
         MergesOne M.merged M.cost K.held ctx d old (Ok some) new left
         ↔ ((some ≡ some_there (filter_map K.held (d ∷ [])))
         × (merged_all (M.merged ctx.depth) old (filter_map K.held (d ∷ [])) ≡ Some new)
         × Pays ctx.budget.now (cost_all (M.cost ctx.depth) (filter_map K.held (d ∷ []))) left) }
-    ensures refused { (ctx : DecodeContext) (d : Datum) (old new : M.Meaning) (e : DecodeError) (left : BudgetLeft) →
+    ensures refused { (ctx : DecodeContext) (d : FieldData) (old new : M.Meaning) (e : DecodeError) (left : BudgetLeft) →
         MergesOne M.merged M.cost K.held ctx d old (Err e) new left
         ↔ (PaysAtMost ctx.budget.now (cost_all (M.cost ctx.depth) (filter_map K.held (d ∷ []))) left
         × (e ≢ OutOfMemory → MergeFault (merged_all (M.merged ctx.depth) old (filter_map K.held (d ∷ [])))
         (cost_all (M.cost ctx.depth) (filter_map K.held (d ∷ []))) ctx.budget.now e)) }
-    ensures stands { (n : ℕ) (d : Datum) (old new : M.Meaning) (before : BudgetLeft) (e : DecodeError) →
-        StandsInRecord M.merged M.cost M.Refused K.held n d old before e new
-        ↔ ((t : List ℕ) × (K.held d ≡ Some t) × (Stands M.merged M.cost M.Refused n old t before e new
+    ensures partly { (n : ℕ) (d : FieldData) (old new : M.Meaning) (before : BudgetLeft) (e : DecodeError) →
+        PartlyMergedRecord M.merged M.cost M.Refused K.held n d old before e new
+        ↔ ((t : List ℕ) × (K.held d ≡ Some t) × (PartlyMerged M.merged M.cost M.Refused n old t before e new
         ⊎ ((e ≡ OutOfMemory) × (new ≡ old)))) }
 {}
 
@@ -40,24 +40,24 @@ pub fn one_record_is_merged_so<K: MessageRecord, M: Message>()
 /// together; or it stops at the first one that is refused. Those before it are merged and paid for, of its own cost at most all is
 /// spent, and of those behind it nothing is.
 pub fn merged_records_are_these<K: MessageRecord, M: Message>()
-    ensures merged { (n : ℕ) (ds : List Datum) (old new : M.Meaning) (before left : BudgetLeft) (some : Bool) →
+    ensures merged { (n : ℕ) (ds : List FieldData) (old new : M.Meaning) (before left : BudgetLeft) (some : Bool) →
         MergesRecords (M.merged n) (M.cost n) K.held (K.asks n) ds old before (Ok some) new left
         ↔ ((some ≡ some_there (filter_map K.held ds)) × (merged_all (M.merged n) old (filter_map K.held ds) ≡ Some new)
         × Pays before (cost_all (M.cost n) (filter_map K.held ds)) left) }
-    ensures refused { (n : ℕ) (ds : List Datum) (old new : M.Meaning) (before after : BudgetLeft) (e : DecodeError) →
+    ensures refused { (n : ℕ) (ds : List FieldData) (old new : M.Meaning) (before after : BudgetLeft) (e : DecodeError) →
         MergesRecords (M.merged n) (M.cost n) K.held (K.asks n) ds old before (Err e) new after
-        ↔ ((front : List Datum) × (d : Datum) × (back : List Datum) × (mid : M.Meaning) × (left : BudgetLeft)
+        ↔ ((front : List FieldData) × (d : FieldData) × (back : List FieldData) × (mid : M.Meaning) × (left : BudgetLeft)
         × (ds ≡ front ++ d ∷ back) × ((merged_all (M.merged n) old (filter_map K.held front) ≡ Some mid)
         × Pays before (cost_all (M.cost n) (filter_map K.held front)) left)
         × (t : List ℕ) × (K.held d ≡ Some t) × PaysAtMost left (M.cost n t) after × (e ≡ OutOfMemory → K.asks n d)
         × (e ≢ OutOfMemory → MergeFault (M.merged n mid t) (M.cost n t) left e)) }
-    ensures stands { (n : ℕ) (ds : List Datum) (old new : M.Meaning) (before after : BudgetLeft) (e : DecodeError) →
-        StopsStanding (M.merged n) (M.cost n) K.held (K.asks n) (StandsInRecord M.merged M.cost M.Refused K.held n) ds old
+    ensures partly { (n : ℕ) (ds : List FieldData) (old new : M.Meaning) (before after : BudgetLeft) (e : DecodeError) →
+        StopsPartlyMerged (M.merged n) (M.cost n) K.held (K.asks n) (PartlyMergedRecord M.merged M.cost M.Refused K.held n) ds old
         before e new after
-        ↔ ((front : List Datum) × (d : Datum) × (back : List Datum) × (mid : M.Meaning) × (left : BudgetLeft)
+        ↔ ((front : List FieldData) × (d : FieldData) × (back : List FieldData) × (mid : M.Meaning) × (left : BudgetLeft)
         × (ds ≡ front ++ d ∷ back) × ((merged_all (M.merged n) old (filter_map K.held front) ≡ Some mid)
         × Pays before (cost_all (M.cost n) (filter_map K.held front)) left)
         × ((t : List ℕ) × (K.held d ≡ Some t) × PaysAtMost left (M.cost n t) after × (e ≡ OutOfMemory → K.asks n d)
         × (e ≢ OutOfMemory → MergeFault (M.merged n mid t) (M.cost n t) left e))
-        × StandsInRecord M.merged M.cost M.Refused K.held n d mid left e new) }
+        × PartlyMergedRecord M.merged M.cost M.Refused K.held n d mid left e new) }
 {}

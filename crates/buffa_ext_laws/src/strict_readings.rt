@@ -3,13 +3,13 @@
 
 ghost use Rattle.std.specs.Prelude.{◌≡◌, ◌≢◌, ◌↔◌, ◌⊎◌, ℕ, List, [], ◌∷◌, ◌++◌, None, Some};
 ghost use Rattle.std.specs.List.{AllByRecursion};
-ghost use Rattle.buffa_bytes.specs.Content.{Content, ContentFault, TakesContent};
+ghost use Rattle.buffa_bytes.specs.PayloadValue.{PayloadValue, PayloadValueFault, TakesPayloadValue};
 ghost use Rattle.buffa_bytes.specs.declared.error.DecodeError.{DecodeError};
 ghost use Rattle.buffa_bytes.specs.declared.error.DecodeError.TheVariants.{OutOfMemory};
 ghost use Rattle.buffa_bytes.specs.declared.wire_type.WireType.{WireType};
 ghost use Rattle.buffa_wire.specs.BudgetLeft.{BudgetLeft, Pays, defaults};
 ghost use Rattle.buffa_wire.specs.Message.{MergeFault};
-ghost use Rattle.buffa_wire.specs.Records.{Datum};
+ghost use Rattle.buffa_wire.specs.Records.{FieldData};
 ghost use Rattle.buffa_codec.specs.Strict.{AreElements};
 ghost use Rattle.buffa_codec.specs.Strict.{bytes_fault, number_list_fault, packed_fault, string_fault, unless_found};
 ghost use Rattle.buffa_ext.specs.Messages.{cost_all, encodings_in, merged_all, message_of};
@@ -29,12 +29,12 @@ use buffa_wire::Message;
 /// Nothing is left open, memory aside: the value is that of [`ExtensionCodec::decode`], which is one.
 pub fn strict_values_are_pinned<C: LastWins + StrictSingularCodec>()
     ensures either { FaultlessOrFault ⟦<C as StrictCodec>⟧.IsFaultless ⟦<C as StrictCodec>⟧.HasFault }
-    ensures told { OneFault ⟦<C as StrictCodec>⟧.HasFault }
+    ensures reported { OneFault ⟦<C as StrictCodec>⟧.HasFault }
     ensures absent { NoneIsAbsent ⟦<C as StrictCodec>⟧.IsFaultless ⟦<C as ExtensionCodec>⟧.reads }
-    ensures whole { (n : ℕ) (ds : List Datum) → ⟦<C as StrictCodec>⟧.IsFaultless n ds
+    ensures whole { (n : ℕ) (ds : List FieldData) → ⟦<C as StrictCodec>⟧.IsFaultless n ds
         ↔ AllByRecursion (λ d. C.fault n d ≡ None) ds }
-    ensures first { (n : ℕ) (ds : List Datum) (e : DecodeError) → ⟦<C as StrictCodec>⟧.HasFault n ds e
-        ↔ ((front : List Datum) × (d : Datum) × (back : List Datum) × (ds ≡ front ++ d ∷ back)
+    ensures first { (n : ℕ) (ds : List FieldData) (e : DecodeError) → ⟦<C as StrictCodec>⟧.HasFault n ds e
+        ↔ ((front : List FieldData) × (d : FieldData) × (back : List FieldData) × (ds ≡ front ++ d ∷ back)
         × AllByRecursion (λ d. C.fault n d ≡ None) front × (C.fault n d ≡ Some e)) }
 {}
 
@@ -46,13 +46,13 @@ pub fn strict_values_are_pinned<C: LastWins + StrictSingularCodec>()
 pub fn strict_messages_are_pinned<K: MessageRecord, M: Message>()
     ensures either { FaultlessOrFault ⟦<MessageIn<K, M> as StrictCodec>⟧.IsFaultless
         ⟦<MessageIn<K, M> as StrictCodec>⟧.HasFault }
-    ensures whole { (n : ℕ) (ds : List Datum) → ⟦<MessageIn<K, M> as StrictCodec>⟧.IsFaultless n ds
+    ensures whole { (n : ℕ) (ds : List FieldData) → ⟦<MessageIn<K, M> as StrictCodec>⟧.IsFaultless n ds
         ↔ (AllByRecursion (λ d. unless_found (K.held d) K.WIRE_TYPE n d ≡ None) ds × (new : M.Meaning) × (left : BudgetLeft)
         × (merged_all (M.merged 100) M.blank_is (encodings_in K.held ds) ≡ Some new)
         × Pays defaults (cost_all (M.cost 100) (encodings_in K.held ds)) left) }
     ensures absent { NoneIsAbsent ⟦<MessageIn<K, M> as StrictCodec>⟧.IsFaultless ⟦<MessageIn<K, M> as ExtensionCodec>⟧.reads }
-    ensures first { (n : ℕ) (ds : List Datum) (e : DecodeError) → ⟦<MessageIn<K, M> as StrictCodec>⟧.HasFault n ds e
-        ↔ ((front : List Datum) × (d : Datum) × (back : List Datum) × (mid : M.Meaning) × (left : BudgetLeft)
+    ensures first { (n : ℕ) (ds : List FieldData) (e : DecodeError) → ⟦<MessageIn<K, M> as StrictCodec>⟧.HasFault n ds e
+        ↔ ((front : List FieldData) × (d : FieldData) × (back : List FieldData) × (mid : M.Meaning) × (left : BudgetLeft)
         × (ds ≡ front ++ d ∷ back) × AllByRecursion (λ d. unless_found (K.held d) K.WIRE_TYPE n d ≡ None) front
         × ((merged_all (M.merged 100) M.blank_is (encodings_in K.held front) ≡ Some mid)
         × Pays defaults (cost_all (M.cost 100) (encodings_in K.held front)) left)
@@ -63,16 +63,16 @@ pub fn strict_messages_are_pinned<K: MessageRecord, M: Message>()
 /// A strict reading of a list, packed or not, reads records that are elements, or packed ones, each by what those before
 /// it leave of the default budget; and its fault is that of the first record that is no element.
 pub fn strict_lists_are_pinned<C: StrictElementCodec, P: PackableCodec + StrictElementCodec>()
-    ensures whole { (n : ℕ) (ds : List Datum) → ⟦<Repeated<C> as StrictCodec>⟧.IsFaultless n ds
+    ensures whole { (n : ℕ) (ds : List FieldData) → ⟦<Repeated<C> as StrictCodec>⟧.IsFaultless n ds
         ↔ ((left : BudgetLeft) × AreElements (C.IsElement n) (C.leaves 100) defaults ds left) }
-    ensures first { (n : ℕ) (ds : List Datum) (e : DecodeError) → ⟦<Repeated<C> as StrictCodec>⟧.HasFault n ds e
-        ↔ ((front : List Datum) × (d : Datum) × (back : List Datum) × (mid : BudgetLeft) × (ds ≡ front ++ d ∷ back)
+    ensures first { (n : ℕ) (ds : List FieldData) (e : DecodeError) → ⟦<Repeated<C> as StrictCodec>⟧.HasFault n ds e
+        ↔ ((front : List FieldData) × (d : FieldData) × (back : List FieldData) × (mid : BudgetLeft) × (ds ≡ front ++ d ∷ back)
         × AreElements (C.IsElement n) (C.leaves 100) defaults front mid × C.ElementFault n mid d e) }
-    ensures packed_whole { (n : ℕ) (ds : List Datum) → ⟦<PackedRepeated<P> as StrictCodec>⟧.IsFaultless n ds
+    ensures packed_whole { (n : ℕ) (ds : List FieldData) → ⟦<PackedRepeated<P> as StrictCodec>⟧.IsFaultless n ds
         ↔ ((left : BudgetLeft) × AreElements (P.IsElement n) (P.leaves 100) defaults ds left) }
-    ensures packed_first { (n : ℕ) (ds : List Datum) (e : DecodeError) →
+    ensures packed_first { (n : ℕ) (ds : List FieldData) (e : DecodeError) →
         ⟦<PackedRepeated<P> as StrictCodec>⟧.HasFault n ds e
-        ↔ ((front : List Datum) × (d : Datum) × (back : List Datum) × (mid : BudgetLeft) × (ds ≡ front ++ d ∷ back)
+        ↔ ((front : List FieldData) × (d : FieldData) × (back : List FieldData) × (mid : BudgetLeft) × (ds ≡ front ++ d ∷ back)
         × AreElements (P.IsElement n) (P.leaves 100) defaults front mid × P.ElementFault n mid d e) }
 {}
 
@@ -80,37 +80,37 @@ pub fn strict_lists_are_pinned<C: StrictElementCodec, P: PackableCodec + StrictE
 pub fn strict_number_lists_are_pinned<N: Numbered>()
     ensures either { FaultlessOrFault ⟦<Repeated<N> as StrictCodec>⟧.IsFaultless
         ⟦<Repeated<N> as StrictCodec>⟧.HasFault }
-    ensures told { OneFault ⟦<Repeated<N> as StrictCodec>⟧.HasFault }
+    ensures reported { OneFault ⟦<Repeated<N> as StrictCodec>⟧.HasFault }
     ensures packed_either { FaultlessOrFault ⟦<PackedRepeated<N> as StrictCodec>⟧.IsFaultless
         ⟦<PackedRepeated<N> as StrictCodec>⟧.HasFault }
-    ensures packed_told { OneFault ⟦<PackedRepeated<N> as StrictCodec>⟧.HasFault }
+    ensures packed_found { OneFault ⟦<PackedRepeated<N> as StrictCodec>⟧.HasFault }
 {}
 
 /// The fault of a record: it has another wire type; or, of a string, its bytes are no UTF-8; or, in a list of numbers,
 /// it is that of the first payload of packed bytes that is none; or, in a list of messages, its encoding isn't merged
 /// into a blank. An element is a record without a fault.
 pub fn record_faults_are_these<N: Numbered, K: MessageRecord, M: Message>()
-    ensures number { (n : ℕ) (d : Datum) → ⟦<N as StrictSingularCodec>⟧.fault n d
+    ensures number { (n : ℕ) (d : FieldData) → ⟦<N as StrictSingularCodec>⟧.fault n d
         ≡ unless_found (N.Form.found d) N.Form.WIRE_TYPE n d }
-    ensures string { (n : ℕ) (d : Datum) → ⟦<StringCodec as StrictSingularCodec>⟧.fault n d ≡ string_fault n d }
-    ensures bytes { (n : ℕ) (d : Datum) → ⟦<BytesCodec as StrictSingularCodec>⟧.fault n d ≡ bytes_fault n d }
-    ensures listed { (n : ℕ) (b : BudgetLeft) (d : Datum) (e : DecodeError) →
+    ensures string { (n : ℕ) (d : FieldData) → ⟦<StringCodec as StrictSingularCodec>⟧.fault n d ≡ string_fault n d }
+    ensures bytes { (n : ℕ) (d : FieldData) → ⟦<BytesCodec as StrictSingularCodec>⟧.fault n d ≡ bytes_fault n d }
+    ensures listed { (n : ℕ) (b : BudgetLeft) (d : FieldData) (e : DecodeError) →
         ⟦<N as StrictElementCodec>⟧.ElementFault n b d e ↔ (number_list_fault N.Form.found N.Form.WIRE_TYPE n d ≡ Some e) }
-    ensures number_element { (n : ℕ) (b : BudgetLeft) (d : Datum) →
+    ensures number_element { (n : ℕ) (b : BudgetLeft) (d : FieldData) →
         ⟦<N as StrictElementCodec>⟧.IsElement n b d ↔ (number_list_fault N.Form.found N.Form.WIRE_TYPE n d ≡ None) }
-    ensures string_listed { (n : ℕ) (b : BudgetLeft) (d : Datum) (e : DecodeError) →
+    ensures string_listed { (n : ℕ) (b : BudgetLeft) (d : FieldData) (e : DecodeError) →
         ⟦<StringCodec as StrictElementCodec>⟧.ElementFault n b d e ↔ (string_fault n d ≡ Some e) }
-    ensures string_element { (n : ℕ) (b : BudgetLeft) (d : Datum) →
+    ensures string_element { (n : ℕ) (b : BudgetLeft) (d : FieldData) →
         ⟦<StringCodec as StrictElementCodec>⟧.IsElement n b d ↔ (string_fault n d ≡ None) }
-    ensures bytes_listed { (n : ℕ) (b : BudgetLeft) (d : Datum) (e : DecodeError) →
+    ensures bytes_listed { (n : ℕ) (b : BudgetLeft) (d : FieldData) (e : DecodeError) →
         ⟦<BytesCodec as StrictElementCodec>⟧.ElementFault n b d e ↔ (bytes_fault n d ≡ Some e) }
-    ensures bytes_element { (n : ℕ) (b : BudgetLeft) (d : Datum) →
+    ensures bytes_element { (n : ℕ) (b : BudgetLeft) (d : FieldData) →
         ⟦<BytesCodec as StrictElementCodec>⟧.IsElement n b d ↔ (bytes_fault n d ≡ None) }
-    ensures message_listed { (n : ℕ) (b : BudgetLeft) (d : Datum) (e : DecodeError) →
+    ensures message_listed { (n : ℕ) (b : BudgetLeft) (d : FieldData) (e : DecodeError) →
         ⟦<MessageIn<K, M> as StrictElementCodec>⟧.ElementFault n b d e
         ↔ ((unless_found (K.held d) K.WIRE_TYPE n d ≡ Some e) ⊎ ((e ≢ OutOfMemory) × (t : List ℕ) × (K.held d ≡ Some t)
         × MergeFault (M.merged 100 M.blank_is t) (M.cost 100 t) b e)) }
-    ensures message_element { (n : ℕ) (b : BudgetLeft) (d : Datum) →
+    ensures message_element { (n : ℕ) (b : BudgetLeft) (d : FieldData) →
         ⟦<MessageIn<K, M> as StrictElementCodec>⟧.IsElement n b d ↔ ((v : M.Meaning)
         × (message_of (M.merged 100) (M.cost 100) M.blank_is b (encodings_in K.held (d ∷ [])) ≡ Some v)) }
 {}
@@ -119,10 +119,10 @@ pub fn record_faults_are_these<N: Numbered, K: MessageRecord, M: Message>()
 /// that.
 pub fn packed_faults_are_these()
     ensures whole { (w : WireType) (bs : List ℕ) (e : DecodeError) → (packed_fault w bs ≡ Some e)
-        ↔ ((cs : List Content) × FaultBehind w cs bs e) }
+        ↔ ((cs : List PayloadValue) × FaultBehind w cs bs e) }
     ensures none { (w : WireType) → packed_fault w [] ≡ None }
-    ensures next { (w : WireType) (bs rest : List ℕ) (c : Content) → TakesContent w bs c rest →
+    ensures next { (w : WireType) (bs rest : List ℕ) (c : PayloadValue) → TakesPayloadValue w bs c rest →
         packed_fault w bs ≡ packed_fault w rest }
-    ensures fault { (w : WireType) (bs : List ℕ) (e : DecodeError) → bs ≢ [] → ContentFault w bs e →
+    ensures fault { (w : WireType) (bs : List ℕ) (e : DecodeError) → bs ≢ [] → PayloadValueFault w bs e →
         packed_fault w bs ≡ Some e }
 {}

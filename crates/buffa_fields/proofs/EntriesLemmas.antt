@@ -5,7 +5,7 @@ use Rattle.buffa_bytes.specs.declared.error.DecodeError.{DecodeError}
 use Rattle.buffa_bytes.specs.declared.error.DecodeError.TheVariants as error
 use Rattle.buffa_bytes.specs.declared.wire_type.WireType.{WireType}
 use Rattle.buffa_bytes.specs.declared.wire_type.WireType.TheVariants.{LengthDelimited}
-use Rattle.buffa_bytes.specs.Front.{check_wire, delimited_at, same_wire}
+use Rattle.buffa_bytes.specs.Readings.{check_wire, delimited_at, same_wire}
 use Rattle.buffa_bytes.proofs.FieldLemmas.{same_false}
 use Rattle.buffa_bytes.proofs.WireLemmas.{checked_same}
 use Rattle.buffa_wire.proofs.MessageLemmas.{NoLimit}
@@ -16,7 +16,7 @@ use Rattle.buffa_map.proofs.EntryLemmas.{entry_complete, entry_faulty}
 use Rattle.buffa_map.proofs.TailLemmas.{not_delimited}
 use Rattle.buffa_map.specs.Codec.{Reading}
 use Rattle.buffa_map.specs.Entry.{EntryFault, FaultOf, IsEntry}
-use Rattle.buffa_map.specs.EntryReading.{inner_need, need_of}
+use Rattle.buffa_map.specs.EntryReading.{inner_charge, charge_of}
 use Rattle.buffa_map.specs.Laws.{LimitsAreTrue}
 use Rattle.buffa_map.specs.Merge.{MergesEntry, RefusesEntry, Rules, State, unknown_cost}
 use Rattle.buffa_map.specs.declared.map_entry.MapEntry.{MapEntry}
@@ -32,8 +32,8 @@ is_limit _ = inr (λ h. h)
 -- bytes cost at least what they need as an entry of so many units; if they are one, just that, and so many unknown fields if it is undeclared
 abbrev pub IsCost : {K V : Type 0} → Reading K → Reading V → ℕ → ℕ → ℕ → (List ℕ → BudgetLeft) → Type 0
 IsCost {K} {V} key val d cost extra costs =
-    (e : List ℕ) → Covers (costs e) (need_of key val d cost e)
-    × ((s : MapEntry K V) → IsEntry key val d e s → costs e ≡ plus (need_of key val d cost e) (unknown_fields (cond s.known 0 extra)))
+    (e : List ℕ) → Covers (costs e) (charge_of key val d cost e)
+    × ((s : MapEntry K V) → IsEntry key val d e s → costs e ≡ plus (charge_of key val d cost e) (unknown_fields (cond s.known 0 extra)))
 
 -- ---- an entry is read by rules, and does so
 module _ {K V X : Type 0} (r : Rules K V) (does : X → List ℕ → MapEntry K V → X) (costs : ℕ → List ℕ → BudgetLeft) (is_cost : IsCost r.key r.val r.depth r.cost (unknown_cost r) (costs r.depth))
@@ -66,10 +66,10 @@ module _ {K V X : Type 0} (r : Rules K V) (does : X → List ℕ → MapEntry K 
     more_lacked a b c (inl x) = inl (omega (arith, x, c.0))
     more_lacked a b c (inr x) = inr (omega (arith, x, c.1))
 
-    lacked : (e : List ℕ) → Lacks s.left (need_of r.key r.val r.depth r.cost e)
-        ⊎ ((m : MapEntry K V) × IsEntry r.key r.val r.depth e m × (m.known ≡ false) × Lacks s.left (plus (need_of r.key r.val r.depth r.cost e) (unknown_fields (unknown_cost r)))) →
+    lacked : (e : List ℕ) → Lacks s.left (charge_of r.key r.val r.depth r.cost e)
+        ⊎ ((m : MapEntry K V) × IsEntry r.key r.val r.depth e m × (m.known ≡ false) × Lacks s.left (plus (charge_of r.key r.val r.depth r.cost e) (unknown_fields (unknown_cost r)))) →
         Lacks s.left (costs r.depth e)
-    lacked e (inl h) = more_lacked (need_of r.key r.val r.depth r.cost e) (costs r.depth e) (is_cost e).0 h
+    lacked e (inl h) = more_lacked (charge_of r.key r.val r.depth r.cost e) (costs r.depth e) (is_cost e).0 h
     lacked e (inr (m, entry, known, h)) = rw ((is_cost e).1 m entry, known) h
 
     why : (f : DecodeError) → EntryFault r.key r.val r.depth r.cost (unknown_cost r) s.left bs f →
@@ -92,7 +92,7 @@ module _ {K V X : Type 0} (r : Rules K V) (does : X → List ℕ → MapEntry K 
 
     -- what is left then is what the rules say; or the unknown field is given back
     module _ (f : DecodeError) (after : BudgetLeft) (k : RefusesEntry r s bs t rest f) (units : after.memory ≡ t.left.memory) (most : after.unknown ≤ s.left.unknown)
-        (least : s.left.unknown ≤ after.unknown + (inner_need r.key r.val r.depth bs).unknown) where
+        (least : s.left.unknown ≤ after.unknown + (inner_charge r.key r.val r.depth bs).unknown) where
       spent : (q : Result (List ℕ × List ℕ) DecodeError) → delimited_at bs ≡ q → PaysAtMost s.left (entry_cost costs r.depth n LengthDelimited bs) after
       unfolding entry_cost
       spent (Err x) is =
@@ -116,5 +116,5 @@ module _ {K V X : Type 0} (key : Reading K) (val : Reading V) (does : X → List
   pub entry_wire_err : (costs : ℕ → List ℕ → BudgetLeft) (w : WireType) (old : X) (bs rest : List ℕ) (before : BudgetLeft) (f : DecodeError) →
       check_wire n LengthDelimited w ≡ Err f → IsTaken (entry_taken key val does) (entry_cost costs) d old n w bs before (refusal f) old before rest
   unfolding entry_taken
-  entry_wire_err costs w old bs rest before f told =
-      wire_refused (entry_taken key val does) (entry_cost costs) d n w old old bs rest before before f LengthDelimited told refl (λ other p. rw (same_false LengthDelimited w other) refl)
+  entry_wire_err costs w old bs rest before f reported =
+      wire_refused (entry_taken key val does) (entry_cost costs) d n w old old bs rest before before f LengthDelimited reported refl (λ other p. rw (same_false LengthDelimited w other) refl)

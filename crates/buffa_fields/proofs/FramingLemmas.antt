@@ -5,7 +5,7 @@ use Rattle.buffa_bytes.specs.declared.error.DecodeError.{DecodeError}
 use Rattle.buffa_bytes.specs.declared.error.EncodeError.{EncodeError}
 use Rattle.buffa_bytes.specs.declared.wire_type.WireType.{WireType}
 use Rattle.buffa_bytes.specs.Field.{Payload}
-use Rattle.buffa_bytes.specs.Front.{check_wire}
+use Rattle.buffa_bytes.specs.Readings.{check_wire}
 use Rattle.buffa_bytes.specs.Written.{Writes}
 use Rattle.buffa_wire.proofs.PassLemmas.{written_put, written_same, written_short, written_then}
 use Rattle.buffa_wire.specs.BudgetLeft.{BudgetLeft}
@@ -13,24 +13,24 @@ use Rattle.buffa_wire.specs.Cache.{Cache, advanced}
 use Rattle.buffa_wire.specs.Encoding.{records_encoding}
 use Rattle.buffa_wire.specs.Passes.{IsSmall, IsWritten, WritesIf, cap}
 use Rattle.buffa_wire.specs.Pinned.{done, refusal}
-use Rattle.buffa_wire.specs.Records.{Datum}
-use Rattle.buffa_wire.specs.Takes.{IsTaken, Need, Taker}
+use Rattle.buffa_wire.specs.Records.{FieldData}
+use Rattle.buffa_wire.specs.Takes.{IsTaken, Charge, Taker}
 use Rattle.buffa_fields.specs.Framing.{Frame, HoldsMessages, taken_as}
 use Rattle.buffa_fields.proofs.InsideLemmas.{behind_slot, wire_taken}
 use Rattle.buffa_fields.proofs.ValueLemmas.{wire_refused}
 
 -- ---- fields of one wire type
 -- one of another is none, whatever it costs
-pub none_as : {X : Type 0} (wire : WireType) (makes : ℕ → X → List ℕ → Option X) (need : Need) (d n : ℕ) (w : WireType) (old : X) (bs : List ℕ) (before : BudgetLeft) (e : DecodeError) → check_wire n wire w ≡ Err e →
-    IsTaken (taken_as wire makes) need d old n w bs before (let r : Result (Unit {0}) DecodeError = Err e in r) old before bs
+pub none_as : {X : Type 0} (wire : WireType) (makes : ℕ → X → List ℕ → Option X) (charge : Charge) (d n : ℕ) (w : WireType) (old : X) (bs : List ℕ) (before : BudgetLeft) (e : DecodeError) → check_wire n wire w ≡ Err e →
+    IsTaken (taken_as wire makes) charge d old n w bs before (let r : Result (Unit {0}) DecodeError = Err e in r) old before bs
 unfolding taken_as
-none_as wire makes need d n w old bs before e told = wire_refused (taken_as wire makes) need d n w old old bs bs before before e wire told refl (λ other p. rw (same_false wire w other) refl)
+none_as wire makes charge d n w old bs before e reported = wire_refused (taken_as wire makes) charge d n w old old bs bs before before e wire reported refl (λ other p. rw (same_false wire w other) refl)
 
 -- one of the same number and wire type is as well taken
-pub taken_here : {X T : Type 0} (takes : Taker X) (need : Need) (d n m : ℕ) (w wire : WireType) (old new : X) (bs rest : List ℕ) (before after : BudgetLeft) (r : Result T DecodeError) → m ≡ n → w ≡ wire →
-    IsTaken takes need d old m wire bs before r new after rest → IsTaken takes need d old n w bs before r new after rest
-taken_here takes need d n m w wire old new bs rest before after r same is h =
-    subst (λ z. IsTaken takes need d old n z bs before r new after rest) (sym is) (subst (λ k. IsTaken takes need d old k wire bs before r new after rest) same h)
+pub taken_here : {X T : Type 0} (takes : Taker X) (charge : Charge) (d n m : ℕ) (w wire : WireType) (old new : X) (bs rest : List ℕ) (before after : BudgetLeft) (r : Result T DecodeError) → m ≡ n → w ≡ wire →
+    IsTaken takes charge d old m wire bs before r new after rest → IsTaken takes charge d old n w bs before r new after rest
+taken_here takes charge d n m w wire old new bs rest before after r same is h =
+    subst (λ z. IsTaken takes charge d old n z bs before r new after rest) (sym is) (subst (λ k. IsTaken takes charge d old k wire bs before r new after rest) same h)
 
 -- a new message was read, which may take memory
 pub read_as : {X : Type 0} (f : Frame) → HoldsMessages f → (merged : ℕ → X → List ℕ → Option X) (d : ℕ) (old new : X) (n : ℕ) (w : WireType) (bs p rest : List ℕ) → Payload d n w p → bs ≡ p ++ rest → taken_as f.wire (f.makes merged) d old n w p ≡ Some new → f.asks_new d n w bs
@@ -40,9 +40,9 @@ read_as f holds merged d old new n w bs p rest h split is =
     subst (λ z. f.asks_new d n z bs) (sym t.0) (holds.asks_read merged d n old new bs p rest (subst (λ z. Payload d n z p) t.0 h) split t.1)
 
 -- ---- the encoding
-module _ (f : Frame) (holds : HoldsMessages f) (n : ℕ) (e : List ℕ) (rs : List (ℕ × Datum)) (is : e ≡ records_encoding rs) where
+module _ (f : Frame) (holds : HoldsMessages f) (n : ℕ) (e : List ℕ) (rs : List (ℕ × FieldData)) (is : e ≡ records_encoding rs) where
   abbrev spelled : List ℕ
-  spelled = records_encoding ((n, f.datum e rs) ∷ [])
+  spelled = records_encoding ((n, f.field_data e rs) ∷ [])
 
   parts : f.head n (length e) ++ (e ++ f.tail n) ≡ spelled
   parts = holds.spelled n e rs is
@@ -54,7 +54,7 @@ module _ (f : Frame) (holds : HoldsMessages f) (n : ℕ) (e : List ℕ) (rs : Li
   small_inside h = omega (arith, h, whole_length)
 
   -- behind the slot of the message's length
-  module _ (slots : List ℕ) (inner : ℕ) (told : inner ≡ cap (length e)) (c0 c1 : Cache) (on : c1 ≡ advanced 1 c0) (b0 b1 : List ℕ) where
+  module _ (slots : List ℕ) (inner : ℕ) (reported : inner ≡ cap (length e)) (c0 c1 : Cache) (on : c1 ≡ advanced 1 c0) (b0 b1 : List ℕ) where
     abbrev P : Type 0
     P = IsSmall spelled
 
@@ -63,7 +63,7 @@ module _ (f : Frame) (holds : HoldsMessages f) (n : ℕ) (e : List ℕ) (rs : Li
 
     as_whole : (r : Result (Unit {0}) EncodeError) (c : Cache) (b : List ℕ) → WritesIf P (f.head n inner ++ rest) (slots ++ []) c1 b0 r c b → IsWritten spelled (cap (length e) ∷ slots) c0 b0 r c b
     as_whole r c b w =
-        let same : P → f.head n inner ++ rest ≡ spelled = λ s. let one : inner ≡ length e = omega (arith, told, small_inside s) in ap (λ k. f.head n k ++ rest) one ∙ parts in
+        let same : P → f.head n inner ++ rest ≡ spelled = λ s. let one : inner ≡ length e = omega (arith, reported, small_inside s) in ap (λ k. f.head n k ++ rest) one ∙ parts in
         behind_slot spelled slots (cap (length e)) c0 c1 c b0 b on r (subst (λ (z : List ℕ). IsWritten spelled z c1 b0 r c b) (append-nil slots)
         (written_same P P (f.head n inner ++ rest) spelled (slots ++ []) 0 c1 c c b0 b (λ s. s) same r w))
 

@@ -11,14 +11,14 @@ use Rattle.buffa_bytes.specs.declared.wire_type.WireType.TheVariants.{StartGroup
 use Rattle.buffa_bytes.specs.Field.{Group, IsTag, Payload, SomeField}
 use Rattle.buffa_bytes.specs.Join.{Join}
 use Rattle.buffa_bytes.specs.Join.Join.{none, more}
-use Rattle.buffa_bytes.specs.Front.{group_at, skip_at, tag_at}
+use Rattle.buffa_bytes.specs.Readings.{group_at, skip_at, tag_at}
 use Rattle.buffa_wire.proofs.MessageLemmas.{NoLimit, as_no_limit, tag_no_limit}
 use Rattle.buffa_wire.proofs.ByPayloadLemmas.{ByPayload, judged_all}
 use Rattle.buffa_wire.specs.BudgetLeft.{BudgetLeft, Lacks, Pays, PaysAtMost}
 use Rattle.buffa_wire.specs.Message.{BeginsField, IsFieldMerged, IsJudged, MergeFault}
 use Rattle.buffa_fields.specs.Groups.{group_body, group_cost, group_merged}
 use Rattle.buffa_fields.specs.Refusals.{GroupFirstFault}
-use Rattle.buffa_wire.specs.Takes.{IsTaken, Need, Untaken, Taker}
+use Rattle.buffa_wire.specs.Takes.{IsTaken, Charge, Untaken, Taker}
 use Rattle.buffa_fields.specs.facts.GroupFacts.{body_field, body_is, body_past, body_stays, body_whole, turn}
 use Rattle.buffa_wire.proofs.MergeLoopLemmas.{CameTo, costs, stopped}
 use Rattle.buffa_fields.proofs.ValueLemmas.{refused_free}
@@ -39,7 +39,7 @@ module _ (d : ℕ) where
       ∙ group_past n r x j
 
 -- ---- the loop over its fields, one level down
-module _ {X : Type 0} {T : Taker X} {N : Need} {merged : ℕ → X → List ℕ → Option X} {cost : ℕ → List ℕ → BudgetLeft} (by : ByPayload T N merged cost) {k : ℕ} (n : ℕ) (some : k ≢ 0)
+module _ {X : Type 0} {T : Taker X} {N : Charge} {merged : ℕ → X → List ℕ → Option X} {cost : ℕ → List ℕ → BudgetLeft} (by : ByPayload T N merged cost) {k : ℕ} (n : ℕ) (some : k ≢ 0)
     {old : X} {bs : List ℕ} {start : BudgetLeft} {now : X} {rest : List ℕ} {left : BudgetLeft} (came : CameTo merged cost (k - 1) old bs start now rest left) where
   abbrev d : ℕ
   d = k - 1
@@ -53,9 +53,9 @@ module _ {X : Type 0} {T : Taker X} {N : Need} {merged : ℕ → X → List ℕ 
   one_up : (r : Result (Unit {0}) DecodeError) (new : X) (after : BudgetLeft) (more_bs : List ℕ) → TakenAt (suc d) r new after more_bs → TakenAs r new after more_bs
   one_up r new after more_bs h = let e : suc d ≡ k = omega (arith, some) in subst (λ z. TakenAt z r new after more_bs) e h
 
-  need_is : group_cost cost (suc d) n StartGroup bs ≡ cost d (group_body d bs)
+  charge_is : group_cost cost (suc d) n StartGroup bs ≡ cost d (group_body d bs)
   unfolding group_cost
-  need_is = let e : suc d - 1 ≡ d = omega arith in rw e refl
+  charge_is = let e : suc d - 1 ≡ d = omega arith in rw e refl
 
   takes : (p : List ℕ) → group_merged merged (suc d) old n StartGroup p ≡ merged d old (group_body d p)
   unfolding group_merged
@@ -67,8 +67,8 @@ module _ {X : Type 0} {T : Taker X} {N : Need} {merged : ℕ → X → List ℕ 
 
   -- the body means nothing
   untaken : merged d old (group_body d bs) ≡ None → Untaken (group_merged merged) (suc d) old n StartGroup bs
-  untaken nothing_meant p more_bs payload split =
-      takes p ∙ ap (merged d old) (sym (body_stays d n p more_bs payload) ∙ ap (group_body d) (sym split)) ∙ nothing_meant
+  untaken nothing_by_meaning p more_bs payload split =
+      takes p ∙ ap (merged d old) (sym (body_stays d n p more_bs payload) ∙ ap (group_body d) (sym split)) ∙ nothing_by_meaning
 
   -- there is no such group
   unread : (e : DecodeError) → group_at (suc d) n bs ≡ Err e → Untaken (group_merged merged) (suc d) old n StartGroup bs
@@ -87,7 +87,7 @@ module _ {X : Type 0} {T : Taker X} {N : Need} {merged : ℕ → X → List ℕ 
         (f, t.0, came.fields, t.1, refl),
         whole ∙ sym (append_assoc f t.0 x),
         takes (f ++ t.0) ∙ ap (merged d old) (body_is d f t.0 n came.fields t.1) ∙ came.means,
-        subst (λ z. Pays start z left) (sym (need_is ∙ ap (cost d) all)) came.pays,
+        subst (λ z. Pays start z left) (sym (charge_is ∙ ap (cost d) all)) came.pays,
       )
 
   -- the bytes are no group
@@ -97,7 +97,7 @@ module _ {X : Type 0} {T : Taker X} {N : Need} {merged : ℕ → X → List ℕ 
       let unknown = ap (λ (z : BudgetLeft). z.unknown) all in
       let memory = ap (λ (z : BudgetLeft). z.memory) all in
       one_up (Err e) new left x (
-        subst (λ z. PaysAtMost start z left) (sym need_is) (omega (arith, in_body.pays.0), omega (arith, in_body.pays.0, unknown), omega (arith, in_body.pays.1), omega (arith, in_body.pays.1, memory)),
+        subst (λ z. PaysAtMost start z left) (sym charge_is) (omega (arith, in_body.pays.0), omega (arith, in_body.pays.0, unknown), omega (arith, in_body.pays.1), omega (arith, in_body.pays.1, memory)),
         λ ne. inr (unread e (ap (group_at (suc d) n) came.split ∙ group_past d n came.front rest came.fields ∙ h), unlimited),
         λ full end. cc,
       )
@@ -173,9 +173,9 @@ module _ {X : Type 0} {T : Taker X} {N : Need} {merged : ℕ → X → List ℕ 
         subst (λ (b : List ℕ). PaysAtMost left (cost d b) over × (e ≢ OutOfMemory → MergeFault (merged d now b) (cost d b) left e)) (sym z.1.0) judged in
         let all = stopped by in_body e over here in
         one_up (Err e) new over y (
-          subst (λ c. PaysAtMost start c over) (sym need_is) all.0,
+          subst (λ c. PaysAtMost start c over) (sym charge_is) all.0,
           λ ne. elim (all.1 ne) [
-            | inl few ↦ inl (subst (λ c. Lacks start c) (sym need_is) few)
+            | inl few ↦ inl (subst (λ c. Lacks start c) (sym charge_is) few)
             | inr bad ↦ inr (untaken bad.0, bad.1)
           ],
           λ full end. cc,

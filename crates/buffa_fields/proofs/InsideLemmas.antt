@@ -5,7 +5,7 @@ use Rattle.buffa_bytes.proofs.DelimitedLemmas.{delimited_complete, delimited_sou
 use Rattle.buffa_bytes.proofs.FieldLemmas.{same_refl, same_true}
 use Rattle.buffa_bytes.proofs.StepLemmas.{agree_ok}
 use Rattle.buffa_bytes.specs.Field.{Payload}
-use Rattle.buffa_bytes.specs.Front.{check_wire, delimited_at, FullOnlyIf, same_wire}
+use Rattle.buffa_bytes.specs.Readings.{check_wire, delimited_at, FullOnlyIf, same_wire}
 use Rattle.buffa_bytes.specs.declared.error.DecodeError.{DecodeError}
 use Rattle.buffa_bytes.specs.declared.error.DecodeError.TheVariants.{ElementMemoryLimitExceeded}
 use Rattle.buffa_bytes.specs.declared.error.EncodeError.{EncodeError}
@@ -19,14 +19,14 @@ use Rattle.buffa_wire.specs.BudgetLeft.{BudgetLeft, Lacks, plus, units}
 use Rattle.buffa_wire.specs.Cache.{Cache, advanced}
 use Rattle.buffa_wire.specs.Encoding.{records_encoding}
 use Rattle.buffa_wire.specs.Passes.{IsSmall, IsWritten}
-use Rattle.buffa_wire.specs.Records.{Datum}
-use Rattle.buffa_wire.specs.Takes.{IsTaken, Need, Taker, Untaken}
+use Rattle.buffa_wire.specs.Records.{FieldData}
+use Rattle.buffa_wire.specs.Takes.{IsTaken, Charge, Taker, Untaken}
 use Rattle.buffa_wire.proofs.SpentLemmas.{PaysAtMost_nothing}
 use Rattle.buffa_wire.specs.Pinned.{done}
 use Rattle.buffa_fields.specs.facts.PairFacts.{part_taken}
 use Rattle.buffa_fields.specs.Framing.{cost_as, each_cost_as}
 use Rattle.buffa_fields.specs.facts.InsideFacts.{delimited_alone}
-use Rattle.buffa_fields.specs.Nested.{or_blank, taken_behind, taken_there}
+use Rattle.buffa_fields.specs.Submessages.{or_blank, taken_behind, taken_there}
 use Rattle.buffa_fields.specs.Refusals.{LeavesUnless, RefusesThere, TellsFaultOf}
 
 -- ---- a length and so many bytes
@@ -64,7 +64,7 @@ wire_taken {X} WIRE w x new is = at (same_wire WIRE w) refl is
 
 -- An element of some units, taken as a field is that costs less by these: both are of one wire type, and what is in them costs the same.
 module _ {X : Type 0} (WIRE : WireType) (takes : Taker X) (each : ℕ) (cost : ℕ → List ℕ → BudgetLeft) (d n : ℕ) (w : WireType) (old new : X) (bs rest : List ℕ) (before after : BudgetLeft) (checked : check_wire n WIRE w ≡ Ok tt) (asked : ℕ) (is_each : asked ≡ each) where
-  abbrev whole : Need
+  abbrev whole : Charge
   whole = each_cost_as WIRE each cost
 
   costs : plus (units each) (cost_as WIRE cost d n w bs) ≡ whole d n w bs
@@ -72,7 +72,7 @@ module _ {X : Type 0} (WIRE : WireType) (takes : Taker X) (each : ℕ) (cost : �
   costs = rw (ap (same_wire WIRE) (checked_same n WIRE w checked) ∙ same_refl WIRE) refl
 
   abbrev TakenFor : BudgetLeft → Result (Unit {0}) DecodeError → Type 0
-  TakenFor need r = IsTaken takes (λ d n w bs. need) d old n w bs before r new after rest
+  TakenFor charge r = IsTaken takes (λ d n w bs. charge) d old n w bs before r new after rest
 
   pub charged : (mid : BudgetLeft) → (mid.memory + asked ≡ before.memory) × (mid.unknown ≡ before.unknown) → (r : Result (Unit {0}) DecodeError) →
       IsTaken takes (cost_as WIRE cost) d old n w bs mid r new after rest → IsTaken takes whole d old n w bs before r new after rest
@@ -98,10 +98,10 @@ module _ {X : Type 0} (WIRE : WireType) (takes : Taker X) (each : ℕ) (cost : �
   )
 
 -- ---- it goes into the message that stands
-pub there : {X : Type 0} (blank : X) (takes : Taker X) (need : Need) (d n : ℕ) (w : WireType) (old : Option X) (a new : X) (bs rest : List ℕ) (before after : BudgetLeft) (r : Result (Unit {0}) DecodeError) → a ≡ or_blank blank old →
-    IsTaken takes need d a n w bs before r new after rest → IsTaken (taken_there blank takes) need d old n w bs before r (Some new) after rest
-there blank takes need d n w old a new bs rest before after r is taken =
-    part_taken takes need (taken_there blank takes) need d n w a old (λ x. Some x) (λ p. ap (λ z. option_map (λ x. Some x) (takes d z n w p)) (sym is)) (λ bs. refl) bs rest before after r new taken
+pub there : {X : Type 0} (blank : X) (takes : Taker X) (charge : Charge) (d n : ℕ) (w : WireType) (old : Option X) (a new : X) (bs rest : List ℕ) (before after : BudgetLeft) (r : Result (Unit {0}) DecodeError) → a ≡ or_blank blank old →
+    IsTaken takes charge d a n w bs before r new after rest → IsTaken (taken_there blank takes) charge d old n w bs before r (Some new) after rest
+there blank takes charge d n w old a new bs rest before after r is taken =
+    part_taken takes charge (taken_there blank takes) charge d n w a old (λ x. Some x) (λ p. ap (λ z. option_map (λ x. Some x) (takes d z n w p)) (sym is)) (λ bs. refl) bs rest before after r new taken
 
 -- a field that goes into a message is refused
 module _ {X : Type 0} (blank : X) (wire : WireType) (There : List ℕ → Type 0) (Fault : ℕ → X → ℕ → List ℕ → BudgetLeft → DecodeError → Type 0) (d n : ℕ) (w : WireType) (bs : List ℕ) (before : BudgetLeft) (old : Option X) (stood new : X) where
@@ -132,25 +132,25 @@ module _ {X : Type 0} (blank : X) (wire : WireType) (There : List ℕ → Type 0
   )
 
 -- the answer where a field goes into a message
-module _ {X : Type 0} (blank : X) (takes : Taker X) (need : Need) (wire : WireType) (There : List ℕ → Type 0) (Fault : ℕ → X → ℕ → List ℕ → BudgetLeft → DecodeError → Type 0) (d n : ℕ) (w : WireType) (bs rest : List ℕ) (before after : BudgetLeft) (old : Option X) (stood new : X) (told : Result (Unit {0}) DecodeError) (Asks : Type 0) where
+module _ {X : Type 0} (blank : X) (takes : Taker X) (charge : Charge) (wire : WireType) (There : List ℕ → Type 0) (Fault : ℕ → X → ℕ → List ℕ → BudgetLeft → DecodeError → Type 0) (d n : ℕ) (w : WireType) (bs rest : List ℕ) (before after : BudgetLeft) (old : Option X) (stood new : X) (reported : Result (Unit {0}) DecodeError) (Asks : Type 0) where
   abbrev Told : DecodeError → Type 0
   Told = Tells blank wire There Fault d n w bs before old stood new
 
   abbrev Answers : Result (Unit {0}) DecodeError → Option X → Type 0
   Answers r put =
-      IsTaken (taken_there blank takes) need d old n w bs before r put after rest × FullOnlyIf r Asks
-      × ((e : DecodeError) → told ≡ Err e → (r ≡ Err e) × (old ≡ put) × (bs ≡ rest)) × ((e : DecodeError) → r ≡ Err e → Refuses blank wire There Fault d n w bs before old stood new e put)
+      IsTaken (taken_there blank takes) charge d old n w bs before r put after rest × FullOnlyIf r Asks
+      × ((e : DecodeError) → reported ≡ Err e → (r ≡ Err e) × (old ≡ put) × (bs ≡ rest)) × ((e : DecodeError) → r ≡ Err e → Refuses blank wire There Fault d n w bs before old stood new e put)
 
   -- another wire type is told, the message as it was and the field unread
   abbrev Checks : Result (Unit {0}) DecodeError → Type 0
-  Checks r = (e : DecodeError) → told ≡ Err e → (r ≡ Err e) × (stood ≡ new) × (bs ≡ rest)
+  Checks r = (e : DecodeError) → reported ≡ Err e → (r ≡ Err e) × (stood ≡ new) × (bs ≡ rest)
 
   -- the message stood there
-  pub took_there : (r : Result (Unit {0}) DecodeError) → old ≡ Some stood → IsTaken takes need d stood n w bs before r new after rest → FullOnlyIf r Asks → Checks r →
+  pub took_there : (r : Result (Unit {0}) DecodeError) → old ≡ Some stood → IsTaken takes charge d stood n w bs before r new after rest → FullOnlyIf r Asks → Checks r →
       ((e : DecodeError) → r ≡ Err e → LeavesUnless wire There d stood n w bs e new) → ((e : DecodeError) → r ≡ Err e → Told e) → Answers r (Some new)
   took_there r was taken full wrong refused tells =
       let put = λ (same : stood ≡ new). was ∙ ap (λ z. Some z) same in (
-        there blank takes need d n w old stood new bs rest before after r (sym (ap (or_blank blank) was)) taken,
+        there blank takes charge d n w old stood new bs rest before after r (sym (ap (or_blank blank) was)) taken,
         full,
         λ e is. let k = wrong e is in (k.0, put k.1, k.2),
         λ e bad. stood_refused blank wire There Fault d n w bs before old stood new was e (refused e bad) (tells e bad),
@@ -158,25 +158,25 @@ module _ {X : Type 0} (blank : X) (takes : Taker X) (need : Need) (wire : WireTy
 
   -- none did
   module _ (was : old ≡ None) (fresh : stood ≡ blank) where
-    came : (r : Result (Unit {0}) DecodeError) → IsTaken takes need d stood n w bs before r new after rest → IsTaken (taken_there blank takes) need d old n w bs before r (Some new) after rest
-    came r taken = there blank takes need d n w old stood new bs rest before after r (fresh ∙ sym (ap (or_blank blank) was)) taken
+    came : (r : Result (Unit {0}) DecodeError) → IsTaken takes charge d stood n w bs before r new after rest → IsTaken (taken_there blank takes) charge d old n w bs before r (Some new) after rest
+    came r taken = there blank takes charge d n w old stood new bs rest before after r (fresh ∙ sym (ap (or_blank blank) was)) taken
 
     -- a default one took it
-    pub came_there : IsTaken takes need d stood n w bs before (let r : Result (Unit {0}) DecodeError = Ok tt in r) new after rest → Checks (Ok tt) → Answers (Ok tt) (Some new)
+    pub came_there : IsTaken takes charge d stood n w bs before (let r : Result (Unit {0}) DecodeError = Ok tt in r) new after rest → Checks (Ok tt) → Answers (Ok tt) (Some new)
     came_there taken wrong = (came (Ok tt) taken, tt, (λ e is. let k = (wrong e is).0 in cc), (λ e bad. cc))
 
     -- or refused it, and none does
-    pub none_came : (e : DecodeError) → IsTaken takes need d stood n w bs before (let r : Result (Unit {0}) DecodeError = Err e in r) new after rest → FullOnlyIf (let r : Result (Unit {0}) DecodeError = Err e in r) Asks → Checks (Err e) →
+    pub none_came : (e : DecodeError) → IsTaken takes charge d stood n w bs before (let r : Result (Unit {0}) DecodeError = Err e in r) new after rest → FullOnlyIf (let r : Result (Unit {0}) DecodeError = Err e in r) Asks → Checks (Err e) →
         ((x : DecodeError) → (let r : Result (Unit {0}) DecodeError = Err e in r) ≡ Err x → Told x) → Answers (Err e) old
     none_came e taken full wrong tells = (came (Err e) taken, full, (λ f is. let k = wrong f is in (k.0, refl, k.2)), (λ f bad. none_refused blank wire There Fault d n w bs before old stood new was fresh f (tells f bad)))
 
 -- ---- it goes behind the others
-pub put_behind : {X : Type 0} (blank : X) (takes : Taker X) (need : Need) (d n : ℕ) (w : WireType) (olds news : List X) (a new : X) (bs rest : List ℕ) (before after : BudgetLeft) (r : Result (Unit {0}) DecodeError) → a ≡ blank →
-    IsTaken takes need d a n w bs before r new after rest → OnOk r (news ≡ olds ++ new ∷ []) → IsTaken (taken_behind blank takes) need d olds n w bs before r news after rest
-put_behind blank takes need d n w olds news a new bs rest before after (Ok x) is (p, payload, split, h, pays) put =
+pub put_behind : {X : Type 0} (blank : X) (takes : Taker X) (charge : Charge) (d n : ℕ) (w : WireType) (olds news : List X) (a new : X) (bs rest : List ℕ) (before after : BudgetLeft) (r : Result (Unit {0}) DecodeError) → a ≡ blank →
+    IsTaken takes charge d a n w bs before r new after rest → OnOk r (news ≡ olds ++ new ∷ []) → IsTaken (taken_behind blank takes) charge d olds n w bs before r news after rest
+put_behind blank takes charge d n w olds news a new bs rest before after (Ok x) is (p, payload, split, h, pays) put =
     (p, payload, split, ap (λ z. option_map (λ x. olds ++ x ∷ []) (takes d z n w p)) (sym is) ∙ ap (option_map (λ x. olds ++ x ∷ [])) h ∙ ap (λ z. Some z) (sym put), pays)
-put_behind blank takes need d n w olds news a new bs rest before after (Err e) is taken put =
-    part_taken takes need (taken_behind blank takes) need d n w a olds (λ x. olds ++ x ∷ []) (λ p. ap (λ z. option_map (λ x. olds ++ x ∷ []) (takes d z n w p)) (sym is)) (λ bs. refl) bs rest before after (Err e) new taken
+put_behind blank takes charge d n w olds news a new bs rest before after (Err e) is taken put =
+    part_taken takes charge (taken_behind blank takes) charge d n w a olds (λ x. olds ++ x ∷ []) (λ p. ap (λ z. option_map (λ x. olds ++ x ∷ []) (takes d z n w p)) (sym is)) (λ bs. refl) bs rest before after (Err e) new taken
 
 -- ---- encodings
 -- behind the slot of a message's length
@@ -184,5 +184,5 @@ pub behind_slot : (encoding slots : List ℕ) (slot : ℕ) (c0 c1 c2 : Cache) (b
 behind_slot encoding slots slot c0 c1 c2 b0 b2 on r w = written_behind (IsSmall encoding) (IsSmall encoding) encoding [] slots slot c0 c1 c2 b0 b2 on r w
 
 -- no message, an empty one
-pub none_written : (records : List (ℕ × Datum)) (slots : List ℕ) (c : Cache) (b : List ℕ) → records ≡ [] → slots ≡ [] → IsWritten (records_encoding records) slots c b done c b
+pub none_written : (records : List (ℕ × FieldData)) (slots : List ℕ) (c : Cache) (b : List ℕ) → records ≡ [] → slots ≡ [] → IsWritten (records_encoding records) slots c b done c b
 none_written records slots c b none empty = subst (λ z. IsWritten (records_encoding records) z c b done c b) (sym empty) (subst (λ z. IsWritten (records_encoding z) [] c b done c b) (sym none) (written_none (IsSmall []) c b))

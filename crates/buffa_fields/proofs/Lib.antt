@@ -1,16 +1,16 @@
 -- The lemmas that this crate hands out.
-pub mod StandsLemmas
+pub mod RefusedMessageLemmas
 pub mod ValueLemmas
-pub mod KeptNumberLemmas
-pub mod KeptListLemmas
+pub mod ClosedEnumFieldLemmas
+pub mod ClosedEnumListLemmas
 pub mod InsideLemmas
 pub mod FramingLemmas
-pub mod NestedLemmas
+pub mod SubmessageLemmas
 pub mod GroupLemmas
 pub mod ListLemmas
 pub mod EntriesLemmas
 pub mod MapLemmas
-pub mod NestedMapLemmas
+pub mod MapOfMessagesLemmas
 pub mod OrderedLemmas
 pub mod PackedLemmas
-pub mod KeptMapLemmas
+pub mod ClosedEnumMapLemmas

@@ -1,10 +1,10 @@
 -- What is proved of elements that are read, taken or refused.
 use Rattle.std.proofs.Common.{◌≡◌, ◌≢◌, inl, inr, ℕ, ◌<◌, ◌≤◌, Bool, true, false, List, [], ◌∷◌, ◌++◌, length, Result, Ok, Err, IfErr, IsOk, OnErr, refl, sym, ap, subst, ◌∙◌, arith, append_assoc, append-nil, length-append, if◌then◌else◌}
-use Rattle.buffa_bytes.proofs.ContentLemmas.{content_complete, has_byte}
+use Rattle.buffa_bytes.proofs.PayloadValueLemmas.{payload_value_complete, has_byte}
 use Rattle.buffa_bytes.proofs.DelimitedLemmas.{delimited_sound}
 use Rattle.buffa_bytes.proofs.FieldLemmas.{same_refl, same_false}
 use Rattle.buffa_bytes.proofs.StepLemmas.{agree_err, agree_ok}
-use Rattle.buffa_bytes.specs.Content.{Content, content_at}
+use Rattle.buffa_bytes.specs.PayloadValue.{PayloadValue, payload_value_at}
 use Rattle.buffa_bytes.specs.declared.error.DecodeError.{DecodeError}
 use Rattle.buffa_bytes.specs.declared.error.DecodeError.TheVariants.{OutOfMemory, UnexpectedEof}
 use Rattle.buffa_bytes.specs.declared.wire_type.WireType.{WireType}
@@ -13,7 +13,7 @@ use Rattle.buffa_wire.proofs.MessageLemmas.{NoLimit, length_no_limit, as_no_limi
 use Rattle.buffa_wire.proofs.SpentLemmas.{PaysAtMost_nothing}
 use Rattle.buffa_bytes.proofs.SequenceLemmas.{along_err, err_same, parse_keeps}
 use Rattle.buffa_wire.specs.BudgetLeft.{BudgetLeft, nothing, IsLimit}
-use Rattle.buffa_bytes.specs.Front.{check_wire, delimited_at, same_wire, ◌>>=◌, FullOnlyIf, GivesUnlessFull}
+use Rattle.buffa_bytes.specs.Readings.{check_wire, delimited_at, same_wire, ◌>>=◌, FullOnlyIf, GivesUnlessFull}
 use Rattle.buffa_map.proofs.EntryLemmas.{value_complete}
 use Rattle.buffa_map.specs.Codec.{Reading, value_at}
 use Rattle.buffa_fields.specs.Lists.{TakesPacked, check_list_wire, element_at, elements_in, elements_taken}
@@ -22,18 +22,18 @@ use Rattle.buffa_fields.specs.facts.ValueFacts.{open_level}
 use Rattle.buffa_fields.specs.Values.{free, value_taken}
 use Rattle.buffa_fields.specs.Refusals.{ElementsRead, RefusesElements, RefusesPacked, StopsAtElement}
 use Rattle.buffa_fields.specs.facts.ListFacts.{element_falls, element_sound, elements_end, elements_next}
-use Rattle.buffa_fields.proofs.ValueLemmas.{fault_no_limit, value_err, value_ok, value_told, wire_refused, wire_told}
+use Rattle.buffa_fields.proofs.ValueLemmas.{fault_no_limit, value_err, value_ok, value_reported, wire_refused, wire_reported}
 use Rattle.buffa_fields.proofs.InsideLemmas.{alone_is, delimited_front, no_payload}
 use Rattle.std.specs.Option.{option_map}
 use Rattle.buffa_fields.specs.facts.PairFacts.{part_taken}
 
 module _ {V : Type 0} (codec : Reading V) (plain : codec.nested ≡ false)
-    (no_limit : (d : ℕ) (old : V) (c : Content) (x : DecodeError) → codec.reads d old c ≡ Err x → IsLimit x → ⊥) (d : ℕ) where
+    (no_limit : (d : ℕ) (old : V) (c : PayloadValue) (x : DecodeError) → codec.reads d old c ≡ Err x → IsLimit x → ⊥) (d : ℕ) where
   -- ---- one element
   -- an element that was read has a whole payload
-  pub element_there : (vs : List V) (bs : List ℕ) (new : List V) (rest : List ℕ) → element_at codec d vs bs ≡ Ok (new, rest) → IsOk (content_at codec.wire bs)
+  pub element_there : (vs : List V) (bs : List ℕ) (new : List V) (rest : List ℕ) → element_at codec d vs bs ≡ Ok (new, rest) → IsOk (payload_value_at codec.wire bs)
   element_there vs bs new rest h =
-      let u = agree_ok (element_at codec d vs bs) (new, rest) (element_sound codec d vs bs) h in subst (λ r. IsOk r) (sym (ap (content_at codec.wire) u.6 ∙ content_complete codec.wire u.1 u.2 rest u.3)) refl
+      let u = agree_ok (element_at codec d vs bs) (new, rest) (element_sound codec d vs bs) h in subst (λ r. IsOk r) (sym (ap (payload_value_at codec.wire) u.6 ∙ payload_value_complete codec.wire u.1 u.2 rest u.3)) refl
 
   value_err_of : (vs : List V) (bs : List ℕ) (e : DecodeError) (r : Result ((V × Bool) × List ℕ) DecodeError) → value_at codec d codec.blank bs ≡ r →
       (r >>= (λ x. let y : List V × List ℕ = (vs ++ x.0.0 ∷ [], x.1) in Ok y)) ≡ Err e → value_at codec d codec.blank bs ≡ Err e
@@ -94,7 +94,7 @@ module _ {V : Type 0} (codec : Reading V) (plain : codec.nested ≡ false)
     unfolding elements_taken
     as_value wire p = rw (ap (same_wire codec.wire) wire ∙ same_refl codec.wire) refl
 
-    pub element_taken : (r : Result (Unit {0}) DecodeError) (new : List V) (rest : List ℕ) → w ≡ codec.wire → GivesUnlessFull (λ _. let y : List V × List ℕ = (new, rest) in y) r (element_at codec d vs bs) → FullOnlyIf r (IsOk (content_at codec.wire bs)) →
+    pub element_taken : (r : Result (Unit {0}) DecodeError) (new : List V) (rest : List ℕ) → w ≡ codec.wire → GivesUnlessFull (λ _. let y : List V × List ℕ = (new, rest) in y) r (element_at codec d vs bs) → FullOnlyIf r (IsOk (payload_value_at codec.wire bs)) →
         IsTaken (elements_taken codec) free d vs n w bs before r new before rest
     element_taken (Ok _) new rest wire h full =
         let u = agree_ok (element_at codec d vs bs) (new, rest) (element_sound codec d vs bs) h in
@@ -109,8 +109,8 @@ module _ {V : Type 0} (codec : Reading V) (plain : codec.nested ≡ false)
     pub neither_err : (e : DecodeError) → check_wire n codec.wire w ≡ Err e → w ≢ LengthDelimited →
         IsTaken (elements_taken codec) free d vs n w bs before (let r : Result (Unit {0}) DecodeError = Err e in r) vs before bs
     unfolding elements_taken
-    neither_err e told others =
-        wire_refused (elements_taken codec) free d n w vs vs bs bs before before e codec.wire told refl (λ other p. rw (same_false codec.wire w other, same_false LengthDelimited w others) refl)
+    neither_err e reported others =
+        wire_refused (elements_taken codec) free d n w vs vs bs bs before before e codec.wire reported refl (λ other p. rw (same_false codec.wire w other, same_false LengthDelimited w others) refl)
 
     -- ---- packed elements
     module _ (other : w ≢ codec.wire) (wire : w ≡ LengthDelimited) where
@@ -161,7 +161,7 @@ module _ {V : Type 0} (codec : Reading V) (plain : codec.nested ≡ false)
         let same : f ≡ e = err_same is in (
           λ _. (
             sym stays,
-            λ ne. value_told codec d codec.blank n w bs e held (value_err_of vs bs e (value_at codec d codec.blank bs) refl (h (λ full. ne (sym same ∙ full)) ∙ ap (λ z. Err z) same)),
+            λ ne. value_reported codec d codec.blank n w bs e held (value_err_of vs bs e (value_at codec d codec.blank bs) refl (h (λ full. ne (sym same ∙ full)) ∙ ap (λ z. Err z) same)),
           ),
           λ other. absurd (other wire),
         )
@@ -178,7 +178,7 @@ module _ {V : Type 0} (codec : Reading V) (plain : codec.nested ≡ false)
     )
 
     pub neither_refused : (e : DecodeError) → w ≢ LengthDelimited → check_wire n codec.wire w ≡ Err e → RefusesElements codec d vs n w bs e vs
-    neither_refused e others told = ((λ _. (refl, λ ne. wire_told codec d codec.blank n w bs e told)), λ other wire. absurd (others wire))
+    neither_refused e others reported = ((λ _. (refl, λ ne. wire_reported codec d codec.blank n w bs e reported)), λ other wire. absurd (others wire))
 
 -- an element of packed ones was refused
 pub packed_stops : {V : Type 0} (codec : Reading V) (d : ℕ) (old new : List V) (bs b after : List ℕ) (r : Result (Unit {0}) DecodeError) → delimited_at bs ≡ Ok (b, after) → IfErr r (λ e. StopsAtElement codec d old b e new) →
@@ -187,10 +187,10 @@ packed_stops codec d old new bs b after (Ok _) is h = tt
 packed_stops codec d old new bs b after (Err e) is h = inr (b, after, is, h)
 
 -- ---- the wire type of a field
-module _ (n : ℕ) (wire w : WireType) (e : DecodeError) (told : check_list_wire n wire w ≡ Err e) where
+module _ (n : ℕ) (wire w : WireType) (e : DecodeError) (reported : check_list_wire n wire w ≡ Err e) where
   -- a refused wire type isn't the elements' own
   pub own_wire : check_wire n wire w ≡ Ok tt → ⊥
-  own_wire is = at (same_wire LengthDelimited w) told
+  own_wire is = at (same_wire LengthDelimited w) reported
     where
       at : (b : Bool) → (if b then (let r : Result (Unit {0}) DecodeError = Ok tt in r) else check_wire n wire w) ≡ Err e → ⊥
       at true h = cc
@@ -198,11 +198,11 @@ module _ (n : ℕ) (wire w : WireType) (e : DecodeError) (told : check_list_wire
 
   -- nor that of packed ones
   pub packed_wire : w ≡ LengthDelimited → ⊥
-  packed_wire is = let two = rw is at told in cc
+  packed_wire is = let two = rw is at reported in cc
 
   -- another is, as of one element
   pub other_wire : w ≢ LengthDelimited → check_wire n wire w ≡ Err e
-  other_wire other = rw (same_false LengthDelimited w other) at told
+  other_wire other = rw (same_false LengthDelimited w other) at reported
 
 pub element_from_err : {V : Type 0} (codec : Reading V) (d : ℕ) (vs : List V) (bs : List ℕ) (blank : V) → codec.blank ≡ blank → (e : DecodeError) →
     value_at codec d blank bs ≡ Err e → element_at codec d vs bs ≡ Err e

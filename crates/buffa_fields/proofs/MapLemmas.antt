@@ -2,7 +2,7 @@
 use Rattle.std.proofs.Common.{◌≡◌, inl, inr, ℕ, ◌≤◌, Bool, true, false, cond, List, ◌∷◌, ◌++◌, length, Result, Ok, Err, refl, sym, ap, subst, ◌∙◌, arith, length-append}
 use Rattle.buffa_bytes.proofs.DelimitedLemmas.{delimited_taken}
 use Rattle.buffa_bytes.specs.declared.error.DecodeError.{DecodeError}
-use Rattle.buffa_bytes.specs.Front.{check_wire}
+use Rattle.buffa_bytes.specs.Readings.{check_wire}
 use Rattle.buffa_bytes.specs.declared.wire_type.WireType.{WireType}
 use Rattle.buffa_bytes.specs.declared.wire_type.WireType.TheVariants.{LengthDelimited}
 use Rattle.buffa_wire.specs.BudgetLeft.{BudgetLeft, plus, unknown_fields}
@@ -12,7 +12,7 @@ use Rattle.buffa_wire.proofs.CostLemmas.{plus_nothing}
 use Rattle.buffa_wire.specs.Encoding.{records_encoding}
 use Rattle.buffa_map.specs.Codec.{Reading, Writing}
 use Rattle.buffa_map.specs.Entry.{EntryFault}
-use Rattle.buffa_map.specs.EntryReading.{need_of}
+use Rattle.buffa_map.specs.EntryReading.{charge_of}
 use Rattle.buffa_map.specs.Laws.{LimitsAreTrue, SizeIsLength}
 use Rattle.buffa_map.specs.Merge.{EntryTakesMemory, MergesEntry, RefusesEntry, State}
 use Rattle.buffa_map.proofs.ReaderRules.{dropping}
@@ -32,13 +32,13 @@ use Rattle.buffa_fields.proofs.EntriesLemmas.{IsCost, entry_err, entry_ok}
 use Rattle.buffa_fields.specs.facts.MapFacts.{map_encoding}
 
 -- where undeclared entries take no unknown field
-no_more : (b : Bool) (need : BudgetLeft) → need ≡ plus need (unknown_fields (cond b 0 0))
-no_more true need = sym (plus_nothing need)
-no_more false need = sym (plus_nothing need)
+no_more : (b : Bool) (charge : BudgetLeft) → charge ≡ plus charge (unknown_fields (cond b 0 0))
+no_more true charge = sym (plus_nothing charge)
+no_more false charge = sym (plus_nothing charge)
 
 module _ {K V : Type 0} (key : Reading K) (val : Reading V) (cost : ℕ) where
-  is_cost : (d : ℕ) → IsCost key val d cost 0 (λ e. need_of key val d cost e)
-  is_cost d e = ((omega arith, omega arith), λ s entry. no_more s.known (need_of key val d cost e))
+  is_cost : (d : ℕ) → IsCost key val d cost 0 (λ e. charge_of key val d cost e)
+  is_cost d e = ((omega arith, omega arith), λ s entry. no_more s.known (charge_of key val d cost e))
 
 -- ---- an entry is read by the rules that drop undeclared ones, and put so
 module _ {K V : Type 0} (key : Reading K) (val : Reading V) (same : K → K → Bool) (keeps : Bool) (puts : List (K × V) → K → V → List (K × V)) (cost : ℕ) where
@@ -51,19 +51,19 @@ module _ {K V : Type 0} (key : Reading K) (val : Reading V) (same : K → K → 
 
   -- it isn't put, where it is of another wire type
   pub other_refused : (d : ℕ) (ps : List (K × V)) (n : ℕ) (w : WireType) (bs : List ℕ) (left : BudgetLeft) (f e : DecodeError) → check_wire n LengthDelimited w ≡ Err f → f ≡ e → RefusesPair key val cost d ps n w bs left e ps
-  other_refused d ps n w bs left f e told is = (refl, λ ne. inl (told ∙ ap (λ z. Err z) is))
+  other_refused d ps n w bs left f e reported is = (refl, λ ne. inl (reported ∙ ap (λ z. Err z) is))
 
   module _ (d n : ℕ) (w : WireType) (bs rest : List ℕ) (s t : State K V) (checked : check_wire n LengthDelimited w ≡ Ok tt) where
     -- ---- an entry is taken
     pub map_ok : (old new : List (K × V)) (m : MergesEntry (dropping key val same keeps d 0 cost) s bs t rest) → new ≡ stepped puts old m.says →
         IsTaken (pair_taken key val puts) (pair_cost key val cost) d old n w bs s.left (let r : Result (Unit {0}) DecodeError = Ok tt in r) new t.left rest
-    map_ok old new m put = entry_ok (dropping key val same keeps d 0 cost) (λ m e s. stepped puts m s) (λ d e. need_of key val d cost e) (is_cost key val cost d) n w old new bs rest s t checked m put
+    map_ok old new m put = entry_ok (dropping key val same keeps d 0 cost) (λ m e s. stepped puts m s) (λ d e. charge_of key val d cost e) (is_cost key val cost d) n w old new bs rest s t checked m put
 
     -- ---- or refused
     pub map_err : (old new : List (K × V)) → LimitsAreTrue key val → (f : DecodeError) → RefusesEntry (dropping key val same keeps d 0 cost) s bs t rest f →
         IsTaken (pair_taken key val puts) (pair_cost key val cost) d old n w bs s.left (let r : Result (Unit {0}) DecodeError = Err f in r) new t.left rest
     map_err old new limits f k =
-        entry_err (dropping key val same keeps d 0 cost) (λ m e s. stepped puts m s) (λ d e. need_of key val d cost e) (is_cost key val cost d)
+        entry_err (dropping key val same keeps d 0 cost) (λ m e s. stepped puts m s) (λ d e. charge_of key val d cost e) (is_cost key val cost d)
         n w old new bs rest s t checked limits f t.left k refl k.spent.most (omega (arith, k.spent.least))
 
     -- nor where it is refused, and tells its fault

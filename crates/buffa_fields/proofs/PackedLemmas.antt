@@ -11,7 +11,7 @@ use Rattle.buffa_wire.specs.Encoding.{records_encoding, encodings}
 use Rattle.buffa_wire.specs.Pinned.{refusal}
 use Rattle.buffa_map.specs.Encoding.{saturated}
 use Rattle.buffa_fields.specs.Lists.{packed_records}
-use Rattle.buffa_fields.specs.facts.NestedFacts.{TellsLength, head, head_cut, record_after}
+use Rattle.buffa_fields.specs.facts.SubmessageFacts.{TellsLength, head, head_cut, record_after}
 
 module _ {V : Type 0} (encoding : V → List ℕ) (n : ℕ) {P : Type 0} (meaning : P → V) (xs : List P) where
   abbrev all : List ℕ

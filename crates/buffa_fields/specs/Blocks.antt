@@ -5,13 +5,13 @@ use Rattle.buffa_bytes.specs.declared.error.DecodeError.{DecodeError}
 use Rattle.buffa_bytes.specs.declared.tag.Tag.{Tag}
 use Rattle.buffa_wire.specs.BudgetLeft.{budget_left}
 use Rattle.buffa_wire.specs.declared.context.DecodeContext.{DecodeContext}
-use Rattle.buffa_fields.specs.Aside.{Aside, Kept}
-use Rattle.buffa_fields.specs.BothParts.{aloof_part, both_part, part_within}
-use Rattle.buffa_fields.specs.facts.BothPartFacts.{Alone, Leaves, aloof_laws, both_alone, both_laws, both_leave, keeps_none, within_laws}
-use Rattle.buffa_fields.specs.Exit.{Exit}
-use Rattle.buffa_fields.specs.Layout.{Layout, Seen, Shape}
-use Rattle.buffa_fields.specs.facts.MemberPartFacts.{keeping_laws, member_laws}
-use Rattle.buffa_fields.specs.MemberParts.{keeping_part, member_part}
+use Rattle.buffa_fields.specs.Unknowns.{Unknowns, Kept}
+use Rattle.buffa_fields.specs.BothParts.{no_unknowns_part, both_part, part_within}
+use Rattle.buffa_fields.specs.facts.BothPartFacts.{Alone, Leaves, no_unknowns_laws, both_alone, both_laws, both_leave, keeps_none, within_laws}
+use Rattle.buffa_fields.specs.ContextAfter.{ContextAfter}
+use Rattle.buffa_fields.specs.Schema.{Schema, Seen, Shape}
+use Rattle.buffa_fields.specs.facts.MemberPartFacts.{laws_with_unknowns, member_laws}
+use Rattle.buffa_fields.specs.MemberParts.{part_with_unknowns, member_part}
 use Rattle.buffa_fields.specs.Members.{part}
 use Rattle.buffa_fields.specs.facts.OneOfFacts.{one_of_laws}
 use Rattle.buffa_fields.specs.OneOfParts.{OneOf, one_of_part}
@@ -35,12 +35,12 @@ one k s = record {
 }
 
 -- one that puts aside what it doesn't understand
-abbrev pub one_kept : {P A : Type 0} → ℕ → Shape P A → Aside A → Block true P A
-one_kept k s a = record {
-  part = keeping_part k (λ p. p) s a;
-  laws = keeping_laws k (λ p. p) s a;
+abbrev pub one_with_unknowns : {P A : Type 0} → ℕ → Shape P A → Unknowns A → Block true P A
+one_with_unknowns k s a = record {
+  part = part_with_unknowns k (λ p. p) s a;
+  laws = laws_with_unknowns k (λ p. p) s a;
   leaves = record { others = λ S E a b h. h; only = λ S E a b h. h };
-  alone = λ is. keeps_none (keeping_part k (λ p. p) s a) is;
+  alone = λ is. keeps_none (part_with_unknowns k (λ p. p) s a) is;
 }
 
 -- a oneof
@@ -62,12 +62,12 @@ both_blocks {keeps} p q = record {
 }
 
 -- a block of which no field gives records, among those of which one may
-abbrev pub aloof : {P A : Type 0} → Block false P A → Block true P A
-aloof b = record {
-  part = aloof_part b.part;
-  laws = aloof_laws b.part b.laws b.leaves (b.alone refl);
+abbrev pub no_unknowns : {P A : Type 0} → Block false P A → Block true P A
+no_unknowns b = record {
+  part = no_unknowns_part b.part;
+  laws = no_unknowns_laws b.part b.laws b.leaves (b.alone refl);
   leaves = record { others = λ S E a b h. h; only = λ S E a b h. h };
-  alone = λ is. keeps_none (aloof_part b.part) is;
+  alone = λ is. keeps_none (no_unknowns_part b.part) is;
 }
 
 -- members, one after the other: the pairs of two, of three, and so on
@@ -103,7 +103,7 @@ abbrev pub block_of : {keeps : Bool} {M P A : Type 0} → (M → P) → Block ke
 block_of {keeps} {P = P} get b = record { keeps = keeps; P = P; get = get; block = b }
 
 -- a block, and the others
-abbrev pub block : {M A B : Type 0} → BlockOf M A → Layout M B → Layout M (A × B)
+abbrev pub block : {M A B : Type 0} → BlockOf M A → Schema M B → Schema M (A × B)
 block b l = part (part_within b.get b.block.part) (within_laws b.get b.block.part b.block.laws) l
 
 -- what it owes, its slots, and what was seen of it
@@ -117,9 +117,9 @@ abbrev pub block_seen : {M A : Type 0} → BlockOf M A → M → Seen → Seen
 block_seen b m z = b.block.part.seen (b.get m) z
 
 -- the member of the number took the field, and the others of the block stay; the message keeps these records before and after
-abbrev pub TakesKeeping : {M A D : Type 0} → Tag → DecodeContext → Exit D → (b : BlockOf M A) → b.P → b.P → Kept → Kept → Bor (List ℕ) → Bor (List ℕ) → Result (Unit {0}) DecodeError → Type 0
-TakesKeeping tag ctx left b old new kept keeping before after r =
+abbrev pub TakesWithUnknowns : {M A D : Type 0} → Tag → DecodeContext → ContextAfter D → (b : BlockOf M A) → b.P → b.P → Kept → Kept → Bor (List ℕ) → Bor (List ℕ) → Result (Unit {0}) DecodeError → Type 0
+TakesWithUnknowns tag ctx left b old new kept keeping before after r =
     b.block.part.Took ctx.depth old kept tag.number tag.wire_type before.now ctx.budget.now r new keeping (budget_left left) after.now
 
-abbrev pub TakesBlock : {M A D : Type 0} → Tag → DecodeContext → Exit D → (b : BlockOf M A) → b.P → b.P → Bor (List ℕ) → Bor (List ℕ) → Result (Unit {0}) DecodeError → Type 0
-TakesBlock tag ctx left b old new before after r = TakesKeeping tag ctx left b old new [] [] before after r
+abbrev pub TakesBlock : {M A D : Type 0} → Tag → DecodeContext → ContextAfter D → (b : BlockOf M A) → b.P → b.P → Bor (List ℕ) → Bor (List ℕ) → Result (Unit {0}) DecodeError → Type 0
+TakesBlock tag ctx left b old new before after r = TakesWithUnknowns tag ctx left b old new [] [] before after r

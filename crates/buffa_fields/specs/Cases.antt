@@ -3,7 +3,7 @@
 use Rattle.std.specs.Prelude.{◌≡◌, ◌≤◌, ℕ, ◌==◌, ◌&&◌, ◌||◌, Bool, true, false, not, List, [], Option, Some, None, Result, Ok, Err, if◌then◌else◌}
 use Rattle.std.specs.List.{AllByRecursion}
 use Rattle.std.specs.Option.{option_map}
-use Rattle.buffa_bytes.specs.Front.{FullOnlyIf}
+use Rattle.buffa_bytes.specs.Readings.{FullOnlyIf}
 use Rattle.buffa_bytes.specs.Number.{IsNumber}
 use Rattle.buffa_bytes.specs.declared.error.DecodeError.{DecodeError}
 use Rattle.buffa_bytes.specs.declared.wire_type.WireType.{WireType}
@@ -12,10 +12,10 @@ use Rattle.buffa_wire.specs.Encoding.{records_encoding}
 use Rattle.buffa_wire.specs.Parse.{AreValid}
 use Rattle.buffa_wire.specs.ReadableFacts.{Readable}
 use Rattle.buffa_wire.specs.Records.{records_of}
-use Rattle.buffa_wire.specs.Takes.{Asks, IsTaken, Need, ReadsBack, Stays, Taker, costs_nothing}
-use Rattle.buffa_fields.specs.Aside.{Kept}
-use Rattle.buffa_fields.specs.Keep.{AllNumbers}
-use Rattle.buffa_fields.specs.Layout.{Choice, ReadsBackTo, Seen, Shape, Took, is_number, more, visited}
+use Rattle.buffa_wire.specs.Takes.{Asks, IsTaken, Charge, ReadsBack, Stays, Taker, costs_nothing}
+use Rattle.buffa_fields.specs.Unknowns.{Kept}
+use Rattle.buffa_fields.specs.UndeclaredFields.{AllNumbers}
+use Rattle.buffa_fields.specs.Schema.{Choice, ReadsBackTo, Seen, Shape, Took, is_number, more, visited}
 use Rattle.buffa_fields.specs.Levels.{IsTakenWritten}
 use Rattle.buffa_fields.specs.declared.meaning.Or.{Or}
 use Rattle.buffa_fields.specs.declared.meaning.Or.TheVariants.{This, Other}
@@ -86,7 +86,7 @@ pub record Cases (V X : Type 0) : Type 1 where
   pub sound : (ℕ → Bool) → Bool → Bool
   pub takes : Taker (Option X)
   pub asks : Asks
-  pub need : Need
+  pub charge : Charge
   pub records : X → Kept
   pub slots : X → List ℕ
   pub levels : X → ℕ
@@ -107,9 +107,9 @@ pub record CasesLaws {V X : Type 0} (c : Cases V X) : Type 1 where
   pub absent : c.meaning None ≡ None
   -- each value means something
   pub there : (v : V) → (x : X) × (c.meaning (Some v) ≡ Some x)
-  pub stays : Stays c.need
+  pub stays : Stays c.charge
   pub taken_is : {O : Type 0} (at : Option O → Option V) (d : ℕ) (old : Option O) (n : ℕ) (w : WireType) (bs : List ℕ) (before : BudgetLeft) (r : Result (Unit {0}) DecodeError) (new : Option O) (after : BudgetLeft) (rest : List ℕ) →
-      c.mine n ≡ true → c.Took at d old n w bs before r new after rest → IsTaken c.takes c.need d (c.meaning (at old)) n w bs before r (c.meaning (at new)) after rest
+      c.mine n ≡ true → c.Took at d old n w bs before r new after rest → IsTaken c.takes c.charge d (c.meaning (at old)) n w bs before r (c.meaning (at new)) after rest
   pub puts : {O : Type 0} (at : Option O → Option V) (d : ℕ) (old : Option O) (n : ℕ) (w : WireType) (bs : List ℕ) (before : BudgetLeft) (x : Unit {0}) (new : Option O) (after : BudgetLeft) (rest : List ℕ) →
       c.mine n ≡ true → c.Took at d old n w bs before (let r : Result (Unit {0}) DecodeError = Ok x in r) new after rest → (v : V) × (at new ≡ Some v)
   pub asks_is : {O : Type 0} (at : Option O → Option V) (d : ℕ) (old : Option O) (n : ℕ) (w : WireType) (bs : List ℕ) (before : BudgetLeft) (r : Result (Unit {0}) DecodeError) (new : Option O) (after : BudgetLeft) (rest : List ℕ) →
@@ -129,7 +129,7 @@ none_of = record {
   sound = λ D sound. sound;
   takes = λ d v n w p. None;
   asks = λ d n w bs. ⊥;
-  need = costs_nothing;
+  charge = costs_nothing;
   records = λ x. [];
   slots = λ x. [];
   levels = λ x. 0;
@@ -150,7 +150,7 @@ single_case k s merges = record {
   sound = λ D sound. is_number k && not (D k) && (s.whole && sound);
   takes = s.takes;
   asks = s.asks;
-  need = s.need;
+  charge = s.charge;
   records = λ a. s.records k (Some a);
   slots = λ a. s.slots (Some a);
   levels = λ a. s.levels (Some a);
@@ -171,7 +171,7 @@ or_cases first others = record {
   sound = λ D sound. first.sound (λ n. D n || others.mine n) (others.sound D sound);
   takes = λ d v n w p. if first.mine n then option_map (option_map This) (first.takes d (this_of v) n w p) else option_map (option_map Other) (others.takes d (other_of v) n w p);
   asks = λ d n w bs. Choice (first.mine n) (first.asks d n w bs) (others.asks d n w bs);
-  need = λ d n w bs. if first.mine n then first.need d n w bs else others.need d n w bs;
+  charge = λ d n w bs. if first.mine n then first.charge d n w bs else others.charge d n w bs;
   records = by_case first.records others.records;
   slots = by_case first.slots others.slots;
   levels = by_case first.levels others.levels;

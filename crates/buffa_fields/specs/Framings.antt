@@ -1,7 +1,7 @@
 -- The two framings. Source: the protobuf encoding guide, "Submessages" and "Groups".
 use Rattle.std.specs.Prelude.{◌-◌, [], ◌++◌}
 use Rattle.buffa_bytes.specs.declared.wire_type.WireType.TheVariants.{EndGroup, LengthDelimited, StartGroup}
-use Rattle.buffa_bytes.specs.Front.{delimited_at}
+use Rattle.buffa_bytes.specs.Readings.{delimited_at}
 use Rattle.buffa_bytes.specs.Values.{tag_encoding}
 use Rattle.buffa_bytes.specs.Varint.{varint_encoding}
 use Rattle.buffa_wire.specs.Message.{BeginsField, MessageFault, cost_in, cost_of_payload, merged_in}
@@ -9,10 +9,10 @@ use Rattle.buffa_wire.specs.Parse.{Fits}
 use Rattle.buffa_wire.specs.Records.{bytes, group, records_of}
 use Rattle.buffa_fields.specs.Framing.{Frame}
 use Rattle.buffa_fields.specs.Groups.{GroupTakesMemory, group_body}
-use Rattle.buffa_fields.specs.Nested.{MessageTakesMemory, inside}
+use Rattle.buffa_fields.specs.Submessages.{MessageTakesMemory, inside}
 use Rattle.buffa_fields.specs.Refusals.{GroupFirstFault, IsDelimited}
 use Rattle.buffa_fields.specs.RepeatedGroups.{GroupsTakeMemory}
-use Rattle.buffa_fields.specs.RepeatedNested.{MessagesTakeMemory}
+use Rattle.buffa_fields.specs.RepeatedMessages.{MessagesTakeMemory}
 
 -- a length, and so many bytes
 abbrev pub delimited : Frame
@@ -24,7 +24,7 @@ delimited = record {
   asks_new = MessagesTakeMemory;
   There = IsDelimited;
   Fault = λ merged cost d old n bs left e. MessageFault merged cost d old bs left e;
-  datum = λ encoding rs. bytes encoding;
+  field_data = λ encoding rs. bytes encoding;
   head = λ n len. tag_encoding n LengthDelimited ++ varint_encoding len;
   tail = λ n. [];
   Normal = λ A rs. A × Fits (records_of rs);
@@ -40,7 +40,7 @@ grouped = record {
   asks_new = GroupsTakeMemory;
   There = BeginsField;
   Fault = λ merged cost d old n bs left e. GroupFirstFault d n bs e;
-  datum = λ encoding rs. group (records_of rs);
+  field_data = λ encoding rs. group (records_of rs);
   head = λ n len. tag_encoding n StartGroup;
   tail = λ n. tag_encoding n EndGroup;
   Normal = λ A rs. A;

@@ -3,15 +3,15 @@ use Rattle.std.specs.Prelude.{◌≡◌, ◌<◌, ℕ, ◌-◌, List, [], ◌++�
 use Rattle.buffa_bytes.specs.declared.error.DecodeError.{DecodeError}
 use Rattle.buffa_bytes.specs.declared.wire_type.WireType.{WireType}
 use Rattle.buffa_bytes.specs.declared.wire_type.WireType.TheVariants.{EndGroup, StartGroup}
-use Rattle.buffa_bytes.specs.Front.{same_wire, skip_at, tag_at}
+use Rattle.buffa_bytes.specs.Readings.{same_wire, skip_at, tag_at}
 use Rattle.buffa_bytes.specs.Scan.{Scanned, scan}
 use Rattle.buffa_bytes.specs.Scan.Scanned.{ends, goes}
 use Rattle.buffa_wire.specs.BudgetLeft.{BudgetLeft}
 use Rattle.buffa_wire.specs.Message.{BeginsField, cost_in, merged_in}
-use Rattle.buffa_wire.specs.Records.{Datum, group, records_of}
+use Rattle.buffa_wire.specs.Records.{FieldData, group, records_of}
 use Rattle.buffa_fields.specs.Framing.{cost_as, taken_as}
-use Rattle.buffa_fields.specs.MemberRecords.{optional_records}
-use Rattle.buffa_wire.specs.Takes.{Asks, Need, Taker, front_of}
+use Rattle.buffa_fields.specs.MemberRecords.{explicit_records}
+use Rattle.buffa_wire.specs.Takes.{Asks, Charge, Taker, front_of}
 
 -- the field up to what follows it, and then the fields in that
 abbrev pub body_behind : List ℕ → Result (List ℕ) DecodeError → Scanned (Unit {0}) (List ℕ)
@@ -33,7 +33,7 @@ unfolding taken_as
 group_merged merged = taken_as StartGroup (λ d v p. merged_in merged d v (group_body (d - 1) p))
 
 -- at a depth, what it costs
-unfoldable pub group_cost : (ℕ → List ℕ → BudgetLeft) → Need
+unfoldable pub group_cost : (ℕ → List ℕ → BudgetLeft) → Charge
 unfolding cost_as
 group_cost cost = cost_as StartGroup (λ d bs. cost_in cost d (group_body (d - 1) bs))
 
@@ -41,11 +41,11 @@ group_cost cost = cost_as StartGroup (λ d bs. cost_in cost d (group_body (d - 1
 abbrev pub GroupTakesMemory : Asks
 GroupTakesMemory d n w bs = (w ≡ StartGroup) × (0 < d) × BeginsField bs
 
-module _ {X : Type 0} (records : X → List (ℕ × Datum)) where
+module _ {X : Type 0} (records : X → List (ℕ × FieldData)) where
   -- the group of a message
-  abbrev pub group_datum : X → Datum
-  group_datum v = group (records_of (records v))
+  abbrev pub group_field_data : X → FieldData
+  group_field_data v = group (records_of (records v))
 
   -- its record, where it is there
-  abbrev pub group_records : ℕ → Option X → List (ℕ × Datum)
-  group_records = optional_records group_datum
+  abbrev pub group_records : ℕ → Option X → List (ℕ × FieldData)
+  group_records = explicit_records group_field_data

@@ -5,9 +5,9 @@ use Rattle.buffa_bytes.specs.declared.error.DecodeError.{DecodeError}
 use Rattle.buffa_bytes.specs.declared.error.DecodeError.TheVariants.{OutOfMemory}
 use Rattle.buffa_bytes.specs.declared.wire_type.WireType.{WireType}
 use Rattle.buffa_bytes.specs.declared.wire_type.WireType.TheVariants.{LengthDelimited}
-use Rattle.buffa_bytes.specs.Content.{content_at}
-use Rattle.buffa_bytes.specs.Front.{check_wire, delimited_at, ◌>>=◌, same_wire}
-use Rattle.buffa_wire.specs.Records.{Datum, bytes}
+use Rattle.buffa_bytes.specs.PayloadValue.{payload_value_at}
+use Rattle.buffa_bytes.specs.Readings.{check_wire, delimited_at, ◌>>=◌, same_wire}
+use Rattle.buffa_wire.specs.Records.{FieldData, bytes}
 use Rattle.buffa_bytes.specs.Scan.{parse_all}
 use Rattle.buffa_map.specs.Codec.{Reading, value_at}
 use Rattle.buffa_wire.specs.ByField.{value_of}
@@ -50,18 +50,18 @@ check_list_wire n expected w = if same_wire LengthDelimited w then Ok tt else ch
 
 -- packed elements take memory where a length and so many bytes are there, and a whole payload begins these
 abbrev pub PackedTakeMemory : {V : Type 0} → Reading V → List ℕ → Type 0
-PackedTakeMemory codec bs = (b : List ℕ) × (rest : List ℕ) × (delimited_at bs ≡ Ok (b, rest)) × IsOk (content_at codec.wire b)
+PackedTakeMemory codec bs = (b : List ℕ) × (rest : List ℕ) × (delimited_at bs ≡ Ok (b, rest)) × IsOk (payload_value_at codec.wire b)
 
 -- elements take memory where one has a whole payload, by itself or the first of packed ones
 abbrev pub ElementsTakeMemory : {V : Type 0} → Reading V → Asks
 ElementsTakeMemory codec d n w bs =
-    ((w ≡ codec.wire) × IsOk (content_at codec.wire bs)) ⊎ ((w ≡ LengthDelimited) × PackedTakeMemory codec bs)
+    ((w ≡ codec.wire) × IsOk (payload_value_at codec.wire bs)) ⊎ ((w ≡ LengthDelimited) × PackedTakeMemory codec bs)
 
 -- a record for each element
-unfoldable pub element_records : {V : Type 0} → (V → Datum) → ℕ → List V → List (ℕ × Datum)
-element_records datum n vs = map (λ v. (n, datum v)) vs
+unfoldable pub element_records : {V : Type 0} → (V → FieldData) → ℕ → List V → List (ℕ × FieldData)
+element_records field_data n vs = map (λ v. (n, field_data v)) vs
 
 -- one record of all elements, and none where there are none
-unfoldable pub packed_records : {V : Type 0} → (V → List ℕ) → ℕ → List V → List (ℕ × Datum)
+unfoldable pub packed_records : {V : Type 0} → (V → List ℕ) → ℕ → List V → List (ℕ × FieldData)
 packed_records encoding n [] = []
 packed_records encoding n (v ∷ vs) = (n, bytes (encodings encoding (v ∷ vs))) ∷ []

@@ -5,14 +5,14 @@ use Rattle.buffa_bytes.specs.declared.error.EncodeError.{EncodeError}
 use Rattle.buffa_bytes.specs.declared.error.EncodeError.TheVariants as encode
 use Rattle.buffa_wire.specs.Passes.{Begins, IsSmall}
 use Rattle.buffa_wire.specs.Encoding.{records_encoding}
-use Rattle.buffa_bytes.specs.Front.{delimited_at}
-use Rattle.buffa_wire.specs.Records.{Datum, bytes}
+use Rattle.buffa_bytes.specs.Readings.{delimited_at}
+use Rattle.buffa_wire.specs.Records.{FieldData, bytes}
 use Rattle.buffa_map.specs.Codec.{Reading, Writing}
 use Rattle.buffa_map.specs.Entry.{IsEntry, EntryFieldsTakeMemory}
-use Rattle.buffa_map.specs.EntryReading.{need_of}
+use Rattle.buffa_map.specs.EntryReading.{charge_of}
 use Rattle.buffa_map.specs.Encoding.{entry_encoding}
 use Rattle.buffa_map.specs.declared.map_entry.MapEntry.{MapEntry}
-use Rattle.buffa_wire.specs.Takes.{Asks, Need, Taker}
+use Rattle.buffa_wire.specs.Takes.{Asks, Charge, Taker}
 use Rattle.buffa_fields.specs.Entries.{entry_cost, entry_taken}
 
 -- where pairs are put so, the pairs after an entry that said s: a declared one is put
@@ -30,8 +30,8 @@ module _ {K V : Type 0} (key : Reading K) (val : Reading V) where
   pair_taken puts = entry_taken key val (λ m e s. stepped puts m s)
 
   -- a pair costs so many units, and what the messages in its entry cost
-  abbrev pub pair_cost : ℕ → Need
-  pair_cost cost = entry_cost (λ d e. need_of key val d cost e)
+  abbrev pub pair_cost : ℕ → Charge
+  pair_cost cost = entry_cost (λ d e. charge_of key val d cost e)
 
   -- one takes memory where a length and so many bytes are there, and a field in these does, or they are an entry, which is put
   abbrev pub PairTakesMemory : Asks
@@ -40,12 +40,12 @@ module _ {K V : Type 0} (key : Reading K) (val : Reading V) where
       × (EntryFieldsTakeMemory key val d e ⊎ ((s : MapEntry K V) × IsEntry key val d e s × (s.known ≡ true)))
 
 -- a record for each pair
-abbrev pub map_records : {K V : Type 0} → Writing K → Writing V → ℕ → List (K × V) → List (ℕ × Datum)
+abbrev pub map_records : {K V : Type 0} → Writing K → Writing V → ℕ → List (K × V) → List (ℕ × FieldData)
 map_records key val n [] = []
 map_records key val n (p ∷ ps) = (n, bytes (entry_encoding key val p)) ∷ map_records key val n ps
 
 -- the same by a name that stays folded
-unfoldable pub entry_records : {K V : Type 0} → Writing K → Writing V → ℕ → List (K × V) → List (ℕ × Datum)
+unfoldable pub entry_records : {K V : Type 0} → Writing K → Writing V → ℕ → List (K × V) → List (ℕ × FieldData)
 entry_records key val n l = map_records key val n l
 
 -- a map field was written, or memory ran out before all of it was; or it is no encoding of a message

@@ -13,13 +13,13 @@ use Rattle.buffa_wire.specs.Passes.{IsSized, IsWritten}
 use Rattle.buffa_wire.specs.Records.{bytes}
 use Rattle.buffa_wire.specs.Encoding.{records_encoding}
 use Rattle.buffa_wire.specs.declared.context.DecodeContext.{DecodeContext}
-use Rattle.buffa_fields.specs.Exit.{Exit}
+use Rattle.buffa_fields.specs.ContextAfter.{ContextAfter}
 use Rattle.buffa_fields.specs.FramingCalls.{WritesAllFramed, WritesFramed}
 use Rattle.buffa_map.specs.Codec.{Reading, Writing}
 use Rattle.buffa_map.specs.Pairs.{means}
 use Rattle.buffa_fields.specs.Lists.{check_list_wire, elements_taken}
 use Rattle.buffa_fields.specs.MapFields.{pair_cost, pair_taken}
-use Rattle.buffa_fields.specs.NestedMaps.{pair_records, pair_slots}
+use Rattle.buffa_fields.specs.MapsOfMessages.{pair_records, pair_slots}
 use Rattle.buffa_wire.specs.Takes.{IsTaken}
 use Rattle.buffa_fields.specs.Values.{free}
 use Rattle.buffa_fields.specs.Calls.{TakesIn}
@@ -34,13 +34,13 @@ ChecksListWire tag expected r old new before after =
 
 -- a map took an entry, where keys and values mean so, pairs are put so, and a pair costs so many units; a contract sees an
 -- IndexMap as a HashMap
-abbrev pub TakesEntry : {A B S D T K V : Type 0} → Tag → DecodeContext → Exit D → HashMap A B S → HashMap A B S → Bor (List ℕ) → Bor (List ℕ) → Result T DecodeError → (A → K) → (B → V) → Reading K → Reading V →
+abbrev pub TakesEntry : {A B S D T K V : Type 0} → Tag → DecodeContext → ContextAfter D → HashMap A B S → HashMap A B S → Bor (List ℕ) → Bor (List ℕ) → Result T DecodeError → (A → K) → (B → V) → Reading K → Reading V →
     (List (K × V) → K → V → List (K × V)) → ℕ → Type 0
 TakesEntry tag ctx left old new before after r key_means val_means key val puts cost =
     TakesIn tag ctx left old new before after r (pair_taken key val puts) (pair_cost key val cost) (λ m. means key_means val_means m.entries)
 
 -- the same of one that is walked in the order of its keys
-abbrev pub TakesOrderedEntry : {A B D T K V : Type 0} → Tag → DecodeContext → Exit D → BTreeMap A B → BTreeMap A B → Bor (List ℕ) → Bor (List ℕ) → Result T DecodeError → (A → K) → (B → V) → Reading K → Reading V →
+abbrev pub TakesOrderedEntry : {A B D T K V : Type 0} → Tag → DecodeContext → ContextAfter D → BTreeMap A B → BTreeMap A B → Bor (List ℕ) → Bor (List ℕ) → Result T DecodeError → (A → K) → (B → V) → Reading K → Reading V →
     (K → K → Ordering) → ℕ → Type 0
 TakesOrderedEntry tag ctx left old new before after r key_means val_means key val order cost =
     TakesIn tag ctx left old new before after r (pair_taken key val (insert_entry order)) (pair_cost key val cost) (λ m. means key_means val_means m.entries)

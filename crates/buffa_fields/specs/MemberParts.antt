@@ -3,9 +3,9 @@
 use Rattle.std.specs.Prelude.{◌≡◌, ℕ, ◌==◌, ◌&&◌, not, max, []}
 use Rattle.std.specs.Option.{option_map}
 use Rattle.buffa_bytes.specs.Number.{IsNumber}
-use Rattle.buffa_fields.specs.Aside.{AllAside, Aside, ReadsBackBeside, TookBeside, aside_levels, kept_among}
-use Rattle.buffa_fields.specs.Keep.{AllNumbers}
-use Rattle.buffa_fields.specs.Layout.{ReadsBackTo, Shape, Took, is_number, visited}
+use Rattle.buffa_fields.specs.Unknowns.{AllUnknowns, Unknowns, ReadsBackWithUnknowns, TookWithUnknowns, unknowns_levels, kept_among}
+use Rattle.buffa_fields.specs.UndeclaredFields.{AllNumbers}
+use Rattle.buffa_fields.specs.Schema.{ReadsBackTo, Shape, Took, is_number, visited}
 use Rattle.buffa_fields.specs.Parts.{Part}
 
 module _ {M P A : Type 0} (k : ℕ) (get : M → P) (s : Shape P A) where
@@ -18,12 +18,12 @@ module _ {M P A : Type 0} (k : ℕ) (get : M → P) (s : Shape P A) where
     sound = λ D keeps sound. is_number k && not (D k) && (s.whole && sound);
     takes = λ adds d v n w p. option_map (λ x. (x, v.1)) (s.takes d v.0 n w p);
     asks = λ left d n w bs. s.asks d n w bs;
-    need = s.need;
+    charge = s.charge;
     records = λ v. s.records k v;
     slots = s.slots;
     levels = λ v m kept. max (s.levels v) m;
     normal = s.normal;
-    Beside = λ kept. AllNumbers (λ n. not (n == k)) kept;
+    WithUnknowns = λ kept. AllNumbers (λ n. not (n == k)) kept;
     Same = λ a b. get b ≡ get a;
     Took = λ d old kept n w bs before r new keeps after rest. Took s d (get old) n w bs before r (get new) after rest;
     Others = λ S E a b. S a b;
@@ -34,25 +34,25 @@ module _ {M P A : Type 0} (k : ℕ) (get : M → P) (s : Shape P A) where
   }
 
   -- one that puts aside what it doesn't understand, among the fields that are kept
-  abbrev pub keeping_part : Aside A → Part M A
-  keeping_part a = record {
+  abbrev pub part_with_unknowns : Unknowns A → Part M A
+  part_with_unknowns a = record {
     meaning = λ m. s.meaning (get m);
     blank = s.blank;
     mine = λ n. n == k;
     sound = λ D keeps sound. is_number k && not (D k) && (keeps && sound);
     takes = λ adds d v n w p. option_map (kept_among adds v.1) (a.takes d (v.0, []) n w p);
     asks = a.asks;
-    need = a.need;
+    charge = a.charge;
     records = λ v. s.records k v;
     slots = s.slots;
-    levels = λ v m kept. max (s.levels v) (max m (aside_levels k a.levels kept));
+    levels = λ v m kept. max (s.levels v) (max m (unknowns_levels k a.levels kept));
     normal = s.normal;
-    Beside = λ kept. AllAside k a.IsAside kept;
+    WithUnknowns = λ kept. AllUnknowns k a.AreUnknowns kept;
     Same = λ a b. get b ≡ get a;
-    Took = λ d old kept n w bs before r new keeps after rest. TookBeside s a d (get old) kept n w bs before r (get new) keeps after rest;
+    Took = λ d old kept n w bs before r new keeps after rest. TookWithUnknowns s a d (get old) kept n w bs before r (get new) keeps after rest;
     Others = λ S E a b. E a b;
     seen = λ m z. visited s k (get m) z;
-    Owes = ReadsBackBeside s a;
+    Owes = ReadsBackWithUnknowns s a;
     Exact = s.Exact;
     Fine = IsNumber k;
   }

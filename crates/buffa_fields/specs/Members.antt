@@ -3,35 +3,35 @@ use Rattle.std.specs.Prelude.{◌≡◌, ℕ, ◌||◌, true, false, List, [], �
 use Rattle.std.proofs.Common.{sym, ap, ◌∙◌, arith, append_assoc, append-nil}
 use Rattle.buffa_wire.specs.Parse.{AreValid}
 use Rattle.buffa_wire.specs.ReadableFacts.{valid_joined}
-use Rattle.buffa_wire.specs.Records.{Datum, height, records_of}
-use Rattle.buffa_wire.specs.Kept.{keep_need}
+use Rattle.buffa_wire.specs.Records.{FieldData, height, records_of}
+use Rattle.buffa_wire.specs.Kept.{keep_charge}
 use Rattle.buffa_wire.proofs.KeepLemmas.{keep_stays}
 use Rattle.buffa_wire.specs.Takes.{Taker, costs_nothing}
-use Rattle.buffa_fields.specs.Aside.{Aside}
-use Rattle.buffa_fields.specs.facts.BackFacts.{no_pieces}
-use Rattle.buffa_fields.specs.Keep.{KeepTakesMemory, keep_takes}
-use Rattle.buffa_fields.specs.facts.KeepFacts.{keep_again}
-use Rattle.buffa_fields.specs.Layout.{Choice, IsFieldKept, Layout, Passed, Shape, more, passes}
-use Rattle.buffa_fields.specs.facts.LayoutFacts.{is_kept, kept_asks, kept_stays, is_passed, none_keep, passed_asks, more_none, part_seen}
+use Rattle.buffa_fields.specs.Unknowns.{Unknowns}
+use Rattle.buffa_fields.specs.facts.ReadBackFacts.{no_pieces}
+use Rattle.buffa_fields.specs.UndeclaredFields.{KeepTakesMemory, keep_takes}
+use Rattle.buffa_fields.specs.facts.UndeclaredFieldFacts.{keep_again}
+use Rattle.buffa_fields.specs.Schema.{Choice, IsFieldKept, Schema, Passed, Shape, more, passes}
+use Rattle.buffa_fields.specs.facts.SchemaFacts.{is_kept, kept_asks, kept_stays, is_passed, none_keep, passed_asks, more_none, part_seen}
 use Rattle.buffa_fields.specs.facts.LevelFacts.{both_numbers, others_low}
-use Rattle.buffa_fields.specs.facts.MemberPartFacts.{keeping_laws, member_laws}
-use Rattle.buffa_fields.specs.MemberParts.{keeping_part, member_part}
+use Rattle.buffa_fields.specs.facts.MemberPartFacts.{laws_with_unknowns, member_laws}
+use Rattle.buffa_fields.specs.MemberParts.{part_with_unknowns, member_part}
 use Rattle.buffa_fields.specs.facts.PairFacts.{either_stays, readable_both}
-use Rattle.buffa_fields.specs.facts.PartFacts.{mine_front, mine_kept, part_again, part_apart, part_asks, part_back, part_is_taken}
-use Rattle.buffa_fields.specs.Parts.{Part, PartLaws, part_need, part_take}
+use Rattle.buffa_fields.specs.facts.PartFacts.{mine_front, mine_kept, part_again, part_differs_only_at, part_asks, part_back, part_is_taken}
+use Rattle.buffa_fields.specs.Parts.{Part, PartLaws, part_charge, part_take}
 
 -- a part, and the others
-abbrev pub part : {M A B : Type 0} (p : Part M A) → PartLaws p → Layout M B → Layout M (A × B)
+abbrev pub part : {M A B : Type 0} (p : Part M A) → PartLaws p → Schema M B → Schema M (A × B)
 part {A = A} {B = B} p laws l = record {
   meaning = λ m. (p.meaning m, l.meaning m);
   blank = (p.blank, l.blank);
   takes = part_take p.mine (p.takes l.adds) l.takes;
   asks = λ left d n w bs. Choice (p.mine n) (p.asks left d n w bs) (l.asks left d n w bs);
-  need = part_need p.mine p.need l.need;
+  charge = part_charge p.mine p.charge l.charge;
   records = λ v. p.records v.0 ++ l.records v.1;
   slots = λ v. p.slots v.0 ++ l.slots v.1;
   levels = λ v. p.levels v.0 (l.levels v.1) (l.kept v.1);
-  normal = λ v. p.normal v.0 × l.normal v.1 × p.Beside (l.kept v.1);
+  normal = λ v. p.normal v.0 × l.normal v.1 × p.WithUnknowns (l.kept v.1);
   declares = λ n. p.mine n || l.declares n;
   sound = p.sound l.declares l.keeps l.sound;
   keeps = l.keeps;
@@ -43,10 +43,10 @@ part {A = A} {B = B} p laws l = record {
   SameBut = λ a b. p.Same a b × l.SameBut a b;
   Taken = λ d old n w bs before r new after rest.
       Choice (p.mine n) (p.Took d old (l.kept (l.meaning old)) n w bs before r new (l.kept (l.meaning new)) after rest × p.Others l.Same l.SameBut old new) (p.Same old new × l.Taken d old n w bs before r new after rest);
-  Apart = λ n v u. Choice (p.mine n) (v.1 ≡ u.1) ((v.0 ≡ u.0) × l.Apart n v.1 u.1);
-  apart = λ d old n w bs before e new after rest h. part_apart p laws l d old n w bs before e new after rest h;
+  DiffersOnlyAt = λ n v u. Choice (p.mine n) (v.1 ≡ u.1) ((v.0 ≡ u.0) × l.DiffersOnlyAt n v.1 u.1);
+  differs_only = λ d old n w bs before e new after rest h. part_differs_only_at p laws l d old n w bs before e new after rest h;
   seen = λ m z. l.seen m (p.seen m z);
-  stays = either_stays p.mine p.need l.need laws.stays l.stays;
+  stays = either_stays p.mine p.charge l.charge laws.stays l.stays;
   same_is = λ a b h. λ i. (laws.same_is a b h.0 i, l.same_is a b h.1 i);
   same_kept = λ a b. let both = l.same_kept a b in (λ h. ((h.0, (both.0 h.1).0), (both.0 h.1).1), λ h. (h.0.0, both.1 (h.0.1, h.1)));
   same_but = λ a b rs h is. λ i. (sym (laws.same_is a b h.0) i, l.same_but a b rs h.1 is i);
@@ -56,9 +56,9 @@ part {A = A} {B = B} p laws l = record {
   adds_none = λ v. λ i. (v.0, l.adds_none v.1 i);
   adds_twice = λ v x y. λ i. (v.0, l.adds_twice v.1 x y i);
   adds_kept = λ has v rs. l.adds_kept has v.1 rs;
-  adds_own = λ v rs. ap (λ (z : List (ℕ × Datum)). p.records v.0 ++ z) (l.adds_own v.1 rs);
+  adds_own = λ v rs. ap (λ (z : List (ℕ × FieldData)). p.records v.0 ++ z) (l.adds_own v.1 rs);
   whole = λ v. λ i. (v.0, l.whole v.1 i);
-  in_two = λ v. ap (λ (z : List (ℕ × Datum)). p.records v.0 ++ z) (l.in_two v.1) ∙ sym (append_assoc (p.records v.0) (l.own v.1) (l.kept v.1));
+  in_two = λ v. ap (λ (z : List (ℕ × FieldData)). p.records v.0 ++ z) (l.in_two v.1) ∙ sym (append_assoc (p.records v.0) (l.own v.1) (l.kept v.1));
   kept_low = λ v. omega (arith, l.kept_low v.1, laws.others_low v.0 (l.levels v.1) (l.kept v.1));
   Owes = p.Owes × l.Owes;
   valid = λ owes ok v normal.
@@ -87,22 +87,22 @@ part {A = A} {B = B} p laws l = record {
 }
 
 -- a member under a number, and the others
-abbrev pub field : {M P A B : Type 0} → ℕ → (M → P) → Shape P A → Layout M B → Layout M (A × B)
+abbrev pub field : {M P A B : Type 0} → ℕ → (M → P) → Shape P A → Schema M B → Schema M (A × B)
 field k get s l = part (member_part k get s) (member_laws k get s) l
 
 -- the same of a member that puts aside what it doesn't understand, among the fields that are kept
-abbrev pub field_kept : {M P A B : Type 0} → ℕ → (M → P) → Shape P A → Aside A → Layout M B → Layout M (A × B)
-field_kept k get s a l = part (keeping_part k get s a) (keeping_laws k get s a) l
+abbrev pub field_with_unknowns : {M P A B : Type 0} → ℕ → (M → P) → Shape P A → Unknowns A → Schema M B → Schema M (A × B)
+field_with_unknowns k get s a l = part (part_with_unknowns k get s a) (laws_with_unknowns k get s a) l
 
 -- fields that aren't declared are kept; a value is normal where the numbers of these may be a field's, nested ones too, and their
 -- data are in range
-abbrev pub keep : {M : Type 0} → (M → List (ℕ × Datum)) → Layout M (List (ℕ × Datum))
-keep get = record {
+abbrev pub keep_unknown : {M : Type 0} → (M → List (ℕ × FieldData)) → Schema M (List (ℕ × FieldData))
+keep_unknown get = record {
   meaning = get;
   blank = [];
   takes = keep_takes;
   asks = KeepTakesMemory;
-  need = keep_need;
+  charge = keep_charge;
   records = λ v. v;
   slots = λ v. [];
   levels = height;
@@ -117,8 +117,8 @@ keep get = record {
   Same = λ a b. get b ≡ get a;
   SameBut = λ a b. Unit {0};
   Taken = λ d old n w bs before r new after rest. IsFieldKept d (get old) n w bs before r (get new) after rest;
-  Apart = λ n v u. v ≡ u;
-  apart = λ d old n w bs before e new after rest h. kept_stays d (get old) n w bs before e (get new) after rest h;
+  DiffersOnlyAt = λ n v u. v ≡ u;
+  differs_only = λ d old n w bs before e new after rest h. kept_stays d (get old) n w bs before e (get new) after rest h;
   seen = λ m z. more (get m) [] z;
   stays = keep_stays;
   same_is = λ a b h. sym h;
@@ -144,13 +144,13 @@ keep get = record {
 }
 
 -- fields that aren't declared are passed over
-abbrev pub skip : {M : Type 0} → Layout M (Unit {0})
-skip = record {
+abbrev pub skip_unknown : {M : Type 0} → Schema M (Unit {0})
+skip_unknown = record {
   meaning = λ m. tt;
   blank = tt;
   takes = passes;
   asks = λ left d n w bs. ⊥;
-  need = costs_nothing;
+  charge = costs_nothing;
   records = λ v. [];
   slots = λ v. [];
   levels = λ v. 0;
@@ -165,8 +165,8 @@ skip = record {
   Same = λ a b. Unit {0};
   SameBut = λ a b. Unit {0};
   Taken = λ d old n w bs before r new after rest. Passed d n w bs before r after rest;
-  Apart = λ n v u. Unit {0};
-  apart = λ d old n w bs before e new after rest h. tt;
+  DiffersOnlyAt = λ n v u. Unit {0};
+  differs_only = λ d old n w bs before e new after rest h. tt;
   seen = λ m z. z;
   stays = λ d n w p x h. refl;
   same_is = λ a b h. refl;

@@ -1,11 +1,11 @@
 -- A oneof is a part of a message. Source: the protobuf encoding guide, "Oneofs"; the protobuf language guide, "Oneof".
 use Rattle.std.specs.Prelude.{◌≡◌, ℕ, Bool, not, max, List, [], Option, None}
 use Rattle.std.specs.Option.{option_map}
-use Rattle.buffa_fields.specs.Aside.{Kept}
+use Rattle.buffa_fields.specs.Unknowns.{Kept}
 use Rattle.buffa_fields.specs.Cases.{Cases, CasesLaws, CaseWords, or_cases, if_there, none_of, single_case}
 use Rattle.buffa_fields.specs.facts.CasesFacts.{or_laws, none_laws, single_laws}
-use Rattle.buffa_fields.specs.Keep.{AllNumbers}
-use Rattle.buffa_fields.specs.Layout.{Seen, Shape}
+use Rattle.buffa_fields.specs.UndeclaredFields.{AllNumbers}
+use Rattle.buffa_fields.specs.Schema.{Seen, Shape}
 use Rattle.buffa_fields.specs.Parts.{Part}
 use Rattle.buffa_fields.specs.Values.{IfThere}
 use Rattle.buffa_fields.specs.declared.meaning.Or.{Or}
@@ -60,12 +60,12 @@ module _ {M O X : Type 0} (get : M → Option O) (e : OneOf O X) where
     sound = λ D keeps sound. cases.sound D sound;
     takes = λ adds d v n w p. option_map (λ x. (x, v.1)) (cases.takes d v.0 n w p);
     asks = λ left. cases.asks;
-    need = cases.need;
+    charge = cases.charge;
     records = λ v. if_there [] cases.records v;
     slots = λ v. if_there [] cases.slots v;
     levels = λ v m kept. max (if_there 0 cases.levels v) m;
     normal = λ v. IfThere cases.normal v;
-    Beside = λ kept. AllNumbers (λ n. not (cases.mine n)) kept;
+    WithUnknowns = λ kept. AllNumbers (λ n. not (cases.mine n)) kept;
     Same = λ a b. get b ≡ get a;
     Took = λ d old kept n w bs before r new keeps after rest. cases.Took (λ o. option_map e.view o) d (get old) n w bs before r (get new) after rest;
     Others = λ S E a b. S a b;

@@ -1,20 +1,20 @@
 -- What stands of a member whose field was refused, and which fault was told. Source: the protobuf encoding guide, "Message Structure".
-use Rattle.std.specs.Prelude.{◌≡◌, ◌≢◌, ◌⊎◌, ◌↔◌, ℕ, zero, suc, List, ◌++◌, Option, None, Result, Ok, Err, IsOk}
+use Rattle.std.specs.Prelude.{◌≡◌, ◌≢◌, ◌<◌, ◌≤◌, ◌-◌, ◌⊎◌, ◌↔◌, ℕ, zero, suc, List, ◌++◌, Option, None, Result, Ok, Err, IsOk}
 use Rattle.buffa_bytes.specs.declared.error.DecodeError.{DecodeError}
-use Rattle.buffa_bytes.specs.declared.error.DecodeError.TheVariants.{InvalidEndGroup, OutOfMemory, RecursionLimitExceeded}
+use Rattle.buffa_bytes.specs.declared.error.DecodeError.TheVariants.{ElementMemoryLimitExceeded, InvalidEndGroup, OutOfMemory, RecursionLimitExceeded}
 use Rattle.buffa_bytes.specs.declared.tag.Tag.{Tag}
 use Rattle.buffa_bytes.specs.declared.wire_type.WireType.{WireType}
 use Rattle.buffa_bytes.specs.declared.wire_type.WireType.TheVariants.{EndGroup, LengthDelimited, StartGroup}
-use Rattle.buffa_bytes.specs.Front.{check_wire, delimited_at, tag_at}
+use Rattle.buffa_bytes.specs.Readings.{check_wire, delimited_at, tag_at}
 use Rattle.buffa_wire.specs.BudgetLeft.{BudgetLeft}
 use Rattle.buffa_wire.specs.Message.{BeginsField, FieldRefused, MessageFault}
 use Rattle.buffa_map.specs.Codec.{Reading}
 use Rattle.buffa_map.specs.Entry.{EntryFault}
 use Rattle.buffa_map.specs.Pairs.{means}
-use Rattle.buffa_fields.specs.Layout.{Shape}
+use Rattle.buffa_fields.specs.Schema.{Shape}
 use Rattle.buffa_fields.specs.Values.{RefusesAlone}
 use Rattle.buffa_fields.specs.Lists.{element_at, elements_in}
-use Rattle.buffa_fields.specs.Nested.{MessageTakesMemory, or_blank}
+use Rattle.buffa_fields.specs.Submessages.{MessageTakesMemory, or_blank}
 use denote.Ref.{Bor}
 
 -- What is said of a refused field: at a depth, of the value that stood, the number, the wire type, the bytes behind the tag, the
@@ -113,10 +113,19 @@ abbrev pub RefusesMessage : {X : Type 0} → X → (ℕ → X → List ℕ → O
 RefusesMessage blank merged cost =
     RefusesThere LengthDelimited IsDelimited (λ d old n bs left e. MessageFault merged cost d (or_blank blank old) bs left e)
 
--- The same of a message in a box. To put one there takes memory; where one stands, memory runs out only for the bytes of a message.
-abbrev pub RefusesBoxed : {X : Type 0} → X → (ℕ → X → List ℕ → Option X) → (ℕ → List ℕ → BudgetLeft) → FieldRefused (Option X)
-RefusesBoxed blank merged cost d old n w bs left e new =
-    RefusesMessage blank merged cost d old n w bs left e new × (e ≡ OutOfMemory → old ≢ None → MessageTakesMemory d n w bs)
+-- a message is charged so many units before it is read: they aren't left; or they are, and the fault is the message's, under what is
+-- left behind them
+abbrev pub ChargedMessageFault : {X : Type 0} → ℕ → (ℕ → X → List ℕ → Option X) → (ℕ → List ℕ → BudgetLeft) → ℕ → X → List ℕ → BudgetLeft → DecodeError → Type 0
+ChargedMessageFault each merged cost d old bs left e =
+    ((left.memory < each) × (e ≡ ElementMemoryLimitExceeded))
+    ⊎ ((each ≤ left.memory) × MessageFault merged cost d old bs (record { unknown = left.unknown; memory = left.memory - each }) e)
+
+-- The same of a message in a box, which is charged so many units, also where one stands. To put one there takes memory; where one stands,
+-- memory runs out only for the bytes of a message.
+abbrev pub RefusesBoxed : {X : Type 0} → ℕ → X → (ℕ → X → List ℕ → Option X) → (ℕ → List ℕ → BudgetLeft) → FieldRefused (Option X)
+RefusesBoxed each blank merged cost d old n w bs left e new =
+    RefusesThere LengthDelimited IsDelimited (λ d old n bs left e. ChargedMessageFault each merged cost d (or_blank blank old) bs left e) d old n w bs left e new
+    × (e ≡ OutOfMemory → old ≢ None → MessageTakesMemory d n w bs)
 
 -- Why a group isn't merged, as far as it is told whatever its messages are: no level is left; no tag is there; or an end tag of another
 -- group is. Where a field begins it, that may be any.

@@ -5,11 +5,11 @@ use Rattle.std.specs.Option.{option_map}
 use Rattle.buffa_bytes.specs.declared.error.DecodeError.{DecodeError}
 use Rattle.buffa_bytes.specs.declared.error.DecodeError.TheVariants.{OutOfMemory}
 use Rattle.buffa_bytes.specs.declared.wire_type.WireType.{WireType}
-use Rattle.buffa_bytes.specs.Front.{check_wire, ◌>>=◌, same_wire}
+use Rattle.buffa_bytes.specs.Readings.{check_wire, ◌>>=◌, same_wire}
 use Rattle.buffa_wire.specs.BudgetLeft.{nothing}
-use Rattle.buffa_wire.specs.Records.{Datum}
+use Rattle.buffa_wire.specs.Records.{FieldData}
 use Rattle.buffa_map.specs.Codec.{HoldsNothing, Reading, ReadingTakesMemory, value_at}
-use Rattle.buffa_wire.specs.Takes.{Asks, Need, Taker}
+use Rattle.buffa_wire.specs.Takes.{Asks, Charge, Taker}
 
 -- what is read of a whole payload
 abbrev pub all_of : {V : Type 0} → Result ((V × Bool) × List ℕ) DecodeError → Option V
@@ -34,18 +34,18 @@ abbrev pub RefusesAlone : {V X : Type 0} → Reading V → (X → V) → ℕ →
 RefusesAlone codec start d old n w bs e new = (old ≡ new) × (e ≢ OutOfMemory → field_value_at codec d (start old) n w bs ≡ Err e)
 
 -- it costs nothing
-abbrev pub free : Need
+abbrev pub free : Charge
 free d n w bs = nothing
 
 -- it takes memory where the field's wire type is the codec's, which takes some, and a whole payload of a byte or more is there
 abbrev pub ValueTakesMemory : {V : Type 0} → Reading V → Asks
 ValueTakesMemory codec d n w bs = (w ≡ codec.wire) × ReadingTakesMemory codec d bs × (HoldsNothing codec d bs → ⊥)
 
-abbrev pub some_records : {V : Type 0} → (V → Datum) → ℕ → Option V → List (ℕ × Datum)
-some_records datum n None = []
-some_records datum n (Some v) = (n, datum v) ∷ []
+abbrev pub some_records : {V : Type 0} → (V → FieldData) → ℕ → Option V → List (ℕ × FieldData)
+some_records field_data n None = []
+some_records field_data n (Some v) = (n, field_data v) ∷ []
 
-abbrev pub records_unless : Bool → List (ℕ × Datum) → List (ℕ × Datum)
+abbrev pub records_unless : Bool → List (ℕ × FieldData) → List (ℕ × FieldData)
 records_unless true rs = []
 records_unless false rs = rs
 

@@ -1,12 +1,13 @@
 //! What a message means: a pair for each member, of what it means and of what those after it do.
 
+use buffa_wire::UnknownFields;
 use std::marker::Model;
 
 /// What a member means, and what those after it do: the pair, as a type with a name: each member adds to the time of
 /// a check, and none doubles it. It is never made.
 ///
 /// ```ignore
-/// type Meaning = And5<i32, [u8; 0], Option<bool>, [And<[u8; 0], i32>; 0], KeptFields>;
+/// type Meaning = And5<i32, [u8; 0], Option<bool>, [And<[u8; 0], i32>; 0], Unknowns>;
 /// ```
 #[derive(Drop)]
 pub struct And<A, B> {
@@ -34,14 +35,14 @@ pub type And3<A, B, C> = And<A, And<B, C>>;
 /// Four, one after the other.
 ///
 /// ```ignore
-/// type Meaning = And4<[And<[u8; 0], i32>; 0], [And<i32, <Inventory as Blank>::Meaning>; 0], .., KeptFields>;
+/// type Meaning = And4<[And<[u8; 0], i32>; 0], [And<i32, <Inventory as Blank>::Meaning>; 0], .., Unknowns>;
 /// ```
 pub type And4<A, B, C, D> = And<A, And3<B, C, D>>;
 
 /// Five, one after the other.
 ///
 /// ```ignore
-/// type Meaning = And5<i32, [u8; 0], Option<bool>, [And<[u8; 0], i32>; 0], KeptFields>;
+/// type Meaning = And5<i32, [u8; 0], Option<bool>, [And<[u8; 0], i32>; 0], Unknowns>;
 /// ```
 pub type And5<A, B, C, D, E> = And<A, And4<B, C, D, E>>;
 
@@ -57,7 +58,7 @@ pub type And8<A, B, C, D, E, F, G, H> = And<A, And7<B, C, D, E, F, G, H>>;
 /// Nine, one after the other.
 ///
 /// ```ignore
-/// type Meaning = And9<Option<[u8; 0]>, Option<(bool, i32)>, .., KeptFields>;
+/// type Meaning = And9<Option<[u8; 0]>, Option<(bool, i32)>, .., Unknowns>;
 /// ```
 pub type And9<A, B, C, D, E, F, G, H, I> = And<A, And8<B, C, D, E, F, G, H, I>>;
 
@@ -70,7 +71,7 @@ pub type And11<A, B, C, D, E, F, G, H, I, J, K> = And<A, And10<B, C, D, E, F, G,
 /// Twelve, one after the other.
 ///
 /// ```ignore
-/// type Meaning = And12<Option<i32>, Option<i64>, .., KeptFields>;
+/// type Meaning = And12<Option<i32>, Option<i64>, .., Unknowns>;
 /// ```
 pub type And12<A, B, C, D, E, F, G, H, I, J, K, L> = And<A, And11<B, C, D, E, F, G, H, I, J, K, L>>;
 
@@ -87,7 +88,7 @@ pub type And13<A, B, C, D, E, F, G, H, I, J, K, L, M> = And<
 /// Fourteen, one after the other.
 ///
 /// ```ignore
-/// type Meaning = And14<Option<<Load as Blank>::Meaning>, [<Load as Blank>::Meaning; 0], .., KeptFields>;
+/// type Meaning = And14<Option<<Load as Blank>::Meaning>, [<Load as Blank>::Meaning; 0], .., Unknowns>;
 /// ```
 pub type And14<A, B, C, D, E, F, G, H, I, J, K, L, M, N> = And<
     A,
@@ -117,4 +118,27 @@ pub enum Or<A, B> {
     This(A),
     /// One of those after it.
     Other(B),
+}
+
+/// What kept fields mean: their records. It is never made.
+///
+/// ```ignore
+/// type Meaning = And3<[u8; 0], [And<[u8; 0], i32>; 0], Unknowns>;
+/// ```
+#[derive(Drop)]
+pub struct Unknowns {
+    fields: UnknownFields,
+}
+
+impl Model for Unknowns {
+    ghost use Rattle.std.specs.Prelude.{ℕ, List};
+    ghost use Rattle.std.specs.Coded.{coded_list, coded_ℕ, coded×};
+    ghost use Rattle.buffa_wire.specs.Code.{coded_field_data};
+    ghost use Rattle.buffa_wire.specs.Records.{FieldData};
+
+    ghost Value = { List (ℕ × FieldData) };
+
+    ghost coded = { coded_list (coded× coded_ℕ coded_field_data) };
+
+    ghost view = { λ m. m.fields.records };
 }

@@ -5,12 +5,12 @@ use Rattle.std.specs.Option.{option_map}
 use Rattle.buffa_bytes.specs.declared.error.DecodeError.{DecodeError}
 use Rattle.buffa_bytes.specs.declared.wire_type.WireType.{WireType}
 use Rattle.buffa_wire.specs.BudgetLeft.{BudgetLeft}
-use Rattle.buffa_fields.specs.Aside.{Aside}
-use Rattle.buffa_fields_laws.specs.BlockLayouts.{SaysTheSame}
-use Rattle.buffa_fields.specs.Blocks.{Block, aloof, block, block_of, both_blocks, one, one_case, one_kept}
+use Rattle.buffa_fields.specs.Unknowns.{Unknowns}
+use Rattle.buffa_fields_laws.specs.BlockSchemas.{SaysTheSame}
+use Rattle.buffa_fields.specs.Blocks.{Block, no_unknowns, block, block_of, both_blocks, one, one_case, one_with_unknowns}
 use Rattle.buffa_fields.specs.BothParts.{inward, none_given, outward, second_put}
-use Rattle.buffa_fields.specs.Layout.{Choice, Layout, Shape, Took}
-use Rattle.buffa_fields.specs.Members.{field, field_kept}
+use Rattle.buffa_fields.specs.Schema.{Choice, Schema, Shape, Took}
+use Rattle.buffa_fields.specs.Members.{field, field_with_unknowns}
 use Rattle.buffa_fields.specs.OneOf.{one_of}
 use Rattle.buffa_fields.specs.OneOfParts.{OneOf}
 use Rattle.buffa_fields.specs.facts.CasesFacts.{map_same}
@@ -52,7 +52,7 @@ any_of : (s t u : Bool) → ((s || t) || u) ≡ (s || (t || u))
 any_of true t u = refl
 any_of false t u = refl
 
-module _ {keeps : Bool} {M P Q A B C : Type 0} (f : M → P) (g : M → Q) (p : Block keeps P A) (q : Block keeps Q B) (l : Layout M C) where
+module _ {keeps : Bool} {M P Q A B C : Type 0} (f : M → P) (g : M → Q) (p : Block keeps P A) (q : Block keeps Q B) (l : Schema M C) where
   -- ---- a field is taken by the first, by the second, or by the others
   module _ (d : ℕ) (old : M) (n : ℕ) (w : WireType) (bs : List ℕ) (before : BudgetLeft) (r : answer) (new : M) (after : BudgetLeft) (rest : List ℕ) where
     abbrev First : Type 0
@@ -105,7 +105,7 @@ module _ {keeps : Bool} {M P Q A B C : Type 0} (f : M → P) (g : M → Q) (p : 
     takes = λ d v n w x.
         by_one v.0.0 v.0.1 (p.part.mine n) (q.part.mine n) (p.part.takes (λ y rs. (y.0, l.adds y.1 rs)) d (inward v) n w x) (q.part.takes l.adds d (v.0.1, v.1) n w x) (l.takes d v.1 n w x);
     asks = λ left d n w bs. choices (p.part.mine n) (q.part.mine n) (p.part.asks left d n w bs) (q.part.asks left d n w bs) (l.asks left d n w bs);
-    need = λ d n w bs. costs (p.part.mine n) (q.part.mine n) (p.part.need d n w bs) (q.part.need d n w bs) (l.need d n w bs);
+    charge = λ d n w bs. costs (p.part.mine n) (q.part.mine n) (p.part.charge d n w bs) (q.part.charge d n w bs) (l.charge d n w bs);
     records = λ v. append_assoc (p.part.records v.0.0) (q.part.records v.0.1) (l.records v.1);
     slots = λ v. append_assoc (p.part.slots v.0.0) (q.part.slots v.0.1) (l.slots v.1);
     levels = λ v. refl;
@@ -117,14 +117,14 @@ module _ {keeps : Bool} {M P Q A B C : Type 0} (f : M → P) (g : M → Q) (p : 
   }
 
 -- ---- a block of one
-module _ {M P A B : Type 0} (k : ℕ) (get : M → P) (s : Shape P A) (l : Layout M B) where
+module _ {M P A B : Type 0} (k : ℕ) (get : M → P) (s : Shape P A) (l : Schema M B) where
   pub one_is : SaysTheSame (λ v. v) (block (block_of get (one k s)) l) (field k get s l)
   one_is = record {
     meaning = λ m. refl;
     blank = refl;
     takes = λ d v n w p. sym (map_same ((field k get s l).takes d v n w p));
     asks = λ left d n w bs. (λ h. h, λ h. h);
-    need = λ d n w bs. refl;
+    charge = λ d n w bs. refl;
     records = λ v. refl;
     slots = λ v. refl;
     levels = λ v. refl;
@@ -146,21 +146,21 @@ module _ {M P A B : Type 0} (k : ℕ) (get : M → P) (s : Shape P A) (l : Layou
   kept_none false x v z = sym (map_same (option_map (λ y. (v.0, y)) z))
 
   -- the others stay where they do but for what is kept, and that is as it was
-  aloof_taken : (t : Bool) (d : ℕ) (old : M) (n : ℕ) (w : WireType) (bs : List ℕ) (before : BudgetLeft) (r : answer) (new : M) (after : BudgetLeft) (rest : List ℕ) →
+  no_unknowns_taken : (t : Bool) (d : ℕ) (old : M) (n : ℕ) (w : WireType) (bs : List ℕ) (before : BudgetLeft) (r : answer) (new : M) (after : BudgetLeft) (rest : List ℕ) →
       Choice t ((Took s d (get old) n w bs before r (get new) after rest × (l.kept (l.meaning new) ≡ l.kept (l.meaning old))) × l.SameBut old new) ((get new ≡ get old) × l.Taken d old n w bs before r new after rest)
       ↔ Choice t (Took s d (get old) n w bs before r (get new) after rest × l.Same old new) ((get new ≡ get old) × l.Taken d old n w bs before r new after rest)
-  aloof_taken true d old n w bs before r new after rest =
+  no_unknowns_taken true d old n w bs before r new after rest =
       let same = l.same_kept old new in
       (λ h. (h.0.0, same.1 (h.1, h.0.1)), λ h. let both = same.0 h.1 in ((h.0, both.1), both.0))
-  aloof_taken false d old n w bs before r new after rest = (λ h. h, λ h. h)
+  no_unknowns_taken false d old n w bs before r new after rest = (λ h. h, λ h. h)
 
-  pub aloof_is : SaysTheSame (λ v. v) (block (block_of get (aloof (one k s))) l) (field k get s l)
-  aloof_is = record {
+  pub no_unknowns_is : SaysTheSame (λ v. v) (block (block_of get (no_unknowns (one k s))) l) (field k get s l)
+  no_unknowns_is = record {
     meaning = λ m. refl;
     blank = refl;
     takes = λ d v n w p. kept_none (n == k) (s.takes d v.0 n w p) v (l.takes d v.1 n w p);
     asks = λ left d n w bs. (λ h. h, λ h. h);
-    need = λ d n w bs. refl;
+    charge = λ d n w bs. refl;
     records = λ v. refl;
     slots = λ v. refl;
     levels = λ v. refl;
@@ -168,16 +168,16 @@ module _ {M P A B : Type 0} (k : ℕ) (get : M → P) (s : Shape P A) (l : Layou
     declares = λ n. refl;
     sound = refl;
     exact = (λ h. h, λ h. h);
-    taken = λ d old n w bs before r new after rest. aloof_taken (n == k) d old n w bs before r new after rest;
+    taken = λ d old n w bs before r new after rest. no_unknowns_taken (n == k) d old n w bs before r new after rest;
   }
 
-  pub kept_is : (a : Aside A) → SaysTheSame (λ v. v) (block (block_of get (one_kept k s a)) l) (field_kept k get s a l)
+  pub kept_is : (a : Unknowns A) → SaysTheSame (λ v. v) (block (block_of get (one_with_unknowns k s a)) l) (field_with_unknowns k get s a l)
   kept_is a = record {
     meaning = λ m. refl;
     blank = refl;
-    takes = λ d v n w p. sym (map_same ((field_kept k get s a l).takes d v n w p));
+    takes = λ d v n w p. sym (map_same ((field_with_unknowns k get s a l).takes d v n w p));
     asks = λ left d n w bs. (λ h. h, λ h. h);
-    need = λ d n w bs. refl;
+    charge = λ d n w bs. refl;
     records = λ v. refl;
     slots = λ v. refl;
     levels = λ v. refl;
@@ -188,14 +188,14 @@ module _ {M P A B : Type 0} (k : ℕ) (get : M → P) (s : Shape P A) (l : Layou
     taken = λ d old n w bs before r new after rest. (λ h. h, λ h. h);
   }
 
-module _ {M O X B : Type 0} (get : M → Option O) (e : OneOf O X) (l : Layout M B) where
+module _ {M O X B : Type 0} (get : M → Option O) (e : OneOf O X) (l : Schema M B) where
   pub case_is : SaysTheSame (λ v. v) (block (block_of get (one_case e)) l) (one_of get e l)
   case_is = record {
     meaning = λ m. refl;
     blank = refl;
     takes = λ d v n w p. sym (map_same ((one_of get e l).takes d v n w p));
     asks = λ left d n w bs. (λ h. h, λ h. h);
-    need = λ d n w bs. refl;
+    charge = λ d n w bs. refl;
     records = λ v. refl;
     slots = λ v. refl;
     levels = λ v. refl;

@@ -6,7 +6,7 @@ use Rattle.buffa_bytes.specs.declared.wire_type.WireType.{WireType}
 use Rattle.buffa_wire.specs.BudgetLeft.{BudgetLeft}
 use Rattle.buffa_fields.specs.Cases.{IsCasePut, IsPutOver, this_of}
 use Rattle.buffa_fields.specs.facts.CasesFacts.{seen_this}
-use Rattle.buffa_fields.specs.Layout.{Choice, Shape, Took}
+use Rattle.buffa_fields.specs.Schema.{Choice, Shape, Took}
 use Rattle.buffa_fields.specs.declared.meaning.Or.{Or}
 use Rattle.buffa_fields.specs.declared.meaning.Or.TheVariants.{This, Other}
 
@@ -55,29 +55,29 @@ module _ {O P V A : Type 0} (at : Option O → Option (Or P V)) (s : Shape (Opti
   Put stood r = IsCasePut (λ o. this_of (at o)) s d old n w bs before stood r new after rest
 
   -- there is a value of the case, of which this is said
-  abbrev Stands : Option P → answer → Type 0
-  Stands stood r = (q : P) × (at new ≡ Some (This q)) × Took s d stood n w bs before r (Some q) after rest
+  abbrev PartlyMerged : Option P → answer → Type 0
+  PartlyMerged stood r = (q : P) × (at new ≡ Some (This q)) × Took s d stood n w bs before r (Some q) after rest
 
-  stands_over : (stood q : Option P) (r : answer) → this_of (at new) ≡ q → IsPutOver (λ o. this_of (at o)) s d old n w bs before stood r q after rest → Stands stood r
-  stands_over stood None r is h = absurd h
-  stands_over stood (Some q) r is h = (q, seen_this (at new) q is, h)
+  partly_merged_over : (stood q : Option P) (r : answer) → this_of (at new) ≡ q → IsPutOver (λ o. this_of (at o)) s d old n w bs before stood r q after rest → PartlyMerged stood r
+  partly_merged_over stood None r is h = absurd h
+  partly_merged_over stood (Some q) r is h = (q, seen_this (at new) q is, h)
 
-  stands_in : (stood : Option P) (p : P) (r : answer) → stood ≡ Some p → Put stood r → Stands (Some p) r
-  stands_in None p r is h = cc
-  stands_in (Some x) p r is h = subst (λ z. Stands z r) is (stands_over (Some x) (this_of (at new)) r refl h)
+  partly_merged_in : (stood : Option P) (p : P) (r : answer) → stood ≡ Some p → Put stood r → PartlyMerged (Some p) r
+  partly_merged_in None p r is h = cc
+  partly_merged_in (Some x) p r is h = subst (λ z. PartlyMerged z r) is (partly_merged_over (Some x) (this_of (at new)) r refl h)
 
   counted : (p : P) (merges : Bool) → merges ≡ true → at old ≡ Some (This p) → (if merges then this_of (at old) else None) ≡ Some p
-  counted p true is stands = ap this_of stands
-  counted p false is stands = cc
+  counted p true is partly = ap this_of partly
+  counted p false is partly = cc
 
   here : (T : Type 0) (X : Type 0) → Choice (n == n) X T → X
   here T X h = subst (λ t. Choice t X T) (eq-eqb n n refl) h
 
-  pub into_its_own : (T : Type 0) (merges : Bool) (p : P) (r : answer) → merges ≡ true → at old ≡ Some (This p) → Choice (n == n) (Put (if merges then this_of (at old) else None) r) T → Stands (Some p) r
-  into_its_own T merges p r is stands h = stands_in (if merges then this_of (at old) else None) p r (counted p merges is stands) (here T _ h)
+  pub into_its_own : (T : Type 0) (merges : Bool) (p : P) (r : answer) → merges ≡ true → at old ≡ Some (This p) → Choice (n == n) (Put (if merges then this_of (at old) else None) r) T → PartlyMerged (Some p) r
+  into_its_own T merges p r is partly h = partly_merged_in (if merges then this_of (at old) else None) p r (counted p merges is partly) (here T _ h)
 
   anew : (T : Type 0) (merges : Bool) (r : answer) → (merges ≡ false) ⊎ ((p : P) → at old ≡ Some (This p) → ⊥) → Choice (n == n) (Put (if merges then this_of (at old) else None) r) T → Put None r
   anew T merges r none h = subst (λ z. Put z r) (none_counts (at old) merges none) (here T _ h)
 
-  pub put_anew : (T : Type 0) (merges : Bool) (x : Unit {0}) → (merges ≡ false) ⊎ ((p : P) → at old ≡ Some (This p) → ⊥) → Choice (n == n) (Put (if merges then this_of (at old) else None) (let r : answer = Ok x in r)) T → Stands None (let r : answer = Ok x in r)
-  put_anew T merges x none h = stands_over None (this_of (at new)) (Ok x) refl (anew T merges (Ok x) none h)
+  pub put_anew : (T : Type 0) (merges : Bool) (x : Unit {0}) → (merges ≡ false) ⊎ ((p : P) → at old ≡ Some (This p) → ⊥) → Choice (n == n) (Put (if merges then this_of (at old) else None) (let r : answer = Ok x in r)) T → PartlyMerged None (let r : answer = Ok x in r)
+  put_anew T merges x none h = partly_merged_over None (this_of (at new)) (Ok x) refl (anew T merges (Ok x) none h)

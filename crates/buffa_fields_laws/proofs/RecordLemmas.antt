@@ -5,22 +5,22 @@ use Rattle.std.proofs.lemmas.Bool.{lt-ltb}
 use Rattle.std.specs.List.{concat}
 use Rattle.std.specs.Option.{option_map}
 use Rattle.std.specs.Prelude.{◌↔◌, map}
-use Rattle.buffa_bytes.proofs.ContentLemmas.{content_complete}
+use Rattle.buffa_bytes.proofs.PayloadValueLemmas.{payload_value_complete}
 use Rattle.buffa_bytes.proofs.DelimitedLemmas.{delimited_complete, delimited_sound}
 use Rattle.buffa_bytes.proofs.FieldLemmas.{same_refl, same_false}
 use Rattle.buffa_bytes.proofs.SequenceLemmas.{along_err, along_ok, err_same, has_byte, ok_same, parse_leads}
 use Rattle.buffa_bytes.proofs.StepLemmas.{agree_ok}
 use Rattle.buffa_bytes.proofs.WireLemmas.{checked_same}
-use Rattle.buffa_bytes.specs.Content.{Content, HasContent, content_at}
+use Rattle.buffa_bytes.specs.PayloadValue.{PayloadValue, HasPayloadValue, payload_value_at}
 use Rattle.buffa_bytes.specs.Field.{IsTag, SomeField}
-use Rattle.buffa_bytes.specs.Front.{check_wire, delimited_at, ◌>>=◌, same_wire}
+use Rattle.buffa_bytes.specs.Readings.{check_wire, delimited_at, ◌>>=◌, same_wire}
 use Rattle.buffa_bytes.specs.Join.{Join}
 use Rattle.buffa_bytes.specs.Scan.{parse_all}
 use Rattle.buffa_bytes.specs.Varint.{IsVarint}
 use Rattle.buffa_bytes.specs.declared.error.DecodeError.{DecodeError}
 use Rattle.buffa_bytes.specs.declared.wire_type.WireType.{WireType}
 use Rattle.buffa_bytes.specs.declared.wire_type.WireType.TheVariants.{EndGroup, LengthDelimited, StartGroup}
-use Rattle.buffa_wire.specs.BudgetLeft.{BudgetLeft, need_by, nothing, plus, units}
+use Rattle.buffa_wire.specs.BudgetLeft.{BudgetLeft, charge_by, nothing, plus, units}
 use Rattle.buffa_wire.specs.ByField.{value_of}
 use Rattle.buffa_wire.specs.Encoding.{encodings}
 use Rattle.buffa_wire.specs.Message.{cost_of_payload, merged_in}
@@ -35,10 +35,10 @@ use Rattle.buffa_fields.specs.facts.GroupFacts.{body_is}
 use Rattle.buffa_fields.specs.Groups.{group_body, group_merged}
 use Rattle.buffa_fields.specs.facts.ListFacts.{element_falls, elements_end, elements_next}
 use Rattle.buffa_fields.specs.Lists.{element_at, elements_in, elements_taken, packed_in}
-use Rattle.buffa_fields.specs.Layout.{is_number}
-use Rattle.buffa_fields.specs.Nested.{inside, message_cost, message_merged}
+use Rattle.buffa_fields.specs.Schema.{is_number}
+use Rattle.buffa_fields.specs.Submessages.{inside, message_cost, message_merged}
 use Rattle.buffa_fields.specs.facts.PairFacts.{number_of_test}
-use Rattle.buffa_fields.specs.RepeatedNested.{messages_cost}
+use Rattle.buffa_fields.specs.RepeatedMessages.{messages_cost}
 use Rattle.buffa_fields.specs.facts.ValueFacts.{open_level}
 use Rattle.buffa_fields.specs.Values.{all_of, field_value_at, value_taken}
 
@@ -95,12 +95,12 @@ module _ {X : Type 0} (merged : ℕ → X → List ℕ → Option X) where
 
 -- ---- values, and elements of lists
 -- a whole payload of the codec's wire type, which holds a content
-module _ {V : Type 0} (codec : Reading V) (plain : codec.nested ≡ false) (WIRE : WireType) (wire : codec.wire ≡ WIRE) (d n : ℕ) (p : List ℕ) (c : Content) (has : HasContent WIRE p c) (old : V) where
+module _ {V : Type 0} (codec : Reading V) (plain : codec.nested ≡ false) (WIRE : WireType) (wire : codec.wire ≡ WIRE) (d n : ℕ) (p : List ℕ) (c : PayloadValue) (has : HasPayloadValue WIRE p c) (old : V) where
   same : same_wire codec.wire WIRE ≡ true
   same = ap (same_wire codec.wire) (sym wire) ∙ same_refl codec.wire
 
-  held : HasContent codec.wire p c
-  held = subst (λ w. HasContent w p c) (sym wire) has
+  held : HasPayloadValue codec.wire p c
+  held = subst (λ w. HasPayloadValue w p c) (sym wire) has
 
   pub value_before : (x : V × Bool) → codec.reads d old c ≡ Ok x → (rest : List ℕ) → value_at codec d old (p ++ rest) ≡ Ok (x, rest)
   value_before x reads rest = value_complete codec d old p rest c x (open_level codec d plain) held reads
@@ -110,7 +110,7 @@ module _ {V : Type 0} (codec : Reading V) (plain : codec.nested ≡ false) (WIRE
 
   no_value : (e : DecodeError) → codec.reads d old c ≡ Err e → value_at codec d old p ≡ Err e
   no_value e reads =
-      let is : content_at codec.wire p ≡ Ok (c, []) = ap (content_at codec.wire) (sym (append-nil p)) ∙ content_complete codec.wire p c [] held in
+      let is : payload_value_at codec.wire p ≡ Ok (c, []) = ap (payload_value_at codec.wire) (sym (append-nil p)) ∙ payload_value_complete codec.wire p c [] held in
       rw (open_level codec d plain, is, reads) refl
 
   pub value_is_taken : (x : V × Bool) → codec.reads d old c ≡ Ok x → value_taken codec d old n WIRE p ≡ Some x.0
@@ -120,7 +120,7 @@ module _ {V : Type 0} (codec : Reading V) (plain : codec.nested ≡ false) (WIRE
   value_is_refused e reads = rw (same, no_value e reads) refl
 
 -- an element of a list starts with the default
-module _ {V : Type 0} (codec : Reading V) (plain : codec.nested ≡ false) (WIRE : WireType) (wire : codec.wire ≡ WIRE) (d n : ℕ) (p : List ℕ) (c : Content) (has : HasContent WIRE p c) (vs : List V) where
+module _ {V : Type 0} (codec : Reading V) (plain : codec.nested ≡ false) (WIRE : WireType) (wire : codec.wire ≡ WIRE) (d n : ℕ) (p : List ℕ) (c : PayloadValue) (has : HasPayloadValue WIRE p c) (vs : List V) where
   pub element_is_appended : (x : V × Bool) → codec.reads d codec.blank c ≡ Ok x → elements_taken codec d vs n WIRE p ≡ Some (vs ++ x.0 ∷ [])
   unfolding elements_taken
   element_is_appended x reads = rw (same codec plain WIRE wire d n p c has codec.blank, value_is codec plain WIRE wire d n p c has codec.blank x reads) refl
@@ -186,25 +186,25 @@ module _ {V : Type 0} (codec : Reading V) (d : ℕ) where
       at false false o r = refl
 
   -- ---- packed elements, one after the other
-  module _ (apart : same_wire codec.wire LengthDelimited ≡ false) (n : ℕ) (vs : List V) where
+  module _ (differs_only : same_wire codec.wire LengthDelimited ≡ false) (n : ℕ) (vs : List V) where
     pub none_are_packed : (t : List ℕ) → IsVarint t 0 → elements_taken codec d vs n LengthDelimited t ≡ Some vs
     unfolding elements_taken
     none_are_packed t h =
         let is : delimited_at t ≡ Ok ([], []) = ap delimited_at (sym (append-nil t)) ∙ delimited_complete t [] [] h in
-        rw (apart, is, elements_end codec d vs) refl
+        rw (differs_only, is, elements_end codec d vs) refl
 
     pub more_are_packed : (t s p b : List ℕ) (x : V × Bool) → 0 < length (p ++ b) → value_at codec d codec.blank (p ++ b) ≡ Ok (x, b) → IsVarint t (length (p ++ b)) → IsVarint s (length b) →
         elements_taken codec d vs n LengthDelimited (t ++ (p ++ b)) ≡ elements_taken codec d (vs ++ x.0 ∷ []) n LengthDelimited (s ++ b)
     unfolding elements_taken
     more_are_packed t s p b x some reads h k =
         let one : element_at codec d vs (p ++ b) ≡ Ok (vs ++ x.0 ∷ [], b) = rw reads refl in
-        rw (apart, whole_is t (p ++ b) h, whole_is s b k) (ap value_of (elements_next codec d vs (vs ++ x.0 ∷ []) (p ++ b) b some one))
+        rw (differs_only, whole_is t (p ++ b) h, whole_is s b k) (ap value_of (elements_next codec d vs (vs ++ x.0 ∷ []) (p ++ b) b some one))
 
     pub broken_is_not_packed : (t b : List ℕ) (e : DecodeError) → b ≢ [] → value_at codec d codec.blank b ≡ Err e → IsVarint t (length b) → elements_taken codec d vs n LengthDelimited (t ++ b) ≡ None
     unfolding elements_taken elements_in
     broken_is_not_packed t b e some bad h =
         let one : element_at codec d vs b ≡ Err e = rw bad refl in
-        rw (apart, whole_is t b h) (ap value_of (along_err (element_at codec d) (element_falls codec d) vs b e (has_byte b some) one))
+        rw (differs_only, whole_is t b h) (ap value_of (along_err (element_at codec d) (element_falls codec d) vs b e (has_byte b some) one))
 
   -- an element is refused for its payload
   pub element_fault : (vs : List V) (bs : List ℕ) (e : DecodeError) → element_at codec d vs bs ≡ Err e → value_at codec d codec.blank bs ≡ Err e
@@ -301,7 +301,7 @@ module _ (costs : ℕ → List ℕ → BudgetLeft) (d n : ℕ) where
 
   pub no_entry_costs : (bs : List ℕ) (f : DecodeError) → delimited_at bs ≡ Err f → entry_cost costs d n LengthDelimited bs ≡ nothing
   unfolding entry_cost
-  no_entry_costs bs f h = ap (λ r. need_by r (λ e. costs d e.0)) h
+  no_entry_costs bs f h = ap (λ r. charge_by r (λ e. costs d e.0)) h
 
   pub others_are_free : (w : WireType) (bs : List ℕ) → w ≢ LengthDelimited → entry_cost costs d n w bs ≡ nothing
   unfolding entry_cost

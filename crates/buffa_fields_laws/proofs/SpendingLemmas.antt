@@ -2,19 +2,19 @@
 use Rattle.std.proofs.Common.{arith, ◌≡◌, ◌≢◌, ℕ, ℤ, suc, ◌-◌, List, [], ◌++◌, Option, Some, None, Ok, Err, refl, ap, ◌∙◌}
 use Rattle.std.specs.Option.{option_map}
 use Rattle.buffa_bytes.specs.Field.{IsTag, Payload, PayloadFault, SomeField, TagFault}
-use Rattle.buffa_bytes.specs.Front.{varint_at}
+use Rattle.buffa_bytes.specs.Readings.{varint_at}
 use Rattle.buffa_bytes.specs.Join.{Join}
 use Rattle.buffa_bytes.specs.declared.error.DecodeError.{DecodeError}
 use Rattle.buffa_bytes.specs.declared.wire_type.WireType.{WireType}
 use Rattle.buffa_bytes.specs.declared.wire_type.WireType.TheVariants.{EndGroup, Fixed32, Fixed64, LengthDelimited, StartGroup, Varint}
 use Rattle.buffa_bytes.proofs.FieldLemmas.{same_false, payload_faulty, tag_complete, tag_faulty}
-use Rattle.buffa_wire.specs.BudgetLeft.{BudgetLeft, need_by, nothing}
+use Rattle.buffa_wire.specs.BudgetLeft.{BudgetLeft, charge_by, nothing}
 use Rattle.buffa_wire.specs.Enums.{Numbers}
-use Rattle.buffa_wire.specs.Records.{Datum}
+use Rattle.buffa_wire.specs.Records.{FieldData}
 use Rattle.buffa_wire.specs.Takes.{answer}
 use Rattle.buffa_wire.proofs.TakesLemmas.{framed_at}
-use Rattle.buffa_fields.specs.KeptLists.{kept_numbers_cost, kept_numbers_taken, numbers_cost, varints}
-use Rattle.buffa_fields.specs.KeptNumbers.{kept_number_cost}
+use Rattle.buffa_fields.specs.ClosedEnumLists.{kept_numbers_cost, kept_numbers_taken, numbers_cost, varints}
+use Rattle.buffa_fields.specs.ClosedEnumFields.{kept_number_cost}
 use Rattle.buffa_fields.specs.Lists.{elements_taken}
 use Rattle.buffa_fields.specs.facts.GroupFacts.{body_past, body_whole, turn}
 use Rattle.buffa_fields.specs.Groups.{group_body, group_cost}
@@ -66,11 +66,11 @@ module _ (e : Numbers) (d n : ℕ) (w : WireType) where
   unfolding kept_numbers_cost
   no_numbers bs f h = rw (payload_faulty d n w bs f h) refl
 
-  pub refused_numbers : (p more : List ℕ) (v : List ℤ) (kept : List (ℕ × Datum)) → Payload d n w p → kept_numbers_taken e d (v, kept) n w p ≡ None → kept_numbers_cost e d n w (p ++ more) ≡ nothing
+  pub refused_numbers : (p more : List ℕ) (v : List ℤ) (kept : List (ℕ × FieldData)) → Payload d n w p → kept_numbers_taken e d (v, kept) n w p ≡ None → kept_numbers_cost e d n w (p ++ more) ≡ nothing
   unfolding kept_numbers_cost kept_numbers_taken
   refused_numbers p more v kept h none =
-      ap (λ r. need_by r (λ z. numbers_cost e n z.0)) (framed_at (elements_taken varints) d [] n w p more h)
-      ∙ ap (λ o. need_by (answer more o) (λ z. numbers_cost e n z.0)) (none_made _ (elements_taken varints d [] n w p) none)
+      ap (λ r. charge_by r (λ z. numbers_cost e n z.0)) (framed_at (elements_taken varints) d [] n w p more h)
+      ∙ ap (λ o. charge_by (answer more o) (λ z. numbers_cost e n z.0)) (none_made _ (elements_taken varints d [] n w p) none)
 
 -- those of one that may be absent
 module _ (e : Numbers) (d n : ℕ) where

@@ -1,4 +1,4 @@
 -- The words that this crate hands out.
-pub mod BlockLayouts
+pub mod BlockSchemas
 pub mod OneOfClauses
 pub mod MessagesInside

@@ -6,20 +6,20 @@ use Rattle.buffa_bytes.specs.declared.wire_type.WireType.{WireType}
 use Rattle.buffa_wire.specs.BudgetLeft.{BudgetLeft}
 use Rattle.buffa_wire.specs.Message.{FieldTaken}
 use Rattle.buffa_fields.specs.Cases.{Cases}
-use Rattle.buffa_fields.specs.Layout.{Choice, Layout}
-use Rattle.buffa_recursive.specs.OneOfMeaning.{TookMeant}
+use Rattle.buffa_fields.specs.Schema.{Choice, Schema}
+use Rattle.buffa_recursive.specs.OneOfMeaning.{TookByMeaning}
 use Rattle.buffa_fields.specs.OneOfParts.{OneOf, case_means}
 
 -- the case of the number takes it, and the others stay; or they take it, and the oneof stays
-abbrev pub CaseOrOthers : {M O X B : Type 0} → (M → Option O) → OneOf O X → Layout M B → FieldTaken M
+abbrev pub CaseOrOthers : {M O X B : Type 0} → (M → Option O) → OneOf O X → Schema M B → FieldTaken M
 CaseOrOthers get e l d old n w bs before r new after rest =
     Choice (e.all.cases.mine n) (e.all.cases.Took (λ o. option_map e.view o) d (get old) n w bs before r (get new) after rest × l.Same old new)
     ((get new ≡ get old) × l.Taken d old n w bs before r new after rest)
 
 -- the same of a oneof of which no more is told than what its case means: where the others take a field, it means what it did
-abbrev pub CaseMeantOrOthers : {M O X B : Type 0} → (M → Option O) → OneOf O X → Layout M B → FieldTaken M
-CaseMeantOrOthers get e l d old n w bs before r new after rest =
-    Choice (e.all.cases.mine n) (TookMeant e d (case_means e (get old)) n w bs before r (case_means e (get new)) after rest × l.Same old new)
+abbrev pub CaseByMeaningOrOthers : {M O X B : Type 0} → (M → Option O) → OneOf O X → Schema M B → FieldTaken M
+CaseByMeaningOrOthers get e l d old n w bs before r new after rest =
+    Choice (e.all.cases.mine n) (TookByMeaning e d (case_means e (get old)) n w bs before r (case_means e (get new)) after rest × l.Same old new)
     ((case_means e (get new) ≡ case_means e (get old)) × l.Taken d old n w bs before r new after rest)
 
 -- of each field of this number that is refused this is said, by what stood and what stands

@@ -2,39 +2,39 @@
 
 ghost use Rattle.std.specs.Prelude.{◌≡◌, ◌↔◌, ◌<◌, ℕ, List, None};
 ghost use Rattle.buffa_wire.specs.Parse.{Fits};
-ghost use Rattle.buffa_wire.specs.Records.{Datum, records_of};
+ghost use Rattle.buffa_wire.specs.Records.{FieldData, records_of};
 ghost use Rattle.buffa_wire.specs.Encoding.{records_encoding};
 ghost use Rattle.buffa_fields.specs.Levels.{AreExactLevels};
-ghost use Rattle.buffa_fields.specs.Members.{field, field_kept, keep, skip};
+ghost use Rattle.buffa_fields.specs.Members.{field, field_with_unknowns, keep_unknown, skip_unknown};
 
-use buffa_fields::fields::Fields;
-use buffa_fields::group::Group;
-use buffa_fields::keeping::Keeping;
-use buffa_fields::map_member::MapOf;
-use buffa_fields::map_nested::MapOfNested;
-use buffa_fields::member::Member;
-use buffa_fields::message::{Listed, Listing};
-use buffa_fields::nested::Nested;
-use buffa_fields::optional::Optional;
-use buffa_fields::ordered_key::OrderedKey;
-use buffa_fields::ordered_map::OrderedMapOf;
-use buffa_fields::ordered_nested::OrderedMapOfNested;
-use buffa_fields::packed::{Packable, Packed};
-use buffa_fields::plain::Plain;
-use buffa_fields::proto_type::ProtoType;
-use buffa_fields::repeated::Repeated;
-use buffa_fields::repeated_group::RepeatedGroup;
-use buffa_fields::repeated_nested::RepeatedNested;
+use buffa_fields::members::explicit_field::ExplicitField;
+use buffa_fields::members::group_field::GroupField;
+use buffa_fields::members::implicit_field::ImplicitField;
+use buffa_fields::members::keeps_unknowns::KeepsUnknowns;
+use buffa_fields::members::map_field::MapField;
+use buffa_fields::members::member::Member;
+use buffa_fields::members::message_field::MessageField;
+use buffa_fields::members::message_map_field::MessageMapField;
+use buffa_fields::members::ordered_key::OrderedKey;
+use buffa_fields::members::ordered_map_field::OrderedMapField;
+use buffa_fields::members::ordered_message_map_field::OrderedMessageMapField;
+use buffa_fields::members::packed_field::{Packable, PackedField};
+use buffa_fields::members::proto_type::ProtoType;
+use buffa_fields::members::repeated_field::RepeatedField;
+use buffa_fields::members::repeated_group_field::RepeatedGroupField;
+use buffa_fields::members::repeated_message_field::RepeatedMessageField;
+use buffa_fields::messages::message::{FieldByField, FieldsMeaning};
+use buffa_fields::messages::message_fields::MessageFields;
 use buffa_map::map_codec::MapCodec;
 use buffa_wire::{MapKey, Message, MessageMeaning};
 use std::hash::Hash;
 
 /// The `levels` of a message from its fields are exact, where those of the messages in it are: at a lesser depth, the
 /// encoding of a normal value whose records fit is refused, whatever it is merged into.
-pub fn levels_of_fields_are_exact<M: Listing>()
-    ensures { M.layout.Exact → AreExactLevels ⟦<Listed as MessageMeaning<M>>⟧.merged
-        (λ v. records_encoding (⟦<Listed as MessageMeaning<M>>⟧.records v)) ⟦<Listed as MessageMeaning<M>>⟧.records
-        ⟦<Listed as MessageMeaning<M>>⟧.normal ⟦<Listed as MessageMeaning<M>>⟧.levels }
+pub fn levels_of_fields_are_exact<M: FieldsMeaning>()
+    ensures { M.schema.Exact → AreExactLevels ⟦<FieldByField as MessageMeaning<M>>⟧.merged
+        (λ v. records_encoding (⟦<FieldByField as MessageMeaning<M>>⟧.records v)) ⟦<FieldByField as MessageMeaning<M>>⟧.records
+        ⟦<FieldByField as MessageMeaning<M>>⟧.normal ⟦<FieldByField as MessageMeaning<M>>⟧.levels }
 {}
 
 /// The levels of a type of messages are exact where at any lesser depth the encoding of a normal value whose records fit is merged into no
@@ -45,12 +45,12 @@ pub fn exact_levels_are_these<N: Message>()
 {}
 
 /// The levels of a list of members are exact where those of each member are; `keep` and `skip` have no messages.
-pub fn messages_in_lists_are_these<M: Fields, N: Keeping>()
-    ensures field { (k : ℕ) (get : M → N.Part) → (field k get N.shape M.layout).Exact ↔ (N.shape.Exact × M.layout.Exact) }
-    ensures field_kept { (k : ℕ) (get : M → N.Part) →
-        (field_kept k get N.shape N.aside M.layout).Exact ↔ (N.shape.Exact × M.layout.Exact) }
-    ensures keep { (get : M → List (ℕ × Datum)) → (keep get).Exact }
-    ensures skip { (skip {M = M}).Exact }
+pub fn messages_in_lists_are_these<M: MessageFields, N: KeepsUnknowns>()
+    ensures field { (k : ℕ) (get : M → N.Part) → (field k get N.shape M.schema).Exact ↔ (N.shape.Exact × M.schema.Exact) }
+    ensures field_with_unknowns { (k : ℕ) (get : M → N.Part) →
+        (field_with_unknowns k get N.shape N.unknowns M.schema).Exact ↔ (N.shape.Exact × M.schema.Exact) }
+    ensures keep { (get : M → List (ℕ × FieldData)) → (keep_unknown get).Exact }
+    ensures skip { (skip_unknown {M = M}).Exact }
 {}
 
 /// A member of plain values, or a list or a map of them, has no messages in it: its levels are always exact.
@@ -64,9 +64,9 @@ pub fn values_have_no_messages<
 where
     KC::Value: MapKey + Hash,
     OC::Value: OrderedKey,
-    ensures values { ⟦<Plain<C> as Member>⟧.shape.Exact × ⟦<Optional<C> as Member>⟧.shape.Exact }
-    ensures lists { ⟦<Repeated<C> as Member>⟧.shape.Exact × ⟦<Packed<P> as Member>⟧.shape.Exact }
-    ensures maps { ⟦<MapOf<KC, VC> as Member>⟧.shape.Exact × ⟦<OrderedMapOf<OC, VC> as Member>⟧.shape.Exact }
+    ensures values { ⟦<ImplicitField<C> as Member>⟧.shape.Exact × ⟦<ExplicitField<C> as Member>⟧.shape.Exact }
+    ensures lists { ⟦<RepeatedField<C> as Member>⟧.shape.Exact × ⟦<PackedField<P> as Member>⟧.shape.Exact }
+    ensures maps { ⟦<MapField<KC, VC> as Member>⟧.shape.Exact × ⟦<OrderedMapField<OC, VC> as Member>⟧.shape.Exact }
 {}
 
 /// The levels of a member that is a message or a group, or a list or a map of messages, are exact where those of the
@@ -75,15 +75,15 @@ pub fn messages_in_members_are_these<N: Message, KC: MapCodec, OC: MapCodec>()
 where
     KC::Value: MapKey + Hash,
     OC::Value: OrderedKey,
-    ensures nested { ⟦<Nested<N> as Member>⟧.shape.Exact
+    ensures nested { ⟦<MessageField<N> as Member>⟧.shape.Exact
         ↔ AreExactLevels N.merged N.encoding N.records N.normal N.levels }
-    ensures list { ⟦<RepeatedNested<N> as Member>⟧.shape.Exact
+    ensures list { ⟦<RepeatedMessageField<N> as Member>⟧.shape.Exact
         ↔ AreExactLevels N.merged N.encoding N.records N.normal N.levels }
-    ensures group { ⟦<Group<N> as Member>⟧.shape.Exact ↔ AreExactLevels N.merged N.encoding N.records N.normal N.levels }
-    ensures groups { ⟦<RepeatedGroup<N> as Member>⟧.shape.Exact
+    ensures group { ⟦<GroupField<N> as Member>⟧.shape.Exact ↔ AreExactLevels N.merged N.encoding N.records N.normal N.levels }
+    ensures groups { ⟦<RepeatedGroupField<N> as Member>⟧.shape.Exact
         ↔ AreExactLevels N.merged N.encoding N.records N.normal N.levels }
-    ensures map { ⟦<MapOfNested<KC, N> as Member>⟧.shape.Exact
+    ensures map { ⟦<MessageMapField<KC, N> as Member>⟧.shape.Exact
         ↔ AreExactLevels N.merged N.encoding N.records N.normal N.levels }
-    ensures ordered { ⟦<OrderedMapOfNested<OC, N> as Member>⟧.shape.Exact
+    ensures ordered { ⟦<OrderedMessageMapField<OC, N> as Member>⟧.shape.Exact
         ↔ AreExactLevels N.merged N.encoding N.records N.normal N.levels }
 {}

@@ -6,12 +6,12 @@
 
 ghost use Rattle.std.specs.Prelude.{◌≡◌, ◌↔◌, ◌⊎◌, ◌==◌, ◌&&◌, ◌||◌, ◌∷◌, ◌++◌, ◌-◌, ◌^◌, ℕ, List, [], None, Err, Ok, Option, Some, false, if◌then◌else◌, length, max, min, not, suc, true};
 ghost use Rattle.std.specs.Option.{option_map};
-ghost use Rattle.buffa_bytes.specs.Content.{Content, HasContent};
-ghost use Rattle.buffa_wire.specs.Records.{Datum, bytes, group, records_of};
+ghost use Rattle.buffa_bytes.specs.PayloadValue.{PayloadValue, HasPayloadValue};
+ghost use Rattle.buffa_wire.specs.Records.{FieldData, bytes, group, records_of};
 ghost use Rattle.buffa_fields.specs.Cases.{other_of, this_of};
-ghost use Rattle.buffa_fields.specs.Keep.{AllNumbers};
-ghost use Rattle.buffa_fields.specs.Layout.{Choice, Took, is_number};
-ghost use Rattle.buffa_fields.specs.Nested.{message_merged};
+ghost use Rattle.buffa_fields.specs.UndeclaredFields.{AllNumbers};
+ghost use Rattle.buffa_fields.specs.Schema.{Choice, Took, is_number};
+ghost use Rattle.buffa_fields.specs.Submessages.{message_merged};
 ghost use Rattle.buffa_fields.specs.OneOf.{one_of};
 ghost use Rattle.buffa_fields.specs.OneOfParts.{case, no_case, some_cases};
 ghost use Rattle.buffa_fields_laws.specs.OneOfClauses.{CaseOrOthers, RefusesCase};
@@ -21,14 +21,14 @@ ghost use Rattle.buffa_fields.specs.Values.{IfThere};
 ghost use Rattle.buffa_fields.specs.declared.meaning.Or.{Or};
 ghost use Rattle.buffa_fields.specs.declared.meaning.Or.TheVariants.{Other, This};
 
-use buffa_fields::case::{Case, Set};
-use buffa_fields::fields::Fields;
-use buffa_fields::group::Group;
-use buffa_fields::member::Member;
-use buffa_fields::nested::Nested;
-use buffa_fields::one_of::OneOf;
-use buffa_fields::optional::Optional;
-use buffa_fields::proto_type::ProtoType;
+use buffa_fields::members::explicit_field::ExplicitField;
+use buffa_fields::members::group_field::GroupField;
+use buffa_fields::members::member::Member;
+use buffa_fields::members::message_field::MessageField;
+use buffa_fields::members::proto_type::ProtoType;
+use buffa_fields::messages::message_fields::MessageFields;
+use buffa_fields::oneofs::case::{Case, Set};
+use buffa_fields::oneofs::one_of::OneOf;
 use buffa_wire::Message;
 
 /// A case under a number, and those after it: what a value of each means, which records it is written as, and how deep it nests. A
@@ -60,9 +60,9 @@ pub fn cases_are_these<E: OneOf, C: Case>()
     ensures normal { (k : ℕ) (a : C.Said) → (case k C.words E.cases.all).cases.normal (This a) ↔ C.form.normal (Some a) }
     ensures other_normal { (k : ℕ) (b : E.Meaning) →
         (case k C.words E.cases.all).cases.normal (Other b) ↔ E.cases.all.cases.normal b }
-    ensures need { (k d : ℕ) (w : _) (bs : List ℕ) → (case k C.words E.cases.all).cases.need d k w bs ≡ C.form.need d k w bs }
-    ensures other_need { (k d n : ℕ) (w : _) (bs : List ℕ) → (n == k) ≡ false →
-        (case k C.words E.cases.all).cases.need d n w bs ≡ E.cases.all.cases.need d n w bs }
+    ensures charge { (k d : ℕ) (w : _) (bs : List ℕ) → (case k C.words E.cases.all).cases.charge d k w bs ≡ C.form.charge d k w bs }
+    ensures other_charge { (k d n : ℕ) (w : _) (bs : List ℕ) → (n == k) ≡ false →
+        (case k C.words E.cases.all).cases.charge d n w bs ≡ E.cases.all.cases.charge d n w bs }
     ensures asks { (k d : ℕ) (w : _) (bs : List ℕ) → (case k C.words E.cases.all).cases.asks d k w bs ↔ C.form.asks d k w bs }
     ensures other_asks { (k d n : ℕ) (w : _) (bs : List ℕ) → (n == k) ≡ false →
         (case k C.words E.cases.all).cases.asks d n w bs ↔ E.cases.all.cases.asks d n w bs }
@@ -94,12 +94,12 @@ pub fn cases_stand_together<E: OneOf, F: OneOf>()
     ensures other_written { (y : F.Meaning) → let c = (some_cases E.cases.all F.cases.all).cases in
         (c.records (Other y) ≡ F.cases.all.cases.records y) × (c.slots (Other y) ≡ F.cases.all.cases.slots y)
         × (c.levels (Other y) ≡ F.cases.all.cases.levels y) × (c.normal (Other y) ↔ F.cases.all.cases.normal y) }
-    ensures need { (d n : ℕ) (w : _) (bs : List ℕ) → E.cases.all.cases.mine n ≡ true →
+    ensures charge { (d n : ℕ) (w : _) (bs : List ℕ) → E.cases.all.cases.mine n ≡ true →
         let c = (some_cases E.cases.all F.cases.all).cases in
-        (c.need d n w bs ≡ E.cases.all.cases.need d n w bs) × (c.asks d n w bs ↔ E.cases.all.cases.asks d n w bs) }
-    ensures other_need { (d n : ℕ) (w : _) (bs : List ℕ) → E.cases.all.cases.mine n ≡ false →
+        (c.charge d n w bs ≡ E.cases.all.cases.charge d n w bs) × (c.asks d n w bs ↔ E.cases.all.cases.asks d n w bs) }
+    ensures other_charge { (d n : ℕ) (w : _) (bs : List ℕ) → E.cases.all.cases.mine n ≡ false →
         let c = (some_cases E.cases.all F.cases.all).cases in
-        (c.need d n w bs ≡ F.cases.all.cases.need d n w bs) × (c.asks d n w bs ↔ F.cases.all.cases.asks d n w bs) }
+        (c.charge d n w bs ≡ F.cases.all.cases.charge d n w bs) × (c.asks d n w bs ↔ F.cases.all.cases.asks d n w bs) }
     ensures exact { (some_cases E.cases.all F.cases.all).cases.Exact ↔ (E.cases.all.cases.Exact × F.cases.all.cases.Exact) }
     ensures took { (at : Option E → Option (Or E.cases.V F.cases.V)) (d : ℕ) (old : Option E) (n : ℕ) (w : _) (bs : List ℕ)
         (before : _) (r : _) (new : Option E) (after : _) (rest : List ℕ) → E.cases.all.cases.mine n ≡ true →
@@ -114,19 +114,19 @@ pub fn cases_stand_together<E: OneOf, F: OneOf>()
 /// Which member types may be a case, and what each is then: what it is as a member that may be absent. The value of a scalar, a
 /// string, bytes or an enum takes the place of what stands. A message is merged into the one that stands.
 pub fn members_that_may_be_cases_are_these<C: ProtoType, N: Message>()
-    ensures value { let a = ⟦<Optional<C> as Case>⟧.form in let b = ⟦<Optional<C> as Member>⟧.shape in
-        (⟦<Optional<C> as Case>⟧.merges ≡ false) × (a.meaning ≡ b.meaning) × (a.blank ≡ b.blank) × (a.whole ≡ b.whole)
-        × (a.takes ≡ b.takes) × (a.checks ≡ b.checks) × (a.need ≡ b.need) × (a.records ≡ b.records) × (a.slots ≡ b.slots)
+    ensures value { let a = ⟦<ExplicitField<C> as Case>⟧.form in let b = ⟦<ExplicitField<C> as Member>⟧.shape in
+        (⟦<ExplicitField<C> as Case>⟧.merges ≡ false) × (a.meaning ≡ b.meaning) × (a.blank ≡ b.blank) × (a.whole ≡ b.whole)
+        × (a.takes ≡ b.takes) × (a.checks ≡ b.checks) × (a.charge ≡ b.charge) × (a.records ≡ b.records) × (a.slots ≡ b.slots)
         × (a.levels ≡ b.levels) × (a.Exact ↔ b.Exact) × ((v : _) → a.normal v ↔ b.normal v)
         × ((d n : ℕ) (w : _) (bs : List ℕ) → a.asks d n w bs ↔ b.asks d n w bs) × RefusesUnder a b.refuses }
-    ensures message { let a = ⟦<Nested<N> as Case>⟧.form in let b = ⟦<Nested<N> as Member>⟧.shape in
-        (⟦<Nested<N> as Case>⟧.merges ≡ true) × (a.meaning ≡ b.meaning) × (a.blank ≡ b.blank) × (a.whole ≡ b.whole)
-        × (a.takes ≡ b.takes) × (a.checks ≡ b.checks) × (a.need ≡ b.need) × (a.records ≡ b.records) × (a.slots ≡ b.slots)
+    ensures message { let a = ⟦<MessageField<N> as Case>⟧.form in let b = ⟦<MessageField<N> as Member>⟧.shape in
+        (⟦<MessageField<N> as Case>⟧.merges ≡ true) × (a.meaning ≡ b.meaning) × (a.blank ≡ b.blank) × (a.whole ≡ b.whole)
+        × (a.takes ≡ b.takes) × (a.checks ≡ b.checks) × (a.charge ≡ b.charge) × (a.records ≡ b.records) × (a.slots ≡ b.slots)
         × (a.levels ≡ b.levels) × (a.Exact ↔ b.Exact) × ((v : _) → a.normal v ↔ b.normal v)
         × ((d n : ℕ) (w : _) (bs : List ℕ) → a.asks d n w bs ↔ b.asks d n w bs) × RefusesUnder a b.refuses }
-    ensures group { let a = ⟦<Group<N> as Case>⟧.form in let b = ⟦<Group<N> as Member>⟧.shape in
-        (⟦<Group<N> as Case>⟧.merges ≡ true) × (a.meaning ≡ b.meaning) × (a.blank ≡ b.blank) × (a.whole ≡ b.whole)
-        × (a.takes ≡ b.takes) × (a.checks ≡ b.checks) × (a.need ≡ b.need) × (a.records ≡ b.records) × (a.slots ≡ b.slots)
+    ensures group { let a = ⟦<GroupField<N> as Case>⟧.form in let b = ⟦<GroupField<N> as Member>⟧.shape in
+        (⟦<GroupField<N> as Case>⟧.merges ≡ true) × (a.meaning ≡ b.meaning) × (a.blank ≡ b.blank) × (a.whole ≡ b.whole)
+        × (a.takes ≡ b.takes) × (a.checks ≡ b.checks) × (a.charge ≡ b.charge) × (a.records ≡ b.records) × (a.slots ≡ b.slots)
         × (a.levels ≡ b.levels) × (a.Exact ↔ b.Exact) × ((v : _) → a.normal v ↔ b.normal v)
         × ((d n : ℕ) (w : _) (bs : List ℕ) → a.asks d n w bs ↔ b.asks d n w bs) × RefusesUnder a b.refuses }
 {}
@@ -135,7 +135,7 @@ pub fn members_that_may_be_cases_are_these<C: ProtoType, N: Message>()
 pub fn values_of_cases_are_these<C: Case>()
     ensures meaning { (v : C.Value) → ⟦<Set<C> as Member>⟧.shape.meaning v ≡ C.form.meaning (Some v) }
     ensures alike { let a = ⟦<Set<C> as Member>⟧.shape in let b = C.form in
-        (a.blank ≡ b.blank) × (a.whole ≡ b.whole) × (a.takes ≡ b.takes) × (a.checks ≡ b.checks) × (a.need ≡ b.need)
+        (a.blank ≡ b.blank) × (a.whole ≡ b.whole) × (a.takes ≡ b.takes) × (a.checks ≡ b.checks) × (a.charge ≡ b.charge)
         × (a.records ≡ b.records) × (a.slots ≡ b.slots) × (a.levels ≡ b.levels) × (a.Exact ↔ b.Exact)
         × ((v : _) → a.normal v ↔ b.normal v)
         × ((d n : ℕ) (w : _) (bs : List ℕ) → a.asks d n w bs ↔ b.asks d n w bs) × RefusesUnder a b.refuses }
@@ -172,94 +172,94 @@ pub fn cases_take_their_fields<E: OneOf, C: Case>()
 
 /// A case that is there has one record, under its number, of a default value too: of a scalar, a string, bytes or an enum as its codec
 /// has it, of a message its encoding, of a group its fields. A message has a slot, and is a level deep, and so are those in it.
-#[tactic(auto, unfolding(buffa_fields::specs::MemberRecords::optional_records, buffa_fields::specs::Nested::message_slots))]
+#[tactic(auto, unfolding(buffa_fields::specs::MemberRecords::explicit_records, buffa_fields::specs::Submessages::message_slots))]
 pub fn cases_are_written<E: OneOf, C: ProtoType, N: Message>()
     ensures value { (k : ℕ) (v : C.Value.Meaning) →
-        (case k ⟦<Optional<C> as Case>⟧.words E.cases.all).cases.records (This v) ≡ (k, C.datum v) ∷ [] }
+        (case k ⟦<ExplicitField<C> as Case>⟧.words E.cases.all).cases.records (This v) ≡ (k, C.field_data v) ∷ [] }
     ensures message { (k : ℕ) (v : N.Meaning) →
-        (case k ⟦<Nested<N> as Case>⟧.words E.cases.all).cases.records (This v) ≡ (k, bytes (N.encoding v)) ∷ [] }
-    ensures group { (k : ℕ) (v : N.Meaning) → (case k ⟦<Group<N> as Case>⟧.words E.cases.all).cases.records (This v)
+        (case k ⟦<MessageField<N> as Case>⟧.words E.cases.all).cases.records (This v) ≡ (k, bytes (N.encoding v)) ∷ [] }
+    ensures group { (k : ℕ) (v : N.Meaning) → (case k ⟦<GroupField<N> as Case>⟧.words E.cases.all).cases.records (This v)
         ≡ (k, group (records_of (N.records v))) ∷ [] }
-    ensures slots { (k : ℕ) (v : N.Meaning) → (case k ⟦<Nested<N> as Case>⟧.words E.cases.all).cases.slots (This v)
+    ensures slots { (k : ℕ) (v : N.Meaning) → (case k ⟦<MessageField<N> as Case>⟧.words E.cases.all).cases.slots (This v)
         ≡ min (length (N.encoding v)) (2 ^ 32 - 1) ∷ N.slots v }
     ensures levels { (k : ℕ) (x : C.Value.Meaning) (v : N.Meaning) →
-        ((case k ⟦<Optional<C> as Case>⟧.words E.cases.all).cases.levels (This x) ≡ 0)
-        × ((case k ⟦<Nested<N> as Case>⟧.words E.cases.all).cases.levels (This v) ≡ suc (N.levels v)) }
+        ((case k ⟦<ExplicitField<C> as Case>⟧.words E.cases.all).cases.levels (This x) ≡ 0)
+        × ((case k ⟦<MessageField<N> as Case>⟧.words E.cases.all).cases.levels (This v) ≡ suc (N.levels v)) }
 {}
 
 /// A record of a case whose value is a scalar, a string, bytes or an enum: its value takes the place of what stands, whichever case
 /// that is.
 pub fn the_last_value_stands<E: OneOf, C: ProtoType>()
-    ensures { (k d : ℕ) (o : _) (x : C.Value.Meaning) (p : List ℕ) (c : Content) (known : _) → HasContent C.WIRE_TYPE p c →
+    ensures { (k d : ℕ) (o : _) (x : C.Value.Meaning) (p : List ℕ) (c : PayloadValue) (known : _) → HasPayloadValue C.WIRE_TYPE p c →
         C.reading.reads d C.Value.blank_is c ≡ Ok (x, known) →
-        (case k ⟦<Optional<C> as Case>⟧.words E.cases.all).cases.takes d o k C.WIRE_TYPE p ≡ Some (Some (This x)) }
+        (case k ⟦<ExplicitField<C> as Case>⟧.words E.cases.all).cases.takes d o k C.WIRE_TYPE p ≡ Some (Some (This x)) }
 {}
 
 /// A record of a case whose value is a message: it is merged into the message that stands, where that is of this case. Where another
 /// case stands, or none, it is merged into a default message, which takes the place of what stands.
 pub fn messages_are_merged_into_their_case<E: OneOf, N: Message>()
-    ensures stands { (k d : ℕ) (v : N.Meaning) (w : _) (p : List ℕ) →
-        (case k ⟦<Nested<N> as Case>⟧.words E.cases.all).cases.takes d (Some (This v)) k w p
+    ensures partly { (k d : ℕ) (v : N.Meaning) (w : _) (p : List ℕ) →
+        (case k ⟦<MessageField<N> as Case>⟧.words E.cases.all).cases.takes d (Some (This v)) k w p
         ≡ option_map (λ u. Some (This u)) (message_merged N.merged d v k w p) }
     ensures other { (k d : ℕ) (b : E.Meaning) (w : _) (p : List ℕ) →
-        (case k ⟦<Nested<N> as Case>⟧.words E.cases.all).cases.takes d (Some (Other b)) k w p
+        (case k ⟦<MessageField<N> as Case>⟧.words E.cases.all).cases.takes d (Some (Other b)) k w p
         ≡ option_map (λ u. Some (This u)) (message_merged N.merged d N.blank_is k w p) }
     ensures none { (k d : ℕ) (w : _) (p : List ℕ) →
-        (case k ⟦<Nested<N> as Case>⟧.words E.cases.all).cases.takes d None k w p
+        (case k ⟦<MessageField<N> as Case>⟧.words E.cases.all).cases.takes d None k w p
         ≡ option_map (λ u. Some (This u)) (message_merged N.merged d N.blank_is k w p) }
 {}
 
 /// A oneof, in front of the other members: at most one case is there, and only that has records. It takes the fields of its
 /// numbers, and these leave the other members as they are.
-pub fn oneofs_are_these<M: Fields, E: OneOf>()
-    ensures meaning { (get : M → Option E) (m : M) → (one_of get E.cases M.layout).meaning m
-        ≡ (E.cases.all.cases.meaning (option_map E.cases.view (get m)), M.layout.meaning m) }
-    ensures blank { (get : M → Option E) → (one_of get E.cases M.layout).blank ≡ (None, M.layout.blank) }
+pub fn oneofs_are_these<M: MessageFields, E: OneOf>()
+    ensures meaning { (get : M → Option E) (m : M) → (one_of get E.cases M.schema).meaning m
+        ≡ (E.cases.all.cases.meaning (option_map E.cases.view (get m)), M.schema.meaning m) }
+    ensures blank { (get : M → Option E) → (one_of get E.cases M.schema).blank ≡ (None, M.schema.blank) }
     ensures takes { (get : M → Option E) (d n : ℕ) (v : _) (w : _) (p : List ℕ) → E.cases.all.cases.mine n ≡ false →
-        (one_of get E.cases M.layout).takes d v n w p ≡ option_map (λ y. (v.0, y)) (M.layout.takes d v.1 n w p) }
+        (one_of get E.cases M.schema).takes d v n w p ≡ option_map (λ y. (v.0, y)) (M.schema.takes d v.1 n w p) }
     ensures own { (get : M → Option E) (d n : ℕ) (v : _) (w : _) (p : List ℕ) → E.cases.all.cases.mine n ≡ true →
-        (one_of get E.cases M.layout).takes d v n w p ≡ option_map (λ x. (x, v.1)) (E.cases.all.cases.takes d v.0 n w p) }
-    ensures need { (get : M → Option E) (d n : ℕ) (w : _) (bs : List ℕ) → E.cases.all.cases.mine n ≡ true →
-        (one_of get E.cases M.layout).need d n w bs ≡ E.cases.all.cases.need d n w bs }
-    ensures other_need { (get : M → Option E) (d n : ℕ) (w : _) (bs : List ℕ) → E.cases.all.cases.mine n ≡ false →
-        (one_of get E.cases M.layout).need d n w bs ≡ M.layout.need d n w bs }
+        (one_of get E.cases M.schema).takes d v n w p ≡ option_map (λ x. (x, v.1)) (E.cases.all.cases.takes d v.0 n w p) }
+    ensures charge { (get : M → Option E) (d n : ℕ) (w : _) (bs : List ℕ) → E.cases.all.cases.mine n ≡ true →
+        (one_of get E.cases M.schema).charge d n w bs ≡ E.cases.all.cases.charge d n w bs }
+    ensures other_charge { (get : M → Option E) (d n : ℕ) (w : _) (bs : List ℕ) → E.cases.all.cases.mine n ≡ false →
+        (one_of get E.cases M.schema).charge d n w bs ≡ M.schema.charge d n w bs }
     ensures asks { (get : M → Option E) (s d n : ℕ) (w : _) (bs : List ℕ) → E.cases.all.cases.mine n ≡ true →
-        (one_of get E.cases M.layout).asks s d n w bs ↔ E.cases.all.cases.asks d n w bs }
+        (one_of get E.cases M.schema).asks s d n w bs ↔ E.cases.all.cases.asks d n w bs }
     ensures other_asks { (get : M → Option E) (s d n : ℕ) (w : _) (bs : List ℕ) → E.cases.all.cases.mine n ≡ false →
-        (one_of get E.cases M.layout).asks s d n w bs ↔ M.layout.asks s d n w bs }
+        (one_of get E.cases M.schema).asks s d n w bs ↔ M.schema.asks s d n w bs }
     ensures absent { (get : M → Option E) (v : _) → (E.cases.all.cases.meaning None ≡ None)
-        × ((one_of get E.cases M.layout).records (None, v) ≡ M.layout.records v)
-        × ((one_of get E.cases M.layout).slots (None, v) ≡ M.layout.slots v)
-        × ((one_of get E.cases M.layout).levels (None, v) ≡ M.layout.levels v) }
-    ensures records { (get : M → Option E) (x : E.Meaning) (v : _) → (one_of get E.cases M.layout).records (Some x, v)
-        ≡ E.cases.all.cases.records x ++ M.layout.records v }
-    ensures slots { (get : M → Option E) (x : E.Meaning) (v : _) → (one_of get E.cases M.layout).slots (Some x, v)
-        ≡ E.cases.all.cases.slots x ++ M.layout.slots v }
-    ensures levels { (get : M → Option E) (x : E.Meaning) (v : _) → (one_of get E.cases M.layout).levels (Some x, v)
-        ≡ max (E.cases.all.cases.levels x) (M.layout.levels v) }
-    ensures normal { (get : M → Option E) (v : _) → (one_of get E.cases M.layout).normal v ↔ (IfThere E.cases.all.cases.normal v.0
-        × M.layout.normal v.1 × AllNumbers (λ n. not (E.cases.all.cases.mine n)) (M.layout.kept v.1)) }
+        × ((one_of get E.cases M.schema).records (None, v) ≡ M.schema.records v)
+        × ((one_of get E.cases M.schema).slots (None, v) ≡ M.schema.slots v)
+        × ((one_of get E.cases M.schema).levels (None, v) ≡ M.schema.levels v) }
+    ensures records { (get : M → Option E) (x : E.Meaning) (v : _) → (one_of get E.cases M.schema).records (Some x, v)
+        ≡ E.cases.all.cases.records x ++ M.schema.records v }
+    ensures slots { (get : M → Option E) (x : E.Meaning) (v : _) → (one_of get E.cases M.schema).slots (Some x, v)
+        ≡ E.cases.all.cases.slots x ++ M.schema.slots v }
+    ensures levels { (get : M → Option E) (x : E.Meaning) (v : _) → (one_of get E.cases M.schema).levels (Some x, v)
+        ≡ max (E.cases.all.cases.levels x) (M.schema.levels v) }
+    ensures normal { (get : M → Option E) (v : _) → (one_of get E.cases M.schema).normal v ↔ (IfThere E.cases.all.cases.normal v.0
+        × M.schema.normal v.1 × AllNumbers (λ n. not (E.cases.all.cases.mine n)) (M.schema.kept v.1)) }
     ensures declares { (get : M → Option E) (n : ℕ) →
-        (one_of get E.cases M.layout).declares n ≡ (E.cases.all.cases.mine n || M.layout.declares n) }
-    ensures sound { (get : M → Option E) → (one_of get E.cases M.layout).sound
-        ≡ E.cases.all.cases.sound M.layout.declares M.layout.sound }
+        (one_of get E.cases M.schema).declares n ≡ (E.cases.all.cases.mine n || M.schema.declares n) }
+    ensures sound { (get : M → Option E) → (one_of get E.cases M.schema).sound
+        ≡ E.cases.all.cases.sound M.schema.declares M.schema.sound }
     ensures taken { (get : M → Option E) →
-        TakeAlike (one_of get E.cases M.layout).Taken (CaseOrOthers get E.cases M.layout) }
-    ensures apart { (get : M → Option E) (n : ℕ) (v u : _) → (one_of get E.cases M.layout).Apart n v u
-        ↔ Choice (E.cases.all.cases.mine n) (v.1 ≡ u.1) ((v.0 ≡ u.0) × M.layout.Apart n v.1 u.1) }
+        TakeAlike (one_of get E.cases M.schema).Taken (CaseOrOthers get E.cases M.schema) }
+    ensures differs_only { (get : M → Option E) (n : ℕ) (v u : _) → (one_of get E.cases M.schema).DiffersOnlyAt n v u
+        ↔ Choice (E.cases.all.cases.mine n) (v.1 ≡ u.1) ((v.0 ≡ u.0) × M.schema.DiffersOnlyAt n v.1 u.1) }
     ensures same { (get : M → Option E) (a b : M) →
-        (one_of get E.cases M.layout).Same a b ↔ ((get b ≡ get a) × M.layout.Same a b) }
+        (one_of get E.cases M.schema).Same a b ↔ ((get b ≡ get a) × M.schema.Same a b) }
     ensures same_but { (get : M → Option E) (a b : M) →
-        (one_of get E.cases M.layout).SameBut a b ↔ ((get b ≡ get a) × M.layout.SameBut a b) }
+        (one_of get E.cases M.schema).SameBut a b ↔ ((get b ≡ get a) × M.schema.SameBut a b) }
     ensures exact { (get : M → Option E) →
-        (one_of get E.cases M.layout).Exact ↔ (E.cases.all.cases.Exact × M.layout.Exact) }
-    ensures kept { (get : M → Option E) (v : _) (rs : List (ℕ × Datum)) →
-        ((one_of get E.cases M.layout).keeps ≡ M.layout.keeps)
-        × ((one_of get E.cases M.layout).kept v ≡ M.layout.kept v.1)
-        × ((one_of get E.cases M.layout).adds v rs ≡ (v.0, M.layout.adds v.1 rs)) }
+        (one_of get E.cases M.schema).Exact ↔ (E.cases.all.cases.Exact × M.schema.Exact) }
+    ensures kept { (get : M → Option E) (v : _) (rs : List (ℕ × FieldData)) →
+        ((one_of get E.cases M.schema).keeps ≡ M.schema.keeps)
+        × ((one_of get E.cases M.schema).kept v ≡ M.schema.kept v.1)
+        × ((one_of get E.cases M.schema).adds v rs ≡ (v.0, M.schema.adds v.1 rs)) }
     ensures own_records { (get : M → Option E) (x : E.Meaning) (v : _) →
-        ((one_of get E.cases M.layout).own (None, v) ≡ M.layout.own v)
-        × ((one_of get E.cases M.layout).own (Some x, v) ≡ E.cases.all.cases.records x ++ M.layout.own v) }
+        ((one_of get E.cases M.schema).own (None, v) ≡ M.schema.own v)
+        × ((one_of get E.cases M.schema).own (Some x, v) ≡ E.cases.all.cases.records x ++ M.schema.own v) }
 {}
 
 /// A field of a case that is refused leaves what stands, where its value would take the place of that, and where another case stands,

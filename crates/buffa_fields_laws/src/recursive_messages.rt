@@ -3,22 +3,22 @@
 ghost use Rattle.std.specs.Prelude.{◌≡◌, ◌≤◌, ◌↔◌, Bool, ℕ, Some, true};
 ghost use Rattle.buffa_wire.specs.Parse.{Fits};
 ghost use Rattle.buffa_wire.specs.Records.{records_of};
-ghost use Rattle.buffa_fields.specs.facts.LayoutFacts.{comes_free};
-ghost use Rattle.buffa_recursive.specs.Layers.{IsNormalLaid};
-ghost use Rattle.buffa_recursive.specs.Fixpoint.{told, told_layout};
+ghost use Rattle.buffa_fields.specs.facts.SchemaFacts.{comes_free};
+ghost use Rattle.buffa_recursive.specs.Layers.{IsNormalRecursive};
+ghost use Rattle.buffa_recursive.specs.Fixpoint.{semantics, message_schema};
 ghost use Rattle.buffa_recursive.specs.InnerMessages.{AreExactBy, encoding_by};
 ghost use Rattle.buffa_recursive.specs.Asking.{each_asked};
-ghost use Rattle.buffa_recursive.specs.MessageTree.{Knot};
+ghost use Rattle.buffa_recursive.specs.MessageTree.{MessageTree};
 ghost use Rattle.buffa_fields_laws.specs.MessagesInside.{IsIn};
 
-use buffa_fields::member::Member;
-use buffa_fields::one_of::OneOf;
-use buffa_fields::ordered_key::OrderedKey;
+use buffa_fields::members::member::Member;
+use buffa_fields::members::ordered_key::OrderedKey;
+use buffa_fields::oneofs::one_of::OneOf;
 use buffa_map::map_codec::MapCodec;
-use buffa_recursive::fields::SelfFields;
-use buffa_recursive::layout::Laid;
-use buffa_recursive::listing::SelfListing;
-use buffa_recursive::visitor::SelfVisitor;
+use buffa_recursive::recursive_fields::RecursiveFields;
+use buffa_recursive::recursive_meaning::RecursiveMeaning;
+use buffa_recursive::recursive_type::RecursiveType;
+use buffa_recursive::visitor::RecursiveVisitor;
 use buffa_wire::UnknownFields;
 use std::collections::BTreeMap;
 
@@ -26,7 +26,7 @@ use std::collections::BTreeMap;
 #[derive(Drop)]
 struct Nothing;
 
-impl<M: SelfListing> SelfVisitor<M> for Nothing {
+impl<M: RecursiveMeaning> RecursiveVisitor<M> for Nothing {
     ghost IsAt = { λ z v. Unit {0} };
 
     ghost Waits = { λ ss v. Unit {0} };
@@ -50,7 +50,7 @@ impl<M: SelfListing> SelfVisitor<M> for Nothing {
         KC::Value: OrderedKey,
     {}
 
-    fn visit_kept(&mut self, _fields: &UnknownFields) {}
+    fn visit_unknown_fields(&mut self, _fields: &UnknownFields) {}
 }
 
 /// The members of another type read back.
@@ -58,8 +58,8 @@ impl<M: SelfListing> SelfVisitor<M> for Nothing {
 /// ```ignore
 /// members_read_back(message);
 /// ```
-pub fn members_read_back<M: SelfFields>(message: &M)
-    ensures { M.laying.Owes }
+pub fn members_read_back<M: RecursiveFields>(message: &M)
+    ensures { M.schema.Owes }
 {
     let mut nothing = Nothing;
     message.visit(&mut nothing);
@@ -71,11 +71,11 @@ pub fn members_read_back<M: SelfFields>(message: &M)
 /// ```ignore
 /// messages_read_back(&message);
 /// ```
-pub fn messages_read_back<M: SelfFields>(message: &M)
-    ensures { let t = told M.COST M.laying M.sound in
+pub fn messages_read_back<M: RecursiveFields>(message: &M)
+    ensures { let t = semantics M.COST M.schema M.sound in
         (d : ℕ) → Fits (records_of (t.records message.now)) →
-        M.laying.into (M.laying.out message.now) ≡ message.now →
-        (told_layout M.COST M.laying M.sound).normal (M.laying.out message.now) → t.levels message.now ≤ d →
+        M.schema.into (M.schema.out message.now) ≡ message.now →
+        (message_schema M.COST M.schema M.sound).normal (M.schema.out message.now) → t.levels message.now ≤ d →
         t.merged d t.blank (encoding_by t message.now) ≡ Some message.now }
 {
     members_read_back(message);
@@ -87,8 +87,8 @@ pub fn messages_read_back<M: SelfFields>(message: &M)
 /// ```ignore
 /// levels_are_exact::<Outline>();
 /// ```
-pub fn levels_are_exact<M: Laid>()
-    ensures { M.laying.Exact → AreExactBy (told M.COST M.laying M.sound) }
+pub fn levels_are_exact<M: RecursiveType>()
+    ensures { M.schema.Exact → AreExactBy (semantics M.COST M.schema M.sound) }
 {}
 
 /// What is told of a message is what its members say, by what is told.
@@ -96,22 +96,22 @@ pub fn levels_are_exact<M: Laid>()
 /// ```ignore
 /// messages_are_their_members(&message);
 /// ```
-pub fn messages_are_their_members<M: Laid>(message: &M)
-    ensures records { let t = told M.COST M.laying M.sound in
-        t.records message.now ≡ (M.laying.layout t).records (M.laying.out message.now) }
-    ensures slots { let t = told M.COST M.laying M.sound in
-        t.slots message.now ≡ (M.laying.layout t).slots (M.laying.out message.now) }
-    ensures levels { let t = told M.COST M.laying M.sound in
-        t.levels message.now ≡ (M.laying.layout t).levels (M.laying.out message.now) }
-    ensures normal { let t = told M.COST M.laying M.sound in
-        t.normal message.now → IsNormalLaid M.COST M.laying t message.now }
-    ensures is_normal { let t = told M.COST M.laying M.sound in
-        IsNormalLaid M.COST M.laying t message.now → t.normal message.now }
+pub fn messages_are_their_members<M: RecursiveType>(message: &M)
+    ensures records { let t = semantics M.COST M.schema M.sound in
+        t.records message.now ≡ (M.schema.schema t).records (M.schema.out message.now) }
+    ensures slots { let t = semantics M.COST M.schema M.sound in
+        t.slots message.now ≡ (M.schema.schema t).slots (M.schema.out message.now) }
+    ensures levels { let t = semantics M.COST M.schema M.sound in
+        t.levels message.now ≡ (M.schema.schema t).levels (M.schema.out message.now) }
+    ensures normal { let t = semantics M.COST M.schema M.sound in
+        t.normal message.now → IsNormalRecursive M.COST M.schema t message.now }
+    ensures is_normal { let t = semantics M.COST M.schema M.sound in
+        IsNormalRecursive M.COST M.schema t message.now → t.normal message.now }
 {}
 
 /// All that is required is there in a message that holds itself exactly where each message of its type in it, at any depth, has
 /// what is asked of it.
 pub fn what_is_asked_is_asked_of_each<W>()
-    ensures { (asked : Knot W → Bool) (t : Knot W) → ((each_asked asked).whole t ≡ true)
-        ↔ ((k : Knot W) → IsIn k t → asked k ≡ true) }
+    ensures { (asked : MessageTree W → Bool) (t : MessageTree W) → ((each_asked asked).whole t ≡ true)
+        ↔ ((k : MessageTree W) → IsIn k t → asked k ≡ true) }
 {}

@@ -7,8 +7,8 @@ use Rattle.buffa_bytes.specs.declared.error.DecodeError.{DecodeError}
 use Rattle.buffa_bytes.specs.declared.error.DecodeError.TheVariants as decode
 use Rattle.buffa_bytes.specs.declared.error.EncodeError.{EncodeError}
 use Rattle.buffa_bytes.specs.declared.error.EncodeError.TheVariants.{OutOfMemory}
-use Rattle.buffa_bytes.specs.Front.{FullOnlyIf, delimited_at, taken, varint_at}
-use Rattle.buffa_bytes.specs.Left.{past_no_delimited, past_no_varint}
+use Rattle.buffa_bytes.specs.Readings.{FullOnlyIf, delimited_at, taken, varint_at}
+use Rattle.buffa_bytes.specs.Unread.{past_no_delimited, past_no_varint}
 use Rattle.buffa_bytes.specs.Varint.{VarintFault, varint_encoding}
 use Rattle.buffa_bytes.specs.Values.{delimited_encoding}
 use Rattle.buffa_bytes.specs.Written.{WritesFront}

@@ -3,7 +3,7 @@ use Rattle.std.proofs.Common.{◌≡◌, ℕ, zero, suc, ◌+◌, ◌-◌, ◌^�
 use Rattle.std.specs.List.{All}
 use Rattle.std.proofs.lemmas.List.Elements.{All-cons, All-nil}
 use Rattle.buffa_bytes.specs.Varint.{Continue, IsByte, IsVarint, TakesVarint, base128}
-use Rattle.buffa_bytes.specs.Front.{varint_at}
+use Rattle.buffa_bytes.specs.Readings.{varint_at}
 use Rattle.buffa_bytes.proofs.DigitLemmas.{base128-lt, grows}
 use Rattle.buffa_bytes.proofs.StepLemmas.{ok_same}
 use Rattle.buffa_bytes.proofs.VarintLemmas.{varint_complete}

@@ -1,7 +1,7 @@
 //! The frame at the front of some bytes, of which more may follow.
 
 ghost use Rattle.std.specs.Prelude.{◌≡◌, ◌≤◌, Err, length};
-ghost use Rattle.buffa_bytes.specs.Front.{varint_at};
+ghost use Rattle.buffa_bytes.specs.Readings.{varint_at};
 ghost use Rattle.buffa_bytes.specs.Varint.{base128};
 ghost use Rattle.buffa_bytes.specs.declared.error.DecodeError.{DecodeError};
 ghost use Rattle.buffa_frames.specs.AtFront.{ReadsFront, ReadsLength};

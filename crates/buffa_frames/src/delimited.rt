@@ -1,13 +1,13 @@
 //! Messages behind their lengths.
 
 ghost use Rattle.std.specs.Prelude.{◌≡◌, ◌≢◌, ◌<◌, ◌≤◌, ◌^◌, ◌++◌, ℕ, List, IfErr, IfOk, OnErr, OnOk, Ok, length};
-ghost use Rattle.buffa_bytes.specs.Front.{FullOnlyIf, delimited_at};
-ghost use Rattle.buffa_bytes.specs.Left.{LeavesUnlessFull, past_no_delimited};
+ghost use Rattle.buffa_bytes.specs.Readings.{FullOnlyIf, delimited_at};
+ghost use Rattle.buffa_bytes.specs.Unread.{LeavesUnlessFull, past_no_delimited};
 ghost use Rattle.buffa_bytes.specs.Values.{delimited_encoding};
 ghost use Rattle.buffa_bytes.specs.declared.error.DecodeError.TheVariants.{OutOfMemory};
 ghost use Rattle.buffa_bytes.specs.declared.error.EncodeError.TheVariants as error;
 ghost use Rattle.buffa_wire.specs.BudgetLeft.{defaults};
-ghost use Rattle.buffa_wire.specs.Message.{BeginsField, Stands};
+ghost use Rattle.buffa_wire.specs.Message.{BeginsField, PartlyMerged};
 ghost use Rattle.buffa_wire.specs.Passes.{IsSmall};
 ghost use Rattle.buffa_frames.specs.Delimited.{LengthDelimitedFault, MeansInside, UnwrittenFrame};
 
@@ -100,7 +100,7 @@ pub trait Delimited: Decode {
             LengthDelimitedFault (Self.merged RECURSION_LIMIT Self.blank_is) (Self.cost RECURSION_LIMIT) buf.old.now e) }
         // Of a message that is refused its type says why.
         ensures which { IfErr result (λ e. (body rest : List ℕ) → delimited_at buf.old.now ≡ Ok (body, rest) →
-            (m : Self.Meaning) × Stands Self.merged Self.cost Self.Refused RECURSION_LIMIT Self.blank_is body defaults e m) }
+            (m : Self.Meaning) × PartlyMerged Self.merged Self.cost Self.Refused RECURSION_LIMIT Self.blank_is body defaults e m) }
         ensures full { FullOnlyIf result ((body : List ℕ) × (rest : List ℕ) × (delimited_at buf.old.now ≡ Ok (body, rest))
             × BeginsField body) }
         ensures left { OnErr result (buf.new.now ≡ past_no_delimited buf.old.now) }

@@ -4,7 +4,7 @@ use Rattle.std.specs.Cmp.{IsEquivalence}
 use Rattle.std.specs.List.{IsDistinct, AllByRecursion}
 use Rattle.std.specs.Map.{keys_of}
 use Rattle.std.proofs.lemmas.List.{map-append}
-use Rattle.buffa_bytes.specs.Content.{Content, HasContent}
+use Rattle.buffa_bytes.specs.PayloadValue.{PayloadValue, HasPayloadValue}
 use Rattle.buffa_bytes.specs.Field.{IsTag}
 use Rattle.buffa_bytes.specs.Number.{IsNumber}
 use Rattle.buffa_bytes.specs.Values.{tag_encoding}
@@ -15,9 +15,9 @@ use Rattle.buffa_bytes.proofs.ListLemmas.{AllByRecursion-last}
 use Rattle.buffa_bytes.proofs.VarintLemmas.{IsVarint-varint_encoding}
 use Rattle.buffa_map.specs.Codec.{Reading, Writing, level}
 use Rattle.buffa_wire.specs.BudgetLeft.{BudgetLeft}
-use Rattle.buffa_bytes.specs.Content.Content.{bytes}
+use Rattle.buffa_bytes.specs.PayloadValue.PayloadValue.{bytes}
 use Rattle.buffa_wire.specs.Passes.{IsSmall}
-use Rattle.buffa_map.specs.Message.{meant, message_reading}
+use Rattle.buffa_map.specs.Message.{merged_value, message_reading}
 use Rattle.buffa_map.specs.MessageField.{IsSmallField}
 use Rattle.buffa_map.specs.Scalars.{delimited_writing}
 use Rattle.buffa_map.specs.Entry.{IsCodecField, IsEntry, IsEntryField}
@@ -33,15 +33,15 @@ as_record kw vw p = record { bytes = entry_encoding kw vw p; parts = pair_entry 
 
 -- a payload of v is read as v, where the default stood
 abbrev pub IsReadBack : {X : Type 0} → Reading X → Writing X → ℕ → X → Type 0
-IsReadBack r w d v = (level r.nested d ≡ Ok tt) × (c : Content) × HasContent w.wire (w.encoding v) c × (r.reads d r.blank c ≡ Ok (v, true))
+IsReadBack r w d v = (level r.nested d ≡ Ok tt) × (c : PayloadValue) × HasPayloadValue w.wire (w.encoding v) c × (r.reads d r.blank c ≡ Ok (v, true))
 
-pub plain_back : {X : Type 0} (r : Reading X) (w : Writing X) (d : ℕ) (v : X) → r.nested ≡ false → (c : Content) × HasContent w.wire (w.encoding v) c × (r.reads d r.blank c ≡ Ok (v, true)) → IsReadBack r w d v
-plain_back r w d v plain h = (rw plain refl, h.0, h.1, h.2)
+pub implicit_back : {X : Type 0} (r : Reading X) (w : Writing X) (d : ℕ) (v : X) → r.nested ≡ false → (c : PayloadValue) × HasPayloadValue w.wire (w.encoding v) c × (r.reads d r.blank c ≡ Ok (v, true)) → IsReadBack r w d v
+implicit_back r w d v plain h = (rw plain refl, h.0, h.1, h.2)
 
 module _ {K W : Type 0} (key : Reading K) (val : Reading W) (kw : Writing K) (vw : Writing W) (same_key : kw.wire ≡ key.wire) (same_val : vw.wire ≡ val.wire) (d : ℕ)
     (KeyOk : K → Type 0) (ValOk : W → Type 0) (key_back : (v : K) → KeyOk v → IsReadBack key kw d v) (val_back : (v : W) → ValOk v → IsReadBack val vw d v) where
   part : {X : Type 0} (r : Reading X) (w : Writing X) (n : ℕ) (v : X) → IsNumber n → w.wire ≡ r.wire → IsReadBack r w d v → IsCodecField r d n r.blank (tag_encoding n w.wire ++ w.encoding v) v true
-  part r w n v num same (left, c, h, k) = (tag_encoding n w.wire, w.encoding v, c, subst (λ z. IsTag (tag_encoding n w.wire) n z) same (is_tag n w.wire num), left, subst (λ z. HasContent z (w.encoding v) c) same h, k, refl)
+  part r w n v num same (left, c, h, k) = (tag_encoding n w.wire, w.encoding v, c, subst (λ z. IsTag (tag_encoding n w.wire) n z) same (is_tag n w.wire num), left, subst (λ z. HasPayloadValue z (w.encoding v) c) same h, k, refl)
 
   pub entry_back : (p : K × W) → KeyOk p.0 → ValOk p.1 → IsEntry key val d (entry_encoding kw vw p) (pair_entry p)
   entry_back p a b =
@@ -112,4 +112,4 @@ module _ {M : Type 0} (blank : M) (merged : ℕ → M → List ℕ → Option M)
   message_back zero v small some means = absurd (omega (arith, some))
   message_back (suc e) v small some means =
       let fits : length (encoding v) < 2 ^ 64 = omega (arith, small) in
-      (refl, bytes (encoding v), (varint_encoding (length (encoding v)), IsVarint-varint_encoding (length (encoding v)) fits, refl), ap meant (means e refl))
+      (refl, bytes (encoding v), (varint_encoding (length (encoding v)), IsVarint-varint_encoding (length (encoding v)) fits, refl), ap merged_value (means e refl))

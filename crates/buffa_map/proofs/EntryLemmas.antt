@@ -2,19 +2,19 @@
 use Rattle.std.proofs.Common.{◌≡◌, ◌⊎◌, inl, inr, ℕ, ◌==◌, ◌<◌, Bool, true, false, List, ◌++◌, length, Result, Ok, Err, refl, sym, ap, subst, ◌∙◌, arith, append_assoc, length-append}
 use Rattle.std.proofs.lemmas.Bool.{eqb-true, eqb-false, ne_eqb}
 use Rattle.buffa_bytes.proofs.ListLemmas.{cut_twice}
-use Rattle.buffa_bytes.specs.Front.{◌>>=◌}
+use Rattle.buffa_bytes.specs.Readings.{◌>>=◌}
 use Rattle.buffa_bytes.specs.Field.{IsTag, TakesTag}
-use Rattle.buffa_bytes.specs.Content.{Content, HasContent, content_at}
+use Rattle.buffa_bytes.specs.PayloadValue.{PayloadValue, HasPayloadValue, payload_value_at}
 use Rattle.buffa_bytes.specs.declared.wire_type.WireType.{WireType}
 use Rattle.buffa_bytes.specs.declared.error.DecodeError.{DecodeError}
 use Rattle.buffa_bytes.proofs.StepLemmas.{Agrees, agree_bind, agree_if, agree_ok, agree_err, agree_weaker}
 use Rattle.buffa_bytes.proofs.FieldLemmas.{tag_as, tag_sound, tag_complete, tag_faulty, tag_some, payload_sound, payload_complete, payload_faulty, tag_read}
-use Rattle.buffa_bytes.proofs.ContentLemmas.{content_sound, content_complete, content_taken, content_faulty}
+use Rattle.buffa_bytes.proofs.PayloadValueLemmas.{payload_value_sound, payload_value_complete, payload_value_taken, payload_value_faulty}
 use Rattle.buffa_bytes.proofs.WireLemmas.{check_sound, check_same, check_differs}
-use Rattle.buffa_wire.specs.BudgetLeft.{BudgetLeft, Lacks, need_by, nothing}
+use Rattle.buffa_wire.specs.BudgetLeft.{BudgetLeft, Lacks, charge_by, nothing}
 use Rattle.buffa_wire.proofs.SpentLemmas.{PaysAtMost_nothing, Pays_nothing}
 use Rattle.buffa_bytes.specs.Scan.{ParsesTo}
-use Rattle.buffa_map.specs.Codec.{Reading, RefusesValue, Spends, Tells, ValueFault, level, value_at, value_need}
+use Rattle.buffa_map.specs.Codec.{Reading, RefusesValue, Spends, Tells, ValueFault, level, value_at, value_charge}
 use Rattle.buffa_map.specs.Entry.{CodecFault, IsCodecField, IsEntryField, EntryFieldFault, IsEntry, FaultOf}
 use Rattle.buffa_map.specs.EntryReading.{codec_at, blanks, entry_field_at, entry_of}
 use Rattle.buffa_map.specs.declared.map_entry.MapEntry.{MapEntry}
@@ -22,68 +22,68 @@ use Rattle.buffa_bytes.proofs.SequenceLemmas.{Answers, answer, answers_as, along
 
 -- ---- budgets
 -- what a codec spends, whether its payloads are nested or not
-pub spent_in : {T : Type 0} (b : Bool) (r : Result T DecodeError) (left need over : BudgetLeft) → (b ≡ false → need ≡ nothing) → Spends b r left need over → Spends true r left need over
-spent_in false (Ok x) left need over free h = Pays_nothing left over need (free refl) h
-spent_in false (Err e) left need over free h = PaysAtMost_nothing left over need h
-spent_in true r left need over free h = h
+pub spent_in : {T : Type 0} (b : Bool) (r : Result T DecodeError) (left charge over : BudgetLeft) → (b ≡ false → charge ≡ nothing) → Spends b r left charge over → Spends true r left charge over
+spent_in false (Ok x) left charge over free h = Pays_nothing left over charge (free refl) h
+spent_in false (Err e) left charge over free h = PaysAtMost_nothing left over charge h
+spent_in true r left charge over free h = h
 
 -- ---- what a codec makes of a payload
 tells_itself : (b : Bool) (x : DecodeError) → Tells b x x
 tells_itself false x = refl
 tells_itself true x = inl refl
 
-told_plainly : (b : Bool) (x e : DecodeError) → Tells b x e → b ≡ false → e ≡ x
-told_plainly false x e h k = h
-told_plainly true x e h k = cc
+reported_plainly : (b : Bool) (x e : DecodeError) → Tells b x e → b ≡ false → e ≡ x
+reported_plainly false x e h k = h
+reported_plainly true x e h k = cc
 
 itself : {A : Type 0} (r : Result A DecodeError) → Agrees r (λ x. r ≡ Ok x) (λ e. r ≡ Err e)
 itself (Ok x) = record { holds = refl }
 itself (Err e) = record { holds = refl }
 
 -- nothing is needed, where nothing is by what may be read
-pub need_by-nothing : {A : Type 0} (r : Result A DecodeError) (f : A → BudgetLeft) → ((x : A) → f x ≡ nothing) → need_by r f ≡ nothing
-need_by-nothing (Ok x) f h = h x
-need_by-nothing (Err e) f h = refl
+pub charge_by-nothing : {A : Type 0} (r : Result A DecodeError) (f : A → BudgetLeft) → ((x : A) → f x ≡ nothing) → charge_by r f ≡ nothing
+charge_by-nothing (Ok x) f h = h x
+charge_by-nothing (Err e) f h = refl
 
 module _ {V : Type 0} (codec : Reading V) (d : ℕ) (old : V) where
   -- what a codec makes of the payload at the front
   abbrev pub MakesValue : List ℕ → (V × Bool) × List ℕ → Type 0
-  MakesValue bs x = (level codec.nested d ≡ Ok tt) × (p : List ℕ) × (c : Content) × HasContent codec.wire p c × (codec.reads d old c ≡ Ok x.0) × (bs ≡ p ++ x.1)
+  MakesValue bs x = (level codec.nested d ≡ Ok tt) × (p : List ℕ) × (c : PayloadValue) × HasPayloadValue codec.wire p c × (codec.reads d old c ≡ Ok x.0) × (bs ≡ p ++ x.1)
 
-  read_sound : (c : Content) (rest : List ℕ) (r : Result (V × Bool) DecodeError) → codec.reads d old c ≡ r →
+  read_sound : (c : PayloadValue) (rest : List ℕ) (r : Result (V × Bool) DecodeError) → codec.reads d old c ≡ r →
       Agrees (r >>= (λ v. let x : (V × Bool) × List ℕ = (v, rest) in Ok x)) (λ x. (codec.reads d old c ≡ Ok x.0) × (rest ≡ x.1)) (λ e. codec.reads d old c ≡ Err e)
   read_sound c rest (Ok v) h = record { holds = (h, refl) }
   read_sound c rest (Err e) h = record { holds = h }
 
   pub value_sound : (bs : List ℕ) → Agrees (value_at codec d old bs) (MakesValue bs) (ValueFault codec d old bs)
   value_sound bs = agree_bind (itself (level codec.nested d))
-      (λ _ open_level. agree_bind (content_sound codec.wire bs)
+      (λ _ open_level. agree_bind (payload_value_sound codec.wire bs)
       (λ c t. agree_weaker (read_sound c.0 c.1 (codec.reads d old c.0) refl)
       (λ x h. (open_level, t.0, c.0, t.1, h.0, t.2 ∙ ap (λ z. t.0 ++ z) h.1))
       (λ e h. inr (inr (open_level, c.0, c.1, e, t, h, tells_itself codec.nested e))))
       (λ e h. inr (inl (open_level, h))))
       (λ e h. inl h)
 
-  pub value_complete : (p rest : List ℕ) (c : Content) (x : V × Bool) → level codec.nested d ≡ Ok tt → HasContent codec.wire p c → codec.reads d old c ≡ Ok x → value_at codec d old (p ++ rest) ≡ Ok (x, rest)
-  value_complete p rest c x open_level h k = rw (open_level, content_complete codec.wire p c rest h, k) refl
+  pub value_complete : (p rest : List ℕ) (c : PayloadValue) (x : V × Bool) → level codec.nested d ≡ Ok tt → HasPayloadValue codec.wire p c → codec.reads d old c ≡ Ok x → value_at codec d old (p ++ rest) ≡ Ok (x, rest)
+  value_complete p rest c x open_level h k = rw (open_level, payload_value_complete codec.wire p c rest h, k) refl
 
   pub value_faulty : (bs : List ℕ) (e : DecodeError) → ValueFault codec d old bs e → Answers (codec.nested ≡ false) (value_at codec d old bs) e
   value_faulty bs e (inl h) = answer (rw h refl)
-  value_faulty bs e (inr (inl (open_level, h))) = answer (rw (open_level, content_faulty codec.wire bs e h) refl)
-  value_faulty bs e (inr (inr (open_level, c, rest, x, t, h, k))) = (x, rw (open_level, content_taken codec.wire bs c rest t, h) refl, told_plainly codec.nested x e k)
+  value_faulty bs e (inr (inl (open_level, h))) = answer (rw (open_level, payload_value_faulty codec.wire bs e h) refl)
+  value_faulty bs e (inr (inr (open_level, c, rest, x, t, h, k))) = (x, rw (open_level, payload_value_taken codec.wire bs c rest t, h) refl, reported_plainly codec.nested x e k)
 
   -- why merging refuses, whether payloads are nested or not
-  pub refused_in : (b : Bool) (bs : List ℕ) (left : BudgetLeft) (e : DecodeError) → RefusesValue b codec d old bs left e → Lacks left (value_need codec d bs) ⊎ ValueFault codec d old bs e
+  pub refused_in : (b : Bool) (bs : List ℕ) (left : BudgetLeft) (e : DecodeError) → RefusesValue b codec d old bs left e → Lacks left (value_charge codec d bs) ⊎ ValueFault codec d old bs e
   refused_in false bs left e h = inr (agree_err (value_at codec d old bs) e (value_sound bs) h)
   refused_in true bs left e h = h
 
-  pub value_free : (bs : List ℕ) → ((c : Content) → codec.cost d c ≡ nothing) → value_need codec d bs ≡ nothing
-  value_free bs h = need_by-nothing (content_at codec.wire bs) (λ c. codec.cost d c.0) (λ c. h c.0)
+  pub value_free : (bs : List ℕ) → ((c : PayloadValue) → codec.cost d c ≡ nothing) → value_charge codec d bs ≡ nothing
+  value_free bs h = charge_by-nothing (payload_value_at codec.wire bs) (λ c. codec.cost d c.0) (λ c. h c.0)
 
 module _ {V : Type 0} (codec : Reading V) (d n : ℕ) (old : V) where
   -- what a codec makes of the payload at the front, in a field of wire type w
   abbrev pub MakesAt : WireType → List ℕ → (V × Bool) × List ℕ → Type 0
-  MakesAt w bs x = (w ≡ codec.wire) × (level codec.nested d ≡ Ok tt) × (p : List ℕ) × (c : Content) × HasContent codec.wire p c × (codec.reads d old c ≡ Ok x.0) × (bs ≡ p ++ x.1)
+  MakesAt w bs x = (w ≡ codec.wire) × (level codec.nested d ≡ Ok tt) × (p : List ℕ) × (c : PayloadValue) × HasPayloadValue codec.wire p c × (codec.reads d old c ≡ Ok x.0) × (bs ≡ p ++ x.1)
 
   pub codec_sound : (w : WireType) (bs : List ℕ) → Agrees (codec_at codec d n old w bs) (MakesAt w bs) (CodecFault codec d n old w bs)
   codec_sound w bs = agree_bind (check_sound n codec.wire w)
@@ -95,7 +95,7 @@ module _ {V : Type 0} (codec : Reading V) (d n : ℕ) (old : V) where
   codec_field tag bs m w x made is_tag same =
       (tag, made.2, made.3, tag_as tag m n w codec.wire is_tag same made.0, made.1, made.4, made.5, refl)
 
-  pub codec_complete : (w : WireType) (p rest : List ℕ) (c : Content) (x : V × Bool) → w ≡ codec.wire → level codec.nested d ≡ Ok tt → HasContent codec.wire p c → codec.reads d old c ≡ Ok x → codec_at codec d n old w (p ++ rest) ≡ Ok (x, rest)
+  pub codec_complete : (w : WireType) (p rest : List ℕ) (c : PayloadValue) (x : V × Bool) → w ≡ codec.wire → level codec.nested d ≡ Ok tt → HasPayloadValue codec.wire p c → codec.reads d old c ≡ Ok x → codec_at codec d n old w (p ++ rest) ≡ Ok (x, rest)
   codec_complete w p rest c x same open_level h k = rw (check_same n codec.wire w same) (value_complete codec d old p rest c x open_level h k)
 
   pub codec_faulty : (w : WireType) (bs : List ℕ) (e : DecodeError) → CodecFault codec d n old w bs e → Answers (codec.nested ≡ false) (codec_at codec d n old w bs) e
@@ -154,10 +154,10 @@ module _ {K V : Type 0} (key : Reading K) (val : Reading V) (d : ℕ) where
       rw (split, tag_complete tag n w (p ++ rest) is_tag, ne_eqb n 1 not_one, ne_eqb n 2 not_two, payload_complete d n w p rest h) (ap (λ z. Ok (z, rest)) (sym st))
 
   -- no payload of a key or a value is nested
-  abbrev pub Plain : Type 0
-  Plain = (key.nested ≡ false) × (val.nested ≡ false)
+  abbrev pub ImplicitField : Type 0
+  ImplicitField = (key.nested ≡ false) × (val.nested ≡ false)
 
-  pub field_faulty : (s : MapEntry K V) (bs : List ℕ) (e : DecodeError) → EntryFieldFault key val d s bs e → Answers Plain (entry_field_at key val d s bs) e
+  pub field_faulty : (s : MapEntry K V) (bs : List ℕ) (e : DecodeError) → EntryFieldFault key val d s bs e → Answers ImplicitField (entry_field_at key val d s bs) e
   field_faulty s bs e (inl h) = answer (rw (tag_faulty bs e h) refl)
   field_faulty s bs e (inr (inl (w, rest, t, h))) = let q = codec_faulty key d 1 s.key w rest e h in (q.0, rw (tag_read bs rest 1 w t, q.1) refl, λ p. q.2 p.0)
   field_faulty s bs e (inr (inr (inl (w, rest, t, h)))) = let q = codec_faulty val d 2 s.value w rest e h in (q.0, rw (tag_read bs rest 2 w t, q.1) refl, λ p. q.2 p.1)
@@ -169,13 +169,13 @@ module _ {K V : Type 0} (key : Reading K) (val : Reading V) (d : ℕ) where
   field_some s t f (inr (inr (n, w, not_one, not_two, (tag, p, is_tag, h, e), st))) = omega (arith, tag_some tag n w is_tag, ap length e, length-append tag p)
 
   pub entry_sound : (e : List ℕ) → Agrees (entry_of key val d e) (IsEntry key val d e) (FaultOf key val d e)
-  entry_sound e = along_sound (IsEntryField key val d) (entry_field_at key val d) (EntryFieldFault key val d) field_sound field_complete Plain field_faulty field_some (blanks key val d) e
+  entry_sound e = along_sound (IsEntryField key val d) (entry_field_at key val d) (EntryFieldFault key val d) field_sound field_complete ImplicitField field_faulty field_some (blanks key val d) e
 
   pub entry_complete : (e : List ℕ) (s : MapEntry K V) → IsEntry key val d e s → entry_of key val d e ≡ Ok s
-  entry_complete e s h = along_complete (IsEntryField key val d) (entry_field_at key val d) (EntryFieldFault key val d) field_sound field_complete Plain field_faulty field_some (blanks key val d) s e h
+  entry_complete e s h = along_complete (IsEntryField key val d) (entry_field_at key val d) (EntryFieldFault key val d) field_sound field_complete ImplicitField field_faulty field_some (blanks key val d) s e h
 
-  pub entry_faulty : (e : List ℕ) (f : DecodeError) → FaultOf key val d e f → Answers Plain (entry_of key val d e) f
-  entry_faulty e f h = along_faulty (IsEntryField key val d) (entry_field_at key val d) (EntryFieldFault key val d) field_sound field_complete Plain field_faulty field_some (blanks key val d) e f h
+  pub entry_faulty : (e : List ℕ) (f : DecodeError) → FaultOf key val d e f → Answers ImplicitField (entry_of key val d e) f
+  entry_faulty e f h = along_faulty (IsEntryField key val d) (entry_field_at key val d) (EntryFieldFault key val d) field_sound field_complete ImplicitField field_faulty field_some (blanks key val d) e f h
 
   -- ---- the loop over the fields
   pub field_step : (e : List ℕ) (s t : MapEntry K V) (r x : List ℕ) → ParsesTo (IsEntryField key val d) (blanks key val d) e s r → entry_field_at key val d s r ≡ Ok (t, x) → ParsesTo (IsEntryField key val d) (blanks key val d) e t x

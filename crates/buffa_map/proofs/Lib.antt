@@ -3,7 +3,7 @@ pub mod PutLemmas
 pub mod MeaningLemmas
 pub mod HashedLemmas
 pub mod EntryLemmas
-pub mod NeedLemmas
+pub mod ChargeLemmas
 pub mod MemoryLemmas
 pub mod TailLemmas
 pub mod MessageLemmas

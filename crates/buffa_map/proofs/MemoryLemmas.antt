@@ -3,7 +3,7 @@ use Rattle.std.proofs.Common.{◌≡◌, ◌<◌, ℕ, zero, suc, true, List, Re
 use Rattle.buffa_bytes.proofs.FullLemmas.{varint_no_full}
 use Rattle.buffa_bytes.specs.declared.error.DecodeError.{DecodeError}
 use Rattle.buffa_bytes.specs.declared.error.DecodeError.TheVariants.{OutOfMemory}
-use Rattle.buffa_bytes.specs.Front.{varint_at, ◌>>=◌}
+use Rattle.buffa_bytes.specs.Readings.{varint_at, ◌>>=◌}
 use Rattle.buffa_bytes.specs.Values.{int32_at}
 use Rattle.buffa_map.specs.Codec.{level}
 

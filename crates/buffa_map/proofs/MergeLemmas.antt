@@ -3,29 +3,29 @@ use Rattle.std.specs.Prelude.{if◌then◌else◌}
 use Rattle.std.proofs.Common.{arith, ◌≡◌, ◌≢◌, ◌+◌, ◌<◌, ◌≤◌, ◌++◌, ◌∷◌, ◌⊎◌, inl, inr, ℕ, true, false, List, [], Ok, Err, ap, append-nil, length, refl, subst, sym, take, drop, ◌∙◌}
 use Rattle.buffa_bytes.specs.declared.error.DecodeError.{DecodeError}
 use Rattle.buffa_bytes.specs.declared.error.DecodeError.TheVariants.{ElementMemoryLimitExceeded, OutOfMemory, UnexpectedEof, UnknownFieldLimitExceeded}
-use Rattle.buffa_bytes.specs.Left.{past_no_delimited, IsTailOf}
-use Rattle.buffa_wire.specs.BudgetLeft.{BudgetLeft, Lacks, need_by, plus, units}
+use Rattle.buffa_bytes.specs.Unread.{past_no_delimited, IsTailOf}
+use Rattle.buffa_wire.specs.BudgetLeft.{BudgetLeft, Lacks, charge_by, plus, units}
 use Rattle.buffa_wire.proofs.SpentLemmas.{same_left}
-use Rattle.buffa_bytes.specs.Front.{delimited_at, taken, varint_at}
+use Rattle.buffa_bytes.specs.Readings.{delimited_at, taken, varint_at}
 use Rattle.buffa_bytes.proofs.DelimitedLemmas.{after_length, taken_sound}
 use Rattle.buffa_bytes.proofs.StepLemmas.{agree_ok}
-use Rattle.buffa_wire.specs.Records.{Datum, bytes}
+use Rattle.buffa_wire.specs.Records.{FieldData, bytes}
 use Rattle.buffa_map.specs.Entry.{EntryFault, FaultOf, IsEntry, EntryFieldsTakeMemory}
-use Rattle.buffa_map.specs.EntryReading.{blanks, inner_need, need_at, need_of}
+use Rattle.buffa_map.specs.EntryReading.{blanks, inner_charge, charge_at, charge_of}
 use Rattle.buffa_map.specs.Merge.{EntryTakesMemory, MergesEntry, MergesWhole, RefusesEntry, RefusesWhole, Rules, State, state, unknown_cost}
 use Rattle.buffa_map.specs.Parts.{ReadsParts, RefusesCut, RefusesParts}
 use Rattle.buffa_map.specs.Pairs.{InOrder, SamePairs, put}
 use Rattle.buffa_map.specs.declared.map_entry.MapEntry.{MapEntry}
-use Rattle.buffa_bytes.proofs.LeftLemmas.{past_cut}
+use Rattle.buffa_bytes.proofs.UnreadLemmas.{past_cut}
 use Rattle.buffa_map.proofs.TailLemmas.{behind_length, cut_front, cut_short, delimited_tail, delimited_there, one_rest}
 use Rattle.buffa_bytes.proofs.TailLemmas.{tail_more, tail_whole}
 use Rattle.buffa_bytes.specs.Field.{TakesDelimited}
 use Rattle.buffa_map.proofs.RunLemmas.{none_kept}
-use Rattle.buffa_map.proofs.NeedLemmas.{entry_charged, entry_found, entry_refused, entry_short, entry_without, no_length}
+use Rattle.buffa_map.proofs.ChargeLemmas.{entry_charged, entry_found, entry_refused, entry_short, entry_without, no_length}
 
-module _ {K V : Type 0} (r : Rules K V) (pairs : List (K × V)) (records : List (ℕ × Datum)) (left : BudgetLeft) (bs : List ℕ) where
-  abbrev fields_need : List ℕ → BudgetLeft
-  fields_need e = need_at r.key r.val r.depth (blanks r.key r.val r.depth) e
+module _ {K V : Type 0} (r : Rules K V) (pairs : List (K × V)) (records : List (ℕ × FieldData)) (left : BudgetLeft) (bs : List ℕ) where
+  abbrev fields_charge : List ℕ → BudgetLeft
+  fields_charge e = charge_at r.key r.val r.depth (blanks r.key r.val r.depth) e
 
   -- no length and so many bytes are there
   pub no_entry : (unread : List ℕ) (f : DecodeError) → IsTailOf unread bs → delimited_at bs ≡ Err f → (f ≢ OutOfMemory) → unread ≡ past_no_delimited bs →
@@ -52,8 +52,8 @@ module _ {K V : Type 0} (r : Rules K V) (pairs : List (K × V)) (records : List 
   }
 
   module _ (e rest : List ℕ) (is : delimited_at bs ≡ Ok (e, rest)) where
-    inner : inner_need r.key r.val r.depth bs ≡ fields_need e
-    inner = ap (λ z. need_by z (λ x. fields_need x.0)) is
+    inner : inner_charge r.key r.val r.depth bs ≡ fields_charge e
+    inner = ap (λ z. charge_by z (λ x. fields_charge x.0)) is
 
     there : TakesDelimited bs e rest
     there = delimited_there bs e rest is
@@ -86,13 +86,13 @@ module _ {K V : Type 0} (r : Rules K V) (pairs : List (K × V)) (records : List 
     parts_memory (room, inl field) = (e, rest, there, room, inr (inl field))
     parts_memory (room, inr (s, h, known)) = (e, rest, there, room, inr (inr (s, h, inl known)))
 
-    parts_fault : (f : DecodeError) → ((left.memory < r.cost) × (f ≡ ElementMemoryLimitExceeded)) ⊎ ((r.cost ≤ left.memory) × (Lacks left (need_of r.key r.val r.depth r.cost e) ⊎ FaultOf r.key r.val r.depth e f)) →
+    parts_fault : (f : DecodeError) → ((left.memory < r.cost) × (f ≡ ElementMemoryLimitExceeded)) ⊎ ((r.cost ≤ left.memory) × (Lacks left (charge_of r.key r.val r.depth r.cost e) ⊎ FaultOf r.key r.val r.depth e f)) →
         EntryFault r.key r.val r.depth r.cost (unknown_cost r) left bs f
     parts_fault f (inl few) = entry_charged r.key r.val r.depth r.cost (unknown_cost r) left bs e rest f is few.0 few.1
     parts_fault f (inr (room, bad)) = entry_refused r.key r.val r.depth r.cost (unknown_cost r) left bs e rest f is room bad
 
-    parts_units : (new : ℕ) → (new ≡ left.memory) ⊎ ((new + r.cost ≤ left.memory) × (left.memory ≤ new + (need_of r.key r.val r.depth r.cost e).memory)) →
-        (new ≡ left.memory) ⊎ ((new + r.cost ≤ left.memory) × (left.memory ≤ new + (r.cost + (inner_need r.key r.val r.depth bs).memory)))
+    parts_units : (new : ℕ) → (new ≡ left.memory) ⊎ ((new + r.cost ≤ left.memory) × (left.memory ≤ new + (charge_of r.key r.val r.depth r.cost e).memory)) →
+        (new ≡ left.memory) ⊎ ((new + r.cost ≤ left.memory) × (left.memory ≤ new + (r.cost + (inner_charge r.key r.val r.depth bs).memory)))
     parts_units new (inl same) = inl same
     parts_units new (inr spent) = inr (spent.0, omega (arith, spent.1, ap (λ (z : BudgetLeft). z.memory) inner))
 
@@ -144,7 +144,7 @@ module _ {K V : Type 0} (r : Rules K V) (pairs : List (K × V)) (records : List 
             least = omega (arith, h.pays);
           }))
 
-      pub is_kept : s.known ≡ false → (kept : List (ℕ × Datum)) (last : BudgetLeft) → kept ≡ records ++ (if r.keeps_undeclared then (r.number, bytes e) ∷ [] else []) → last.unknown + (unknown_cost r) ≡ over.unknown → last.memory ≡ over.memory → MergesEntry r (state pairs records left) bs (state pairs kept last) rest
+      pub is_kept : s.known ≡ false → (kept : List (ℕ × FieldData)) (last : BudgetLeft) → kept ≡ records ++ (if r.keeps_undeclared then (r.number, bytes e) ∷ [] else []) → last.unknown + (unknown_cost r) ≡ over.unknown → last.memory ≡ over.memory → MergesEntry r (state pairs records left) bs (state pairs kept last) rest
       is_kept known kept last added extra unit = record {
         says = s;
         entry = e;
@@ -159,7 +159,7 @@ module _ {K V : Type 0} (r : Rules K V) (pairs : List (K × V)) (records : List 
       pub is_dropped : s.known ≡ false → r.keeps_undeclared ≡ false → MergesEntry r (state pairs records left) bs (state pairs records over) rest
       is_dropped known drops = is_kept known records over (rw drops (sym (append-nil records))) (rw drops (omega arith)) refl
 
-      pub not_kept : s.known ≡ false → (kept : List (ℕ × Datum)) (last : BudgetLeft) (f : DecodeError) → kept ≡ records → last.unknown ≤ over.unknown → over.unknown ≤ last.unknown + (unknown_cost r) → last.memory ≡ over.memory →
+      pub not_kept : s.known ≡ false → (kept : List (ℕ × FieldData)) (last : BudgetLeft) (f : DecodeError) → kept ≡ records → last.unknown ≤ over.unknown → over.unknown ≤ last.unknown + (unknown_cost r) → last.memory ≡ over.memory →
           (f ≢ OutOfMemory → (r.keeps_undeclared ≡ true) × (over.unknown ≡ 0) × (f ≡ UnknownFieldLimitExceeded) × (last.unknown ≡ over.unknown)) → (f ≡ OutOfMemory → (r.keeps_undeclared ≡ true) × (0 < over.unknown)) → RefusesEntry r (state pairs records left) bs (state pairs kept last) rest f
       not_kept known kept last f same most least unit which keeps =
           let units = ap (λ (z : BudgetLeft). z.memory) inner in
@@ -201,7 +201,7 @@ module _ {K V : Type 0} (r : Rules K V) (pairs : List (K × V)) (records : List 
       (λ ne. let no = sym there ∙ reads ne in cc) charged slots
 
 -- an entry is merged, or refused, by what its cost leaves as it is with the cost
-module _ {K V : Type 0} (r : Rules K V) (pairs : List (K × V)) (records : List (ℕ × Datum)) (left over : BudgetLeft) (charged : over.memory + r.cost ≡ left.memory) (slots : over.unknown ≡ left.unknown) where
+module _ {K V : Type 0} (r : Rules K V) (pairs : List (K × V)) (records : List (ℕ × FieldData)) (left over : BudgetLeft) (charged : over.memory + r.cost ≡ left.memory) (slots : over.unknown ≡ left.unknown) where
   back : plus (units r.cost) over ≡ left
   back = same_left (plus (units r.cost) over) left (omega (arith, slots)) (omega (arith, charged))
 

@@ -32,11 +32,11 @@ module _ {K M : Type 0} (key : Writing K) (encoding : M → List ℕ) (p : K × 
   length_whole = length-entry_encoding key (delimited_writing encoding) p ∙ ap (λ (n : ℕ). 2 + (length (key.encoding p.0) + n)) (length-append (varint_encoding (length (encoding p.1))) (encoding p.1))
 
   -- the length that was told is the length
-  told : length (encoding p.1) < 2 ^ 32 → inner ≡ length (encoding p.1)
-  told h = omega (arith, is)
+  reported : length (encoding p.1) < 2 ^ 32 → inner ≡ length (encoding p.1)
+  reported h = omega (arith, is)
 
   same_size : length (encoding p.1) < 2 ^ 32 → sized ≡ length whole
-  same_size h = ap (λ (n : ℕ). entry_size key p.0 n) (told h) ∙ sym length_whole
+  same_size h = ap (λ (n : ℕ). entry_size key p.0 n) (reported h) ∙ sym length_whole
 
   same_len : length (encoding p.1) < 2 ^ 32 → length whole < 2 ^ 64 → saturated sized ≡ length whole
   same_len h k = omega (arith, same_size h)
@@ -68,7 +68,7 @@ module _ {K M : Type 0} (key : Writing K) (encoding : M → List ℕ) (p : K × 
       let second = tag_encoding 2 LengthDelimited in
       let len = varint_encoding (length (encoding p.1)) in
       let a : head_encoding key n p.0 inner ≡ (tag ++ varint_encoding (length whole)) ++ (first ++ (second ++ len)) =
-      (λ i. (tag ++ varint_encoding (same_len (omega (arith, h)) k i)) ++ (first ++ (second ++ varint_encoding (told (omega (arith, h)) i)))) in
+      (λ i. (tag ++ varint_encoding (same_len (omega (arith, h)) k i)) ++ (first ++ (second ++ varint_encoding (reported (omega (arith, h)) i)))) in
       let b : (first ++ (second ++ len)) ++ encoding p.1 ≡ whole = append_assoc first (second ++ len) (encoding p.1) ∙ ap (λ z. first ++ z) (append_assoc second len (encoding p.1)) in
       ap (λ z. z ++ encoding p.1) a ∙ append_assoc (tag ++ varint_encoding (length whole)) (first ++ (second ++ len)) (encoding p.1) ∙ ap (λ z. (tag ++ varint_encoding (length whole)) ++ z) b ∙ append_assoc tag (varint_encoding (length whole)) whole
 

@@ -56,25 +56,25 @@ module _ {K X : Type 0} {cmp : K → K → Ordering} (order : IsTotalOrder cmp) 
 
 module _ {K V A B : Type 0} (f : K → A) (g : V → B) where
   -- each key with what its pair means
-  abbrev told : List (K × V) → List (K × (A × B))
-  told es = map (λ (e : K × V). (e.0, (f e.0, g e.1))) es
+  abbrev reported : List (K × V) → List (K × (A × B))
+  reported es = map (λ (e : K × V). (e.0, (f e.0, g e.1))) es
 
-  keys_told : (es : List (K × V)) → keys_of (told es) ≡ keys_of es
-  keys_told [] = refl
-  keys_told (e ∷ es) = ap (λ z. e.0 ∷ z) (keys_told es)
+  keys_reported : (es : List (K × V)) → keys_of (reported es) ≡ keys_of es
+  keys_reported [] = refl
+  keys_reported (e ∷ es) = ap (λ z. e.0 ∷ z) (keys_reported es)
 
-  values_told : (es : List (K × V)) → map (λ (e : K × (A × B)). e.1) (told es) ≡ means f g es
-  values_told [] = refl
-  values_told (e ∷ es) = ap (λ (z : List (A × B)). (f e.0, g e.1) ∷ z) (values_told es)
+  values_reported : (es : List (K × V)) → map (λ (e : K × (A × B)). e.1) (reported es) ≡ means f g es
+  values_reported [] = refl
+  values_reported (e ∷ es) = ap (λ (z : List (A × B)). (f e.0, g e.1) ∷ z) (values_reported es)
 
-  found : (cmp : K → K → Ordering) (same : A → A → Bool) → ((a b : K) → eq_by_cmp cmp a b ≡ same (f a) (f b)) → (es : List (K × V)) (q : K) → lookup (is_at (cmp q)) (told es) ≡ lookup_entry (same (f q)) (means f g es)
+  found : (cmp : K → K → Ordering) (same : A → A → Bool) → ((a b : K) → eq_by_cmp cmp a b ≡ same (f a) (f b)) → (es : List (K × V)) (q : K) → lookup (is_at (cmp q)) (reported es) ≡ lookup_entry (same (f q)) (means f g es)
   found cmp same respects [] q = refl
   found cmp same respects (e ∷ es) q = let rest = found cmp same respects es q in λ i. cond (respects q e.0 i) (Some (f e.0, g e.1)) (rest i)
 
   pub one_walk : {cmp : K → K → Ordering} (same : A → A → Bool) → IsTotalOrder cmp → ((a b : K) → eq_by_cmp cmp a b ≡ same (f a) (f b)) → (es fs : List (K × V)) →
       IsStrictlySortedBy cmp (keys_of es) → IsStrictlySortedBy cmp (keys_of fs) → SamePairs same (means f g es) (means f g fs) → means f g es ≡ means f g fs
   one_walk {cmp = cmp} same order respects es fs s t h =
-      sym (values_told es)
-      ∙ one_order order (told es) (told fs) (subst (IsStrictlySortedBy cmp) (sym (keys_told es)) s) (subst (IsStrictlySortedBy cmp) (sym (keys_told fs)) t)
+      sym (values_reported es)
+      ∙ one_order order (reported es) (reported fs) (subst (IsStrictlySortedBy cmp) (sym (keys_reported es)) s) (subst (IsStrictlySortedBy cmp) (sym (keys_reported fs)) t)
       (λ q. found cmp same respects es q ∙ h (f q) ∙ sym (found cmp same respects fs q))
-      ∙ values_told fs
+      ∙ values_reported fs

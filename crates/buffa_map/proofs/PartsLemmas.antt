@@ -6,10 +6,10 @@ use Rattle.buffa_wire.specs.BudgetLeft.{BudgetLeft, Lacks}
 use Rattle.buffa_bytes.specs.Scan.{ParsesEach}
 use Rattle.buffa_map.specs.Codec.{AlwaysDeclared, Reading}
 use Rattle.buffa_map.specs.Entry.{FaultOf, IsEntryField, MergesFields, RefusesFields}
-use Rattle.buffa_map.specs.EntryReading.{blanks, need_at, need_of}
+use Rattle.buffa_map.specs.EntryReading.{blanks, charge_at, charge_of}
 use Rattle.buffa_map.specs.Parts.{ReadsParts, RefusesParts}
 use Rattle.buffa_map.specs.declared.map_entry.MapEntry.{MapEntry}
-use Rattle.buffa_map.proofs.NeedLemmas.{lacks_after}
+use Rattle.buffa_map.proofs.ChargeLemmas.{lacks_after}
 
 module _ {K V : Type 0} (key : Reading K) (val : Reading V) (d cost : ℕ) (e : List ℕ) (left : BudgetLeft) where
   pub no_units : (now : BudgetLeft) (f : DecodeError) → left.memory < cost → now ≡ left → f ≡ ElementMemoryLimitExceeded → RefusesParts key val d cost e left now f
@@ -26,7 +26,7 @@ module _ {K V : Type 0} (key : Reading K) (val : Reading V) (d cost : ℕ) (e : 
       }
 
   module _ (now : BudgetLeft) (charged : now.memory + cost ≡ left.memory) (slots : now.unknown ≡ left.unknown) where
-    lacking : (f : DecodeError) → Lacks now (need_at key val d (blanks key val d) e) ⊎ FaultOf key val d e f → Lacks left (need_of key val d cost e) ⊎ FaultOf key val d e f
+    lacking : (f : DecodeError) → Lacks now (charge_at key val d (blanks key val d) e) ⊎ FaultOf key val d e f → Lacks left (charge_of key val d cost e) ⊎ FaultOf key val d e f
     lacking f (inl few) = inl (lacks_after key val d cost left now e charged slots few)
     lacking f (inr bad) = inr bad
 

@@ -4,7 +4,7 @@ use Rattle.buffa_bytes.specs.declared.error.DecodeError.{DecodeError}
 use Rattle.buffa_bytes.specs.declared.error.EncodeError.{EncodeError}
 use Rattle.buffa_bytes.specs.declared.error.EncodeError.TheVariants.{OutOfMemory}
 use Rattle.buffa_wire.specs.BudgetLeft.{BudgetLeft}
-use Rattle.buffa_wire.specs.Records.{Datum}
+use Rattle.buffa_wire.specs.Records.{FieldData}
 use Rattle.buffa_wire.specs.Encoding.{records_encoding}
 use Rattle.buffa_map.specs.Codec.{Reading, Writing}
 use Rattle.buffa_map.specs.Merge.{ReadsRun, Rules, State, RefusesRun, state}
@@ -15,7 +15,7 @@ use Rattle.buffa_map.specs.Run.{undeclared_records}
 use Rattle.buffa_map.specs.Encoding.{field_encoding}
 
 -- a run that is read into an emptied map
-module _ {K V : Type 0} (r : Rules K V) (cleared : List (K × V)) (records : List (ℕ × Datum)) (left : BudgetLeft) (bs : List ℕ) (new : State K V) where
+module _ {K V : Type 0} (r : Rules K V) (cleared : List (K × V)) (records : List (ℕ × FieldData)) (left : BudgetLeft) (bs : List ℕ) (new : State K V) where
   pub anew : (rest : List ℕ) → cleared ≡ [] → ReadsRun r (state cleared records left) bs new rest → ReadsRun r (state [] records left) bs new rest
   anew rest is h = subst (λ z. ReadsRun r (state z records left) bs new rest) is h
 
@@ -23,7 +23,7 @@ module _ {K V : Type 0} (r : Rules K V) (cleared : List (K × V)) (records : Lis
   anew_stopped unread f is h = subst (λ z. RefusesRun r (state z records left) bs new unread f) is h
 
 module _ {K V : Type 0} (rk : Reading K) (rv : Reading V) (key : Writing K) (val : Writing V) (eq : K → K → Bool) (keeps : Bool) (d n cost : ℕ) (KeyFits : K → Type 0) (ValFits : V → Type 0) (Walks : List (K × V) → Type 0)
-    (left over : BudgetLeft) (bs rest : List ℕ) (pairs : List (K × V)) (none kept : List (ℕ × Datum)) (old new : List ℕ) (before after : ℕ)
+    (left over : BudgetLeft) (bs rest : List ℕ) (pairs : List (K × V)) (none kept : List (ℕ × FieldData)) (old new : List ℕ) (before after : ℕ)
     (ordered : (l : List (K × V)) → Walks l → InOrder keeps pairs l) (empty : none ≡ []) (read : ReadsRun (keeping rk rv eq keeps d n cost) (state [] none left) bs (state pairs kept over) rest) where
   is_kept : kept ≡ undeclared_records n read.entries
   is_kept = read.keeps ∙ ap (λ z. z ++ undeclared_records n read.entries) empty
@@ -54,6 +54,6 @@ module _ {K V : Type 0} (rk : Reading K) (rv : Reading V) (key : Writing K) (val
     once = (w.once.0, λ q. read.folded q ∙ w.once.1 q);
     walked = λ k. ordered w.walk w.walks k ∙ read.order k;
     walks = w.walks;
-    encoding = subst (λ (z : List (ℕ × Datum)). RefusesRewrite key val n z old new w.walk e) is_kept w.encoding;
+    encoding = subst (λ (z : List (ℕ × FieldData)). RefusesRewrite key val n z old new w.walk e) is_kept w.encoding;
     room = subst (λ z. e ≡ OutOfMemory → before < length (field_encoding key val n w.walk ++ records_encoding z)) is_kept w.room;
   }

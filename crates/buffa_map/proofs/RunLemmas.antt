@@ -4,7 +4,7 @@ use Rattle.std.proofs.lemmas.Bool.{cases_lt, eqb-true, eqb-false, eq-eqb, ne_eqb
 use Rattle.std.proofs.lemmas.List.{map-append}
 use Rattle.std.specs.Cmp.{IsEquivalence}
 use Rattle.buffa_bytes.specs.Field.{IsTag, TakesTag}
-use Rattle.buffa_bytes.specs.Front.{tag_at, check_wire, delimited_at}
+use Rattle.buffa_bytes.specs.Readings.{tag_at, check_wire, delimited_at}
 use Rattle.buffa_bytes.specs.declared.wire_type.WireType.{WireType}
 use Rattle.buffa_bytes.specs.declared.wire_type.WireType.TheVariants.{LengthDelimited}
 use Rattle.buffa_bytes.specs.declared.error.DecodeError.{DecodeError}
@@ -13,21 +13,21 @@ use Rattle.buffa_bytes.proofs.StepLemmas.{Agrees, agree_bind, agree_if, agree_ok
 use Rattle.buffa_bytes.proofs.FieldLemmas.{tag_as, tag_sound, tag_complete, takes_tag_as, tag_faulty, tag_some, tag_read}
 use Rattle.buffa_bytes.proofs.DelimitedLemmas.{delimited_sound, delimited_complete, delimited_faulty}
 use Rattle.buffa_wire.specs.BudgetLeft.{BudgetLeft, Lacks, Pays, nothing, plus, unknown_fields}
-use Rattle.buffa_bytes.specs.Content.{Content}
+use Rattle.buffa_bytes.specs.PayloadValue.{PayloadValue}
 use Rattle.buffa_bytes.proofs.WireLemmas.{check_sound, check_differs, checked_same, checked_other}
-use Rattle.buffa_wire.specs.Records.{Datum, bytes}
+use Rattle.buffa_wire.specs.Records.{FieldData, bytes}
 use Rattle.buffa_bytes.specs.Scan.{join, ParsesEach}
 use Rattle.buffa_map.specs.Codec.{Reading}
 use Rattle.buffa_map.specs.Entry.{IsEntry, FaultOf, EntryOf, EntryFault}
-use Rattle.buffa_map.specs.EntryReading.{blanks, need_at, need_of}
+use Rattle.buffa_map.specs.EntryReading.{blanks, charge_at, charge_of}
 use Rattle.buffa_map.specs.Pairs.{InOrder, put, SamePairs}
 use Rattle.buffa_map.specs.Run.{EntryRecord, IsRecord, Run, ArePaid, RecordFault, RunFault, cost_inside, step, fold_entries, undeclared, undeclared_record, undeclared_records}
 use Rattle.buffa_map.specs.RunReading.{entry_in, lacks, record_at, after_entry, next_record, run_of}
 use Rattle.buffa_map.specs.Merge.{Rules, kept_of_entry, kept_of_run}
 use Rattle.buffa_map.specs.declared.map_entry.MapEntry.{MapEntry}
 use Rattle.buffa_bytes.proofs.SequenceLemmas.{Answers, answer, answers_as, along_sound, along_complete, along_faulty}
-use Rattle.buffa_map.proofs.EntryLemmas.{Plain, entry_sound, entry_complete, entry_faulty}
-use Rattle.buffa_map.proofs.NeedLemmas.{need_free}
+use Rattle.buffa_map.proofs.EntryLemmas.{ImplicitField, entry_sound, entry_complete, entry_faulty}
+use Rattle.buffa_map.proofs.ChargeLemmas.{charge_free}
 use Rattle.buffa_map.proofs.PutLemmas.{SamePairs-put}
 
 -- ---- what an entry that is undeclared takes of the unknown fields left, where n of them are spent in it
@@ -47,19 +47,19 @@ extra_short : (b : Bool) (u n extra : ℕ) → b ≡ false → u < n + extra →
 extra_short b u n extra h k = rw (h, lt-ltb u (n + extra) k) refl
 
 -- ---- whether a need is left
-lacks_true : (left need : BudgetLeft) → lacks left need ≡ true → Lacks left need
-lacks_true left need h = elim (or_cases (nat_lt left.unknown need.unknown) (nat_lt left.memory need.memory) h)
-    [ inl a ↦ inl (ltb-true left.unknown need.unknown a) | inr b ↦ inr (ltb-true left.memory need.memory b) ]
+lacks_true : (left charge : BudgetLeft) → lacks left charge ≡ true → Lacks left charge
+lacks_true left charge h = elim (or_cases (nat_lt left.unknown charge.unknown) (nat_lt left.memory charge.memory) h)
+    [ inl a ↦ inl (ltb-true left.unknown charge.unknown a) | inr b ↦ inr (ltb-true left.memory charge.memory b) ]
 
-lacks_false : (left need : BudgetLeft) → lacks left need ≡ false → (need.unknown ≤ left.unknown) × (need.memory ≤ left.memory)
-lacks_false left need h = let n = or_parts (nat_lt left.unknown need.unknown) (nat_lt left.memory need.memory) h in (ltb-false left.unknown need.unknown n.0, ltb-false left.memory need.memory n.1)
+lacks_false : (left charge : BudgetLeft) → lacks left charge ≡ false → (charge.unknown ≤ left.unknown) × (charge.memory ≤ left.memory)
+lacks_false left charge h = let n = or_parts (nat_lt left.unknown charge.unknown) (nat_lt left.memory charge.memory) h in (ltb-false left.unknown charge.unknown n.0, ltb-false left.memory charge.memory n.1)
 
-lacks_some : (left need : BudgetLeft) → Lacks left need → lacks left need ≡ true
-lacks_some left need (inl h) = rw (lt-ltb left.unknown need.unknown h) refl
-lacks_some left need (inr h) = rw (lt-ltb left.memory need.memory h) (or_right (nat_lt left.unknown need.unknown) true refl)
+lacks_some : (left charge : BudgetLeft) → Lacks left charge → lacks left charge ≡ true
+lacks_some left charge (inl h) = rw (lt-ltb left.unknown charge.unknown h) refl
+lacks_some left charge (inr h) = rw (lt-ltb left.memory charge.memory h) (or_right (nat_lt left.unknown charge.unknown) true refl)
 
-lacks_none : (left need : BudgetLeft) → need.unknown ≤ left.unknown → need.memory ≤ left.memory → lacks left need ≡ false
-lacks_none left need h k = rw (le-ltb left.unknown need.unknown h, le-ltb left.memory need.memory k) refl
+lacks_none : (left charge : BudgetLeft) → charge.unknown ≤ left.unknown → charge.memory ≤ left.memory → lacks left charge ≡ false
+lacks_none left charge h k = rw (le-ltb left.unknown charge.unknown h, le-ltb left.memory charge.memory k) refl
 
 either : (b : Bool) {P : Type 0} → (b ≡ true → P) → (b ≡ false → P) → P
 either true h k = h refl
@@ -120,29 +120,29 @@ module _ {K V : Type 0} (key : Reading K) (val : Reading V) (d n : ℕ) where
     abbrev pub SaidAt : List ℕ → EntryRecord K V × List ℕ → Type 0
     SaidAt bs x =
         (r : List ℕ) × IsRecord key val d n r x.0 × (bs ≡ r ++ x.1)
-        × ((need_of key val d cost x.0.bytes).memory ≤ left.memory) × ((need_of key val d cost x.0.bytes).unknown + cond x.0.parts.known 0 extra ≤ left.unknown)
+        × ((charge_of key val d cost x.0.bytes).memory ≤ left.memory) × ((charge_of key val d cost x.0.bytes).unknown + cond x.0.parts.known 0 extra ≤ left.unknown)
 
     -- the entry of a length
     abbrev InEntry : List ℕ → MapEntry K V → Type 0
-    InEntry e s = IsEntry key val d e s × ((need_of key val d cost e).memory ≤ left.memory) × ((need_of key val d cost e).unknown + cond s.known 0 extra ≤ left.unknown)
+    InEntry e s = IsEntry key val d e s × ((charge_of key val d cost e).memory ≤ left.memory) × ((charge_of key val d cost e).unknown + cond s.known 0 extra ≤ left.unknown)
 
     abbrev pub InFault : List ℕ → DecodeError → Type 0
     InFault e f = ((left.memory < cost) × (f ≡ ElementMemoryLimitExceeded))
-        ⊎ ((cost ≤ left.memory) × (Lacks left (need_of key val d cost e) ⊎ (FaultOf key val d e f
-        ⊎ ((s : MapEntry K V) × IsEntry key val d e s × (s.known ≡ false) × (left.unknown < (need_of key val d cost e).unknown + extra) × (f ≡ UnknownFieldLimitExceeded)))))
+        ⊎ ((cost ≤ left.memory) × (Lacks left (charge_of key val d cost e) ⊎ (FaultOf key val d e f
+        ⊎ ((s : MapEntry K V) × IsEntry key val d e s × (s.known ≡ false) × (left.unknown < (charge_of key val d cost e).unknown + extra) × (f ≡ UnknownFieldLimitExceeded)))))
 
-    in_lacks : (e : List ℕ) → Lacks left (need_of key val d cost e) → InFault e ElementMemoryLimitExceeded
+    in_lacks : (e : List ℕ) → Lacks left (charge_of key val d cost e) → InFault e ElementMemoryLimitExceeded
     in_lacks e h = elim (cases_lt left.memory cost) [ inl less ↦ inl (less, refl) | inr many ↦ inr (omega (arith, many), inl h) ]
 
     in_sound : (e : List ℕ) → Agrees (entry_in key val d cost extra left e) (InEntry e) (InFault e)
-    in_sound e = agree_if (lacks left (need_of key val d cost e))
-        (λ few. record { holds = in_lacks e (lacks_true left (need_of key val d cost e) few) })
-        (λ many. let room = lacks_false left (need_of key val d cost e) many in
+    in_sound e = agree_if (lacks left (charge_of key val d cost e))
+        (λ few. record { holds = in_lacks e (lacks_true left (charge_of key val d cost e) few) })
+        (λ many. let room = lacks_false left (charge_of key val d cost e) many in
         let units : cost ≤ left.memory = omega (arith, room.1) in
         agree_bind (entry_sound key val d e)
-        (λ s entry. agree_if (not s.known && nat_lt left.unknown ((need_of key val d cost e).unknown + extra))
-        (λ few. let h = extra_few s.known left.unknown (need_of key val d cost e).unknown extra few in record { holds = inr (units, inr (inr (s, entry, h.0, h.1, refl))) })
-        (λ some. record { holds = (entry, room.1, extra_many s.known left.unknown (need_of key val d cost e).unknown extra room.0 some) }))
+        (λ s entry. agree_if (not s.known && nat_lt left.unknown ((charge_of key val d cost e).unknown + extra))
+        (λ few. let h = extra_few s.known left.unknown (charge_of key val d cost e).unknown extra few in record { holds = inr (units, inr (inr (s, entry, h.0, h.1, refl))) })
+        (λ some. record { holds = (entry, room.1, extra_many s.known left.unknown (charge_of key val d cost e).unknown extra room.0 some) }))
         (λ f broken. inr (units, inr (inl broken))))
 
     pub said_sound : (bs : List ℕ) → Agrees (record_at key val d n cost extra left bs) (SaidAt bs) (RecordFault key val d n cost extra left bs)
@@ -167,34 +167,34 @@ module _ {K V : Type 0} (key : Reading K) (val : Reading V) (d n : ℕ) where
         (λ other. record { holds = inr (inl (t.0, t.1, t.2, u, eqb-false t.0 n other, refl)) }))
         (λ f h. inl h)
 
-    pub said_complete : (r rest : List ℕ) (x : EntryRecord K V) → (need_of key val d cost x.bytes).memory ≤ left.memory → (need_of key val d cost x.bytes).unknown + cond x.parts.known 0 extra ≤ left.unknown → IsRecord key val d n r x →
+    pub said_complete : (r rest : List ℕ) (x : EntryRecord K V) → (charge_of key val d cost x.bytes).memory ≤ left.memory → (charge_of key val d cost x.bytes).unknown + cond x.parts.known 0 extra ≤ left.unknown → IsRecord key val d n r x →
         record_at key val d n cost extra left (r ++ rest) ≡ Ok (x, rest)
     said_complete r rest x many slots (t, l, tag, v, e, entry) =
         let split : r ++ rest ≡ t ++ (l ++ (x.bytes ++ rest)) = ap (λ z. z ++ rest) e ∙ append_assoc t (l ++ x.bytes) rest ∙ ap (λ z. t ++ z) (append_assoc l x.bytes rest) in
-        let room = lacks_none left (need_of key val d cost x.bytes) (omega (arith, slots)) many in
-        let inside : entry_in key val d cost extra left x.bytes ≡ Ok x.parts = rw (room, entry_complete key val d x.bytes x.parts entry, extra_test x.parts.known left.unknown (need_of key val d cost x.bytes).unknown extra slots) refl in
+        let room = lacks_none left (charge_of key val d cost x.bytes) (omega (arith, slots)) many in
+        let inside : entry_in key val d cost extra left x.bytes ≡ Ok x.parts = rw (room, entry_complete key val d x.bytes x.parts entry, extra_test x.parts.known left.unknown (charge_of key val d cost x.bytes).unknown extra slots) refl in
         rw (split, tag_complete t n LengthDelimited (l ++ (x.bytes ++ rest)) tag, eq-eqb n n refl, delimited_complete l x.bytes rest v, inside) refl
 
-    module _ (key_free : key.nested ≡ false → (d : ℕ) (c : Content) → key.cost d c ≡ nothing) (val_free : val.nested ≡ false → (d : ℕ) (c : Content) → val.cost d c ≡ nothing) where
+    module _ (key_free : key.nested ≡ false → (d : ℕ) (c : PayloadValue) → key.cost d c ≡ nothing) (val_free : val.nested ≡ false → (d : ℕ) (c : PayloadValue) → val.cost d c ≡ nothing) where
       -- where no payload is nested, the units are all that is needed
-      not_lacking : (e : List ℕ) {Q : Type 0} → cost ≤ left.memory → Lacks left (need_of key val d cost e) → Plain key val d → Q
-      not_lacking e many (inl few) p = let none = need_free key val d key_free val_free (blanks key val d) e p in absurd (omega (arith, few, ap (λ (z : BudgetLeft). z.unknown) none))
-      not_lacking e many (inr few) p = let none = need_free key val d key_free val_free (blanks key val d) e p in absurd (omega (arith, many, few, ap (λ (z : BudgetLeft). z.memory) none))
+      not_lacking : (e : List ℕ) {Q : Type 0} → cost ≤ left.memory → Lacks left (charge_of key val d cost e) → ImplicitField key val d → Q
+      not_lacking e many (inl few) p = let none = charge_free key val d key_free val_free (blanks key val d) e p in absurd (omega (arith, few, ap (λ (z : BudgetLeft). z.unknown) none))
+      not_lacking e many (inr few) p = let none = charge_free key val d key_free val_free (blanks key val d) e p in absurd (omega (arith, many, few, ap (λ (z : BudgetLeft). z.memory) none))
 
-      in_none : (e : List ℕ) (f : DecodeError) → cost ≤ left.memory → Lacks left (need_of key val d cost e) → Answers (Plain key val d) (entry_in key val d cost extra left e) f
-      in_none e f many h = (ElementMemoryLimitExceeded, rw (lacks_some left (need_of key val d cost e) h) refl, λ p. not_lacking e many h p)
+      in_none : (e : List ℕ) (f : DecodeError) → cost ≤ left.memory → Lacks left (charge_of key val d cost e) → Answers (ImplicitField key val d) (entry_in key val d cost extra left e) f
+      in_none e f many h = (ElementMemoryLimitExceeded, rw (lacks_some left (charge_of key val d cost e) h) refl, λ p. not_lacking e many h p)
 
-      pub in_faulty : (e : List ℕ) (f : DecodeError) → InFault e f → Answers (Plain key val d) (entry_in key val d cost extra left e) f
-      in_faulty e f (inl (few, is)) = let h : Lacks left (need_of key val d cost e) = inr (omega (arith, few)) in answer (rw (lacks_some left (need_of key val d cost e) h) (ap (λ z. Err z) (sym is)))
+      pub in_faulty : (e : List ℕ) (f : DecodeError) → InFault e f → Answers (ImplicitField key val d) (entry_in key val d cost extra left e) f
+      in_faulty e f (inl (few, is)) = let h : Lacks left (charge_of key val d cost e) = inr (omega (arith, few)) in answer (rw (lacks_some left (charge_of key val d cost e) h) (ap (λ z. Err z) (sym is)))
       in_faulty e f (inr (many, inl h)) = in_none e f many h
-      in_faulty e f (inr (many, inr (inl h))) = either (lacks left (need_of key val d cost e))
-          (λ few. in_none e f many (lacks_true left (need_of key val d cost e) few))
+      in_faulty e f (inr (many, inr (inl h))) = either (lacks left (charge_of key val d cost e))
+          (λ few. in_none e f many (lacks_true left (charge_of key val d cost e) few))
           (λ room. answers_as (λ x k. rw (room, k) refl) (entry_faulty key val d e f h))
-      in_faulty e f (inr (many, inr (inr (s, entry, no_value, few, is)))) = either (lacks left (need_of key val d cost e))
-          (λ less. in_none e f many (lacks_true left (need_of key val d cost e) less))
-          (λ room. answer (rw (room, entry_complete key val d e s entry, extra_short s.known left.unknown (need_of key val d cost e).unknown extra no_value few) (ap (λ z. Err z) (sym is))))
+      in_faulty e f (inr (many, inr (inr (s, entry, no_value, few, is)))) = either (lacks left (charge_of key val d cost e))
+          (λ less. in_none e f many (lacks_true left (charge_of key val d cost e) less))
+          (λ room. answer (rw (room, entry_complete key val d e s entry, extra_short s.known left.unknown (charge_of key val d cost e).unknown extra no_value few) (ap (λ z. Err z) (sym is))))
 
-      pub said_faulty : (bs : List ℕ) (f : DecodeError) → RecordFault key val d n cost extra left bs f → Answers (Plain key val d) (record_at key val d n cost extra left bs) f
+      pub said_faulty : (bs : List ℕ) (f : DecodeError) → RecordFault key val d n cost extra left bs f → Answers (ImplicitField key val d) (record_at key val d n cost extra left bs) f
       said_faulty bs f (inl h) = answer (rw (tag_faulty bs f h) refl)
       said_faulty bs f (inr (inl (g, w, rest, t, other, is))) = answer (rw (tag_read bs rest g w t, ne_eqb g n other) (ap (λ z. Err z) (sym is)))
       said_faulty bs f (inr (inr (inl (w, rest, t, other, is)))) = answer (rw (tag_read bs rest n w t, eq-eqb n n refl, check_differs n LengthDelimited w other) (ap (λ z. Err z) (sym is)))
@@ -212,8 +212,8 @@ module _ {K V : Type 0} (key : Reading K) (val : Reading V) (d n : ℕ) where
 
     abbrev Longer : Paying → List ℕ → Paying → Type 0
     Longer s r t =
-        (x : EntryRecord K V) × IsRecord key val d n r x × (t.0 ≡ s.0 ++ x ∷ []) × (t.1.memory + (need_of key val d cost x.bytes).memory ≡ s.1.memory)
-        × (t.1.unknown + ((need_of key val d cost x.bytes).unknown + cond x.parts.known 0 extra) ≡ s.1.unknown)
+        (x : EntryRecord K V) × IsRecord key val d n r x × (t.0 ≡ s.0 ++ x ∷ []) × (t.1.memory + (charge_of key val d cost x.bytes).memory ≡ s.1.memory)
+        × (t.1.unknown + ((charge_of key val d cost x.bytes).unknown + cond x.parts.known 0 extra) ≡ s.1.unknown)
 
     abbrev Broken : Paying → List ℕ → DecodeError → Type 0
     Broken s bs f = RecordFault key val d n cost extra s.1 bs f
@@ -223,8 +223,8 @@ module _ {K V : Type 0} (key : Reading K) (val : Reading V) (d n : ℕ) where
 
     next_complete : (s t : Paying) (r rest : List ℕ) → Longer s r t → next_record key val d n cost extra s (r ++ rest) ≡ Ok (t, rest)
     next_complete s t r rest (x, h, e, paid, slots) =
-        let memory : s.1.memory - (need_of key val d cost x.bytes).memory ≡ t.1.memory = omega (arith, paid) in
-        let unknown : s.1.unknown - ((need_of key val d cost x.bytes).unknown + cond x.parts.known 0 extra) ≡ t.1.unknown = omega (arith, slots) in
+        let memory : s.1.memory - (charge_of key val d cost x.bytes).memory ≡ t.1.memory = omega (arith, paid) in
+        let unknown : s.1.unknown - ((charge_of key val d cost x.bytes).unknown + cond x.parts.known 0 extra) ≡ t.1.unknown = omega (arith, slots) in
         let same : (let made : Paying = (s.0 ++ x ∷ [], after_entry key val d cost extra s.1 x) in made ≡ t) = (λ i. (sym e i, record { unknown = unknown i; memory = memory i })) in
         rw (said_complete cost extra s.1 r rest x (omega (arith, paid)) (omega (arith, slots)) h) (ap (λ z. Ok (z, rest)) same)
 
@@ -259,12 +259,12 @@ module _ {K V : Type 0} (key : Reading K) (val : Reading V) (d n : ℕ) where
     abbrev pub WholeRun : BudgetLeft → List ℕ → Paying → Type 0
     WholeRun left bs t = Run key val d n bs t.0 × ArePaid key val d cost extra left t.0 t.1
 
-    module _ (key_free : key.nested ≡ false → (d : ℕ) (c : Content) → key.cost d c ≡ nothing) (val_free : val.nested ≡ false → (d : ℕ) (c : Content) → val.cost d c ≡ nothing) where
-      next_faulty : (s : Paying) (bs : List ℕ) (f : DecodeError) → Broken s bs f → Answers (Plain key val d) (next_record key val d n cost extra s bs) f
+    module _ (key_free : key.nested ≡ false → (d : ℕ) (c : PayloadValue) → key.cost d c ≡ nothing) (val_free : val.nested ≡ false → (d : ℕ) (c : PayloadValue) → val.cost d c ≡ nothing) where
+      next_faulty : (s : Paying) (bs : List ℕ) (f : DecodeError) → Broken s bs f → Answers (ImplicitField key val d) (next_record key val d n cost extra s bs) f
       next_faulty s bs f h = answers_as (λ x k. rw k refl) (said_faulty cost extra s.1 key_free val_free bs f h)
 
       pub run_sound : (left : BudgetLeft) (bs : List ℕ) → Agrees (run_of key val d n cost extra left bs) (WholeRun left bs) (RunFault key val d n cost extra left bs)
-      run_sound left bs = agree_weaker (along_sound Longer (next_record key val d n cost extra) Broken next_sound next_complete (Plain key val d) next_faulty next_some ([], left) bs)
+      run_sound left bs = agree_weaker (along_sound Longer (next_record key val d n cost extra) Broken next_sound next_complete (ImplicitField key val d) next_faulty next_some ([], left) bs)
           (λ t h. let i = run_of_pieces h.0 ([], left) t h.2 in
           (subst (λ z. Run key val d n bs z) (sym i.2) (subst (λ z. Run key val d n z i.0) (sym (h.1 ∙ append-nil (join h.0))) i.1), subst (λ z. ArePaid key val d cost extra left z t.1) (sym i.2) i.3))
           (λ f h. let i = run_of_pieces h.2.0 ([], left) h.0 h.2.2 in
@@ -273,18 +273,18 @@ module _ {K V : Type 0} (key : Reading K) (val : Reading V) (d n : ℕ) where
       pub run_complete : (left : BudgetLeft) (bs : List ℕ) (es : List (EntryRecord K V)) (over : BudgetLeft) → Run key val d n bs es → ArePaid key val d cost extra left es over → run_of key val d n cost extra left bs ≡ Ok (es, over)
       run_complete left bs es over h paid =
           let i = pieces_of_run bs ([], left) es over h paid in
-          along_complete Longer (next_record key val d n cost extra) Broken next_sound next_complete (Plain key val d) next_faulty next_some ([], left) (es, over) bs (i.0, i.1 ∙ sym (append-nil (join i.0)), i.2)
+          along_complete Longer (next_record key val d n cost extra) Broken next_sound next_complete (ImplicitField key val d) next_faulty next_some ([], left) (es, over) bs (i.0, i.1 ∙ sym (append-nil (join i.0)), i.2)
 
-      pub run_faulty : (left : BudgetLeft) (bs : List ℕ) (f : DecodeError) → RunFault key val d n cost extra left bs f → Answers (Plain key val d) (run_of key val d n cost extra left bs) f
+      pub run_faulty : (left : BudgetLeft) (bs : List ℕ) (f : DecodeError) → RunFault key val d n cost extra left bs f → Answers (ImplicitField key val d) (run_of key val d n cost extra left bs) f
       run_faulty left bs f (es, rest, over, (front, e, h, paid), some, broken) =
           let i = pieces_of_run front ([], left) es over h paid in
-          along_faulty Longer (next_record key val d n cost extra) Broken next_sound next_complete (Plain key val d) next_faulty next_some ([], left) bs f ((es, over), rest, (i.0, e ∙ ap (λ z. z ++ rest) i.1, i.2), some, broken)
+          along_faulty Longer (next_record key val d n cost extra) Broken next_sound next_complete (ImplicitField key val d) next_faulty next_some ([], left) bs f ((es, over), rest, (i.0, e ∙ ap (λ z. z ++ rest) i.1, i.2), some, broken)
 
 -- what no payload of which is nested costs is the units
-pub inner_free : {K V : Type 0} (key : Reading K) (val : Reading V) (d : ℕ) → (key.nested ≡ false → (d : ℕ) (c : Content) → key.cost d c ≡ nothing) → (val.nested ≡ false → (d : ℕ) (c : Content) → val.cost d c ≡ nothing) →
-    (es : List (EntryRecord K V)) → Plain key val d → cost_inside key val d es ≡ nothing
+pub inner_free : {K V : Type 0} (key : Reading K) (val : Reading V) (d : ℕ) → (key.nested ≡ false → (d : ℕ) (c : PayloadValue) → key.cost d c ≡ nothing) → (val.nested ≡ false → (d : ℕ) (c : PayloadValue) → val.cost d c ≡ nothing) →
+    (es : List (EntryRecord K V)) → ImplicitField key val d → cost_inside key val d es ≡ nothing
 inner_free key val d key_free val_free [] p = refl
-inner_free key val d key_free val_free (x ∷ xs) p = rw (need_free key val d key_free val_free (blanks key val d) x.bytes p, inner_free key val d key_free val_free xs p) refl
+inner_free key val d key_free val_free (x ∷ xs) p = rw (charge_free key val d key_free val_free (blanks key val d) x.bytes p, inner_free key val d key_free val_free xs p) refl
 
 -- ---- what a run means
 pub fold_entries-append : {K V : Type 0} (eq : K → K → Bool) (m : List (K × V)) (es fs : List (EntryRecord K V)) → fold_entries eq m (es ++ fs) ≡ fold_entries eq (fold_entries eq m es) fs
@@ -326,27 +326,27 @@ undeclared_records-last n es x =
     let last : List (List ℕ) = cond x.parts.known [] (x.bytes ∷ []) in
     ap (map (λ k. (n, bytes k))) (undeclared-append es (x ∷ [])) ∙ map-append (λ k. (n, bytes k)) (undeclared es) last ∙ ap (λ z. undeclared_records n es ++ z) (record_last n x.parts.known x.bytes)
 
-pub none_kept : (keeps : Bool) (records : List (ℕ × Datum)) → records ≡ records ++ (if keeps then [] else [])
+pub none_kept : (keeps : Bool) (records : List (ℕ × FieldData)) → records ≡ records ++ (if keeps then [] else [])
 none_kept true records = sym (append-nil records)
 none_kept false records = sym (append-nil records)
 
-kept_too : (keeps : Bool) (a b c all one last : List (ℕ × Datum)) → last ≡ all ++ one → b ≡ a ++ (if keeps then all else []) → c ≡ b ++ (if keeps then one else []) → c ≡ a ++ (if keeps then last else [])
+kept_too : (keeps : Bool) (a b c all one last : List (ℕ × FieldData)) → last ≡ all ++ one → b ≡ a ++ (if keeps then all else []) → c ≡ b ++ (if keeps then one else []) → c ≡ a ++ (if keeps then last else [])
 kept_too true a b c all one last is h k = k ∙ ap (λ z. z ++ one) h ∙ append_assoc a all one ∙ ap (λ z. a ++ z) (sym is)
 kept_too false a b c all one last is h k = k ∙ append-nil b ∙ h
 
-pub kept-more : {K V : Type 0} (r : Rules K V) (a b c : List (ℕ × Datum)) (es : List (EntryRecord K V)) (x : EntryRecord K V) → b ≡ a ++ kept_of_run r es → c ≡ b ++ kept_of_entry r x.bytes x.parts → c ≡ a ++ kept_of_run r (es ++ x ∷ [])
+pub kept-more : {K V : Type 0} (r : Rules K V) (a b c : List (ℕ × FieldData)) (es : List (EntryRecord K V)) (x : EntryRecord K V) → b ≡ a ++ kept_of_run r es → c ≡ b ++ kept_of_entry r x.bytes x.parts → c ≡ a ++ kept_of_run r (es ++ x ∷ [])
 kept-more r a b c es x h k =
     kept_too r.keeps_undeclared a b c (undeclared_records r.number es) (undeclared_record r.number x.bytes x.parts.known) (undeclared_records r.number (es ++ x ∷ [])) (undeclared_records-last r.number es x) h k
 
 -- ---- one entry more is paid
 cost_inside-last : {K V : Type 0} (key : Reading K) (val : Reading V) (d : ℕ) (xs : List (EntryRecord K V)) (x : EntryRecord K V) →
-    ((cost_inside key val d (xs ++ x ∷ [])).memory ≡ (cost_inside key val d xs).memory + (need_at key val d (blanks key val d) x.bytes).memory)
-    × ((cost_inside key val d (xs ++ x ∷ [])).unknown ≡ (cost_inside key val d xs).unknown + (need_at key val d (blanks key val d) x.bytes).unknown)
+    ((cost_inside key val d (xs ++ x ∷ [])).memory ≡ (cost_inside key val d xs).memory + (charge_at key val d (blanks key val d) x.bytes).memory)
+    × ((cost_inside key val d (xs ++ x ∷ [])).unknown ≡ (cost_inside key val d xs).unknown + (charge_at key val d (blanks key val d) x.bytes).unknown)
 cost_inside-last key val d [] x = (omega arith, omega arith)
 cost_inside-last key val d (y ∷ xs) x = let i = cost_inside-last key val d xs x in (omega (arith, i.0), omega (arith, i.1))
 
 pub Paid-more : {K V : Type 0} (key : Reading K) (val : Reading V) (d cost extra : ℕ) (a b c : BudgetLeft) (xs : List (EntryRecord K V)) (x : EntryRecord K V) → ArePaid key val d cost extra a xs b →
-    Pays b (plus (need_of key val d cost x.bytes) (unknown_fields (cond x.parts.known 0 extra))) c → ArePaid key val d cost extra a (xs ++ x ∷ []) c
+    Pays b (plus (charge_of key val d cost x.bytes) (unknown_fields (cond x.parts.known 0 extra))) c → ArePaid key val d cost extra a (xs ++ x ∷ []) c
 Paid-more key val d cost extra a b c xs x h k =
     let i = cost_inside-last key val d xs x in (
       rw (length-append xs (x ∷ [])) (omega (arith, h.0, k.1, i.0)),

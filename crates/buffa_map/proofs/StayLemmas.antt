@@ -7,12 +7,12 @@ use Rattle.buffa_wire.proofs.TakesLemmas.{merged_of_fields, merged_of_none}
 use Rattle.buffa_wire.proofs.ValidLemmas.{AreBytes, all_before, all_behind, as_bytes}
 use Rattle.buffa_wire.specs.Encoding.{wire_of}
 use Rattle.buffa_wire.specs.Parse.{IsPayload, Parse}
-use Rattle.buffa_wire.specs.Records.{Datum, Records, no_records, one}
+use Rattle.buffa_wire.specs.Records.{FieldData, Records, no_records, one}
 use Rattle.buffa_wire.specs.Takes.{Taker, merged_of}
 use Rattle.buffa_map.proofs.LowLemmas.{first_taken}
 
 module _ {X : Type 0} (takes : Taker X) (d : ℕ) (P : X → Type 0)
-    (keeps : (v u : X) (n : ℕ) (x : Datum) (p : List ℕ) → P v → IsNumber n → AreBytes p → IsPayload d n x p → takes d v n (wire_of x) p ≡ Some u → P u) where
+    (keeps : (v u : X) (n : ℕ) (x : FieldData) (p : List ℕ) → P v → IsNumber n → AreBytes p → IsPayload d n x p → takes d v n (wire_of x) p ≡ Some u → P u) where
   same_value : (v w : X) → (let o : Option X = Some v in o ≡ Some w) → v ≡ w
   same_value v w h = cc
 

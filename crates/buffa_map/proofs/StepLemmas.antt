@@ -8,9 +8,9 @@ use Rattle.buffa_bytes.specs.declared.error.DecodeError.{DecodeError}
 use Rattle.buffa_bytes.specs.declared.error.DecodeError.TheVariants.{UnexpectedField}
 use Rattle.buffa_bytes.specs.declared.wire_type.WireType.{WireType}
 use Rattle.buffa_bytes.specs.declared.wire_type.WireType.TheVariants.{LengthDelimited}
-use Rattle.buffa_bytes.specs.Left.{past_no_tag}
+use Rattle.buffa_bytes.specs.Unread.{past_no_tag}
 use Rattle.buffa_bytes.proofs.SequenceLemmas.{not_nil}
-use Rattle.buffa_bytes.specs.Front.{check_wire, tag_at}
+use Rattle.buffa_bytes.specs.Readings.{check_wire, tag_at}
 use Rattle.buffa_map.specs.Merge.{MergesEntry, ReadsRun, RefusesEntry, RefusesRun, RefusesTag, Rules, State, unknown_cost}
 use Rattle.buffa_map.specs.Run.{EntryRecord}
 use Rattle.buffa_bytes.proofs.WireLemmas.{checked_same, checked_other}

@@ -7,15 +7,15 @@ use Rattle.buffa_bytes.proofs.SequenceLemmas.{ok_no_err}
 use Rattle.buffa_bytes.proofs.TailLemmas.{tail_more}
 use Rattle.buffa_bytes.proofs.WireLemmas.{check_differs, check_same}
 use Rattle.buffa_bytes.specs.Field.{TakesDelimited, TakesTag}
-use Rattle.buffa_bytes.specs.Front.{check_wire, delimited_at, tag_at}
-use Rattle.buffa_bytes.specs.Left.{past_no_delimited, past_no_tag, IsTailOf}
+use Rattle.buffa_bytes.specs.Readings.{check_wire, delimited_at, tag_at}
+use Rattle.buffa_bytes.specs.Unread.{past_no_delimited, past_no_tag, IsTailOf}
 use Rattle.buffa_bytes.specs.declared.error.DecodeError.{DecodeError}
 use Rattle.buffa_bytes.specs.declared.error.DecodeError.TheVariants.{OutOfMemory}
 use Rattle.buffa_bytes.specs.declared.wire_type.WireType.{WireType}
 use Rattle.buffa_bytes.specs.declared.wire_type.WireType.TheVariants.{LengthDelimited}
-use Rattle.buffa_wire.specs.BudgetLeft.{BudgetLeft, need_by}
+use Rattle.buffa_wire.specs.BudgetLeft.{BudgetLeft, charge_by}
 use Rattle.buffa_map.specs.Codec.{Reading}
-use Rattle.buffa_map.specs.EntryReading.{inner_need}
+use Rattle.buffa_map.specs.EntryReading.{inner_charge}
 use Rattle.buffa_map.specs.Merge.{RefusesEntry, RefusesRun, RefusesTag, Rules, State, unknown_cost}
 use Rattle.buffa_map.specs.Run.{RecordFault, RunFault}
 use Rattle.buffa_map.proofs.RunLemmas.{record_entry, record_mismatch, record_other, record_tag}
@@ -26,8 +26,8 @@ abbrev pub HasWholeRecord : ℕ → List ℕ → Type 0
 HasWholeRecord n bs = (mid : List ℕ) × (tag_at bs ≡ Ok (n, LengthDelimited, mid)) × IsOk (delimited_at mid)
 
 -- what the messages cost that are merged in the record at the front, if a tag, a length and an entry are there
-abbrev pub record_need : {K V : Type 0} → Reading K → Reading V → ℕ → List ℕ → BudgetLeft
-record_need key val d bs = need_by (tag_at bs) (λ t. inner_need key val d t.2)
+abbrev pub record_charge : {K V : Type 0} → Reading K → Reading V → ℕ → List ℕ → BudgetLeft
+record_charge key val d bs = charge_by (tag_at bs) (λ t. inner_charge key val d t.2)
 
 -- What a refused record leaves unread.
 pub record LeavesRecord (n : ℕ) (bytes : List ℕ) (f : DecodeError) (unread : List ℕ) : Type 0 where
@@ -41,11 +41,11 @@ pub record LeavesRecord (n : ℕ) (bytes : List ℕ) (f : DecodeError) (unread :
 pub record SpendsOnRecord {K V : Type 0} (r : Rules K V) (left : BudgetLeft) (bytes : List ℕ) (f : DecodeError) (left_after : BudgetLeft) : Type 0 where
   pub units : (left_after.memory ≡ left.memory)
       ⊎ ((left_after.memory + r.cost ≤ left.memory)
-      × (left.memory ≤ left_after.memory + (r.cost + (record_need r.key r.val r.depth bytes).memory)))
+      × (left.memory ≤ left_after.memory + (r.cost + (record_charge r.key r.val r.depth bytes).memory)))
   pub charged : (mid e after : List ℕ) → tag_at bytes ≡ Ok (r.number, LengthDelimited, mid) → TakesDelimited mid e after → r.cost ≤ left.memory → left_after.memory + r.cost ≤ left.memory
   pub unspent : (HasWholeRecord r.number bytes → ⊥) → left_after ≡ left
   pub most : left_after.unknown ≤ left.unknown
-  pub no_keeping : f ≢ OutOfMemory → left.unknown ≤ left_after.unknown + (record_need r.key r.val r.depth bytes).unknown
+  pub no_keeping : f ≢ OutOfMemory → left.unknown ≤ left_after.unknown + (record_charge r.key r.val r.depth bytes).unknown
 
 -- a tag that was refused is none of the field's
 not_of_field : (n : ℕ) (rest tail : List ℕ) (f : DecodeError) → RefusesTag n rest tail f → (mid : List ℕ) → tag_at rest ≡ Ok (n, LengthDelimited, mid) → ⊥
@@ -114,9 +114,9 @@ module _ {K V : Type 0} (r : Rules K V) (now new : State K V) (rest tail : List 
       })
   spends_by (inr (mid, takes, k)) =
       let found = tag_read rest mid r.number LengthDelimited takes in
-      let need : record_need r.key r.val r.depth rest ≡ inner_need r.key r.val r.depth mid = rw found refl in
-      let units = ap (λ (z : BudgetLeft). z.memory) need in
-      let taken = ap (λ (z : BudgetLeft). z.unknown) need in
+      let charge : record_charge r.key r.val r.depth rest ≡ inner_charge r.key r.val r.depth mid = rw found refl in
+      let units = ap (λ (z : BudgetLeft). z.memory) charge in
+      let taken = ap (λ (z : BudgetLeft). z.unknown) charge in
       record {
         units = elim k.spent.units [ inl e ↦ inl e | inr e ↦ inr (e.0, omega (arith, e.1, units)) ];
         charged = λ m e after is t room. k.spent.charged e after (subst (λ z. TakesDelimited z e after) (one_after rest m mid r.number r.number LengthDelimited LengthDelimited is found) t) room;

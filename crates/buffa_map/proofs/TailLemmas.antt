@@ -4,18 +4,18 @@ use Rattle.std.proofs.lemmas.Bool.{lt-ltb}
 use Rattle.std.proofs.Math.Seq.{drop-append_seam}
 use Rattle.buffa_bytes.proofs.DelimitedLemmas.{delimited_sound, delimited_taken}
 use Rattle.buffa_bytes.proofs.FieldLemmas.{ok_same, tag_sound}
-use Rattle.buffa_bytes.proofs.LeftLemmas.{no_number}
-use Rattle.buffa_bytes.proofs.LeftLemmas as at_left
+use Rattle.buffa_bytes.proofs.UnreadLemmas.{no_number}
+use Rattle.buffa_bytes.proofs.UnreadLemmas as at_left
 use Rattle.buffa_bytes.proofs.StepLemmas.{agree_ok}
 use Rattle.buffa_bytes.proofs.TailLemmas.{tail_dropped}
 use Rattle.buffa_bytes.proofs.VarintLemmas.{varint_sound}
-use Rattle.buffa_bytes.specs.Left.{past_no_delimited, past_no_tag, past_no_varint, IsTailOf}
+use Rattle.buffa_bytes.specs.Unread.{past_no_delimited, past_no_tag, past_no_varint, IsTailOf}
 use Rattle.buffa_bytes.specs.declared.error.DecodeError.{DecodeError}
 use Rattle.buffa_bytes.specs.declared.error.DecodeError.TheVariants.{UnexpectedEof}
 use Rattle.buffa_bytes.proofs.LendLemmas.{delimited_front}
 use Rattle.buffa_bytes.specs.declared.wire_type.WireType.{WireType}
 use Rattle.buffa_bytes.specs.Field.{TagFault, TakesDelimited, TakesTag}
-use Rattle.buffa_bytes.specs.Front.{taken, varint_at, delimited_at, tag_at}
+use Rattle.buffa_bytes.specs.Readings.{taken, varint_at, delimited_at, tag_at}
 
 pub tail_behind : (front rest all : List ℕ) → all ≡ front ++ rest → IsTailOf rest all
 tail_behind front rest all e = tail_dropped (length front) all rest (sym (ap (drop (length front)) e ∙ drop-append_seam front rest))

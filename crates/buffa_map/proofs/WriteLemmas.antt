@@ -10,7 +10,7 @@ use Rattle.buffa_bytes.specs.declared.error.EncodeError.TheVariants.{MessageTooL
 use Rattle.buffa_bytes.proofs.ListLemmas.{AllByRecursion-last}
 use Rattle.buffa_bytes.proofs.SinkLemmas.{front_first, front_second, room_then}
 use Rattle.buffa_wire.proofs.ByValueLemmas.{ByValue, length_cut, length_last, write_last}
-use Rattle.buffa_wire.specs.Records.{Datum}
+use Rattle.buffa_wire.specs.Records.{FieldData}
 use Rattle.buffa_wire.specs.Encoding as records
 use Rattle.buffa_map.specs.Codec.{Writing}
 use Rattle.buffa_map.specs.Pairs.{means}
@@ -115,7 +115,7 @@ module _ {K W A B : Type 0} (mk : A → K) (mv : B → W) (key : Writing K) (val
       rw whole ((s.2, s.4), s.3, s.5)
 
 -- ---- a map, and kept records behind it
-module _ {K W : Type 0} (key : Writing K) (val : Writing W) (n : ℕ) (kept : List (ℕ × Datum)) where
+module _ {K W : Type 0} (key : Writing K) (val : Writing W) (n : ℕ) (kept : List (ℕ × FieldData)) where
   rewrite_stops : (old new : List ℕ) (l : List (K × W)) (e : EncodeError) → RefusesField key val n old new l e → RefusesRewrite key val n kept old new l e
   rewrite_stops old new l OutOfMemory w = inl w
   rewrite_stops old new l MessageTooLarge w = w

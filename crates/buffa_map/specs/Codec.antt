@@ -1,9 +1,9 @@
 -- What a codec makes of payloads and of values.
 use Rattle.std.specs.Prelude.{◌≡◌, ◌↔◌, ℕ, zero, suc, ◌⊎◌, Bool, true, false, List, [], Option, Result, Ok, Err, IsOk, MatchResult}
-use Rattle.buffa_bytes.specs.Front.{◌>>=◌}
-use Rattle.buffa_bytes.specs.Content.{Content, TakesContent, ContentFault, content_at}
-use Rattle.buffa_bytes.specs.Content.Content.{bytes}
-use Rattle.buffa_wire.specs.BudgetLeft.{BudgetLeft, Lacks, Pays, PaysAtMost, need_by, IsLimit}
+use Rattle.buffa_bytes.specs.Readings.{◌>>=◌}
+use Rattle.buffa_bytes.specs.PayloadValue.{PayloadValue, TakesPayloadValue, PayloadValueFault, payload_value_at}
+use Rattle.buffa_bytes.specs.PayloadValue.PayloadValue.{bytes}
+use Rattle.buffa_wire.specs.BudgetLeft.{BudgetLeft, Lacks, Pays, PaysAtMost, charge_by, IsLimit}
 use Rattle.buffa_bytes.specs.declared.wire_type.WireType.{WireType}
 use Rattle.buffa_bytes.specs.declared.error.DecodeError.{DecodeError}
 use Rattle.buffa_bytes.specs.declared.error.DecodeError.TheVariants.{RecursionLimitExceeded}
@@ -18,15 +18,15 @@ use Rattle.buffa_map.specs.declared.codec.MapValueDecodeStatus.TheVariants.{Know
 pub record Reading (V : Type 0) : Type 0 where
   pub blank : V
   pub wire : WireType
-  pub reads : ℕ → V → Content → Result (V × Bool) DecodeError
+  pub reads : ℕ → V → PayloadValue → Result (V × Bool) DecodeError
   pub nested : Bool
   pub undeclared : Bool
   pub takes_memory : Bool
-  pub cost : ℕ → Content → BudgetLeft
+  pub cost : ℕ → PayloadValue → BudgetLeft
 
 -- what it reads is always a declared value
 abbrev pub AlwaysDeclared : {V : Type 0} → Reading V → Type 0
-AlwaysDeclared {V} codec = (d : ℕ) (old : V) (c : Content) (new : V) (known : Bool) → codec.reads d old c ≡ Ok (new, known) → known ≡ true
+AlwaysDeclared {V} codec = (d : ℕ) (old : V) (c : PayloadValue) (new : V) (known : Bool) → codec.reads d old c ≡ Ok (new, known) → known ≡ true
 
 -- how a codec writes: the wire type, and the encoding of a value
 pub record Writing (V : Type 0) : Type 0 where
@@ -43,25 +43,25 @@ level true (suc d) = Ok tt
 abbrev pub value_at : {V : Type 0} → Reading V → ℕ → V → List ℕ → Result ((V × Bool) × List ℕ) DecodeError
 value_at codec d old bs = do
   _ ← level codec.nested d
-  c ← content_at codec.wire bs
+  c ← payload_value_at codec.wire bs
   v ← codec.reads d old c.0
   Ok (v, c.1)
 
 -- where reading the payload at the front takes memory: the codec takes it, a level is left, and a whole payload is there
 abbrev pub ReadingTakesMemory : {V : Type 0} → Reading V → ℕ → List ℕ → Type 0
-ReadingTakesMemory codec d bs = (codec.takes_memory ≡ true) × (level codec.nested d ≡ Ok tt) × IsOk (content_at codec.wire bs)
+ReadingTakesMemory codec d bs = (codec.takes_memory ≡ true) × (level codec.nested d ≡ Ok tt) × IsOk (payload_value_at codec.wire bs)
 
 -- a level is left, and a whole payload is at the front
 abbrev pub IsWhole : {V : Type 0} → Reading V → ℕ → List ℕ → Type 0
-IsWhole codec d bs = (level codec.nested d ≡ Ok tt) × IsOk (content_at codec.wire bs)
+IsWhole codec d bs = (level codec.nested d ≡ Ok tt) × IsOk (payload_value_at codec.wire bs)
 
 -- the codec takes memory, a level is left, and a payload of no bytes is at the front
 abbrev pub HoldsNothing : {V : Type 0} → Reading V → ℕ → List ℕ → Type 0
-HoldsNothing codec d bs = (codec.takes_memory ≡ true) × (level codec.nested d ≡ Ok tt) × (rest : List ℕ) × (content_at codec.wire bs ≡ Ok (bytes [], rest))
+HoldsNothing codec d bs = (codec.takes_memory ≡ true) × (level codec.nested d ≡ Ok tt) × (rest : List ℕ) × (payload_value_at codec.wire bs ≡ Ok (bytes [], rest))
 
 -- what the payload at the front costs, if there is one
-abbrev pub value_need : {V : Type 0} → Reading V → ℕ → List ℕ → BudgetLeft
-value_need codec d bs = need_by (content_at codec.wire bs) (λ c. codec.cost d c.0)
+abbrev pub value_charge : {V : Type 0} → Reading V → ℕ → List ℕ → BudgetLeft
+value_charge codec d bs = charge_by (payload_value_at codec.wire bs) (λ c. codec.cost d c.0)
 
 -- the errors that are returned for a fault: itself, and of one inside a nested payload any but the two of a budget (`IsLimit`)
 abbrev pub Tells : Bool → DecodeError → DecodeError → Type 0
@@ -72,21 +72,21 @@ Tells true x e = (e ≡ x) ⊎ (IsLimit e → ⊥)
 abbrev pub ValueFault : {V : Type 0} → Reading V → ℕ → V → List ℕ → DecodeError → Type 0
 ValueFault codec d old bs e =
     (level codec.nested d ≡ Err e)
-    ⊎ (((level codec.nested d ≡ Ok tt) × ContentFault codec.wire bs e)
-    ⊎ ((level codec.nested d ≡ Ok tt) × (c : Content) × (rest : List ℕ) × (x : DecodeError)
-    × TakesContent codec.wire bs c rest × (codec.reads d old c ≡ Err x) × Tells codec.nested x e))
+    ⊎ (((level codec.nested d ≡ Ok tt) × PayloadValueFault codec.wire bs e)
+    ⊎ ((level codec.nested d ≡ Ok tt) × (c : PayloadValue) × (rest : List ℕ) × (x : DecodeError)
+    × TakesPayloadValue codec.wire bs c rest × (codec.reads d old c ≡ Err x) × Tells codec.nested x e))
 
 -- ---- what merging a payload promises, where payloads are nested or not
 
 -- why it refuses, where left is left
 abbrev pub RefusesValue : {V : Type 0} → Bool → Reading V → ℕ → V → List ℕ → BudgetLeft → DecodeError → Type 0
 RefusesValue false codec d old bs left e = value_at codec d old bs ≡ Err e
-RefusesValue true codec d old bs left e = Lacks left (value_need codec d bs) ⊎ ValueFault codec d old bs e
+RefusesValue true codec d old bs left e = Lacks left (value_charge codec d bs) ⊎ ValueFault codec d old bs e
 
 -- what it spends: nothing; or exactly the need, and on a refusal at most that
 abbrev pub Spends : {T : Type 0} → Bool → Result T DecodeError → BudgetLeft → BudgetLeft → BudgetLeft → Type 0
-Spends false r left need over = over ≡ left
-Spends true r left need over = MatchResult r (λ _. Pays left need over) (λ _. PaysAtMost left need over)
+Spends false r left charge over = over ≡ left
+Spends true r left charge over = MatchResult r (λ _. Pays left charge over) (λ _. PaysAtMost left charge over)
 
 abbrev pub is_known : MapValueDecodeStatus → Bool
 is_known Known = true

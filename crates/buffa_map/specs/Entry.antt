@@ -2,25 +2,25 @@
 -- Source: the protobuf encoding guide, "Maps".
 use Rattle.std.specs.Prelude.{◌≡◌, ◌≢◌, ℕ, ◌+◌, ◌<◌, ◌≤◌, Bool, false, List, [], ◌++◌, ◌⊎◌, Ok}
 use Rattle.buffa_bytes.specs.Field.{IsTag, Field, TakesDelimited, TakesTag, TagFault, LengthFault, PayloadFault}
-use Rattle.buffa_bytes.specs.Content.{Content, HasContent}
+use Rattle.buffa_bytes.specs.PayloadValue.{PayloadValue, HasPayloadValue}
 use Rattle.buffa_bytes.specs.Scan.{ParsesTo, ParseStops}
 use Rattle.buffa_bytes.specs.declared.wire_type.WireType.{WireType}
 use Rattle.buffa_bytes.specs.declared.error.DecodeError.{DecodeError}
 use Rattle.buffa_bytes.specs.declared.error.DecodeError.TheVariants.{ElementMemoryLimitExceeded, UnknownFieldLimitExceeded, WireTypeMismatch, OutOfMemory}
 use Rattle.buffa_wire.specs.BudgetLeft.{BudgetLeft, Lacks, Pays, PaysAtMost}
 use Rattle.buffa_map.specs.Codec.{Reading, ValueFault, level, ReadingTakesMemory}
-use Rattle.buffa_map.specs.EntryReading.{blanks, entry_field_at, field_need, need_at, need_of}
+use Rattle.buffa_map.specs.EntryReading.{blanks, entry_field_at, field_charge, charge_at, charge_of}
 use Rattle.buffa_map.specs.declared.map_entry.MapEntry.{MapEntry}
 
 -- what the parts of an entry mean
-abbrev pub meant_entry : {K V A B : Type 0} → (K → A) → (V → B) → MapEntry K V → MapEntry A B
-meant_entry f g s = record { key = f s.key; value = g s.value; known = s.known }
+abbrev pub entry_meaning : {K V A B : Type 0} → (K → A) → (V → B) → MapEntry K V → MapEntry A B
+entry_meaning f g s = record { key = f s.key; value = g s.value; known = s.known }
 
 module _ {V : Type 0} (codec : Reading V) (d n : ℕ) (old : V) where
   -- f is a field of number n and the codec's wire type, for which a level is left, and which makes new of old
   abbrev pub IsCodecField : List ℕ → V → Bool → Type 0
   IsCodecField f new known =
-      (t : List ℕ) × (p : List ℕ) × (c : Content) × IsTag t n codec.wire × (level codec.nested d ≡ Ok tt) × HasContent codec.wire p c
+      (t : List ℕ) × (p : List ℕ) × (c : PayloadValue) × IsTag t n codec.wire × (level codec.nested d ≡ Ok tt) × HasPayloadValue codec.wire p c
       × (codec.reads d old c ≡ Ok (new, known)) × (f ≡ t ++ p)
 
   -- why the codec takes no payload of wire type w at the front: another wire type, or the fault of the value
@@ -67,8 +67,8 @@ module _ {K V : Type 0} (key : Reading K) (val : Reading V) (d : ℕ) where
       LengthFault bs f
       ⊎ ((e : List ℕ) × (rest : List ℕ) × TakesDelimited bs e rest
       × (((left.memory < cost) × (f ≡ ElementMemoryLimitExceeded))
-      ⊎ ((cost ≤ left.memory) × (Lacks left (need_of key val d cost e) ⊎ (FaultOf e f
-      ⊎ ((s : MapEntry K V) × IsEntry e s × (s.known ≡ false) × (left.unknown < (need_of key val d cost e).unknown + unknown_cost)
+      ⊎ ((cost ≤ left.memory) × (Lacks left (charge_of key val d cost e) ⊎ (FaultOf e f
+      ⊎ ((s : MapEntry K V) × IsEntry e s × (s.known ≡ false) × (left.unknown < (charge_of key val d cost e).unknown + unknown_cost)
       × (f ≡ UnknownFieldLimitExceeded)))))))
 
 -- ---- what merging the fields of an entry does to what was said, and to a budget
@@ -88,21 +88,21 @@ module _ {K V : Type 0} (key : Reading K) (val : Reading V) (d : ℕ) where
   -- the field at the front was merged, rest follows it, and what it costs is spent
   pub record MergesEntryField (old : MapEntry K V) (left : BudgetLeft) (bytes : List ℕ) (new : MapEntry K V) (left_after : BudgetLeft) (rest : List ℕ) : Type 0 where
     pub field : entry_field_at key val d old bytes ≡ Ok (new, rest)
-    pub pays : Pays left (field_need key val d bytes) left_after
+    pub pays : Pays left (field_charge key val d bytes) left_after
 
   -- f is why not, and out of memory only where the field takes memory; at most what the field costs is spent
   pub record RefusesEntryField (old : MapEntry K V) (left : BudgetLeft) (bytes : List ℕ) (left_after : BudgetLeft) (f : DecodeError) : Type 0 where
-    pub fault : f ≢ OutOfMemory → Lacks left (field_need key val d bytes) ⊎ EntryFieldFault key val d old bytes f
+    pub fault : f ≢ OutOfMemory → Lacks left (field_charge key val d bytes) ⊎ EntryFieldFault key val d old bytes f
     pub full : f ≡ OutOfMemory → EntryFieldTakesMemory bytes
-    pub pays : PaysAtMost left (field_need key val d bytes) left_after
+    pub pays : PaysAtMost left (field_charge key val d bytes) left_after
 
   -- the bytes are an entry that says so, and what its fields cost is spent
   pub record MergesFields (bytes : List ℕ) (left : BudgetLeft) (says : MapEntry K V) (left_after : BudgetLeft) : Type 0 where
     pub entry : IsEntry key val d bytes says
-    pub pays : Pays left (need_at key val d (blanks key val d) bytes) left_after
+    pub pays : Pays left (charge_at key val d (blanks key val d) bytes) left_after
 
   -- f is why not, and out of memory only at a field that takes memory; at most what its fields cost is spent
   pub record RefusesFields (bytes : List ℕ) (left left_after : BudgetLeft) (f : DecodeError) : Type 0 where
-    pub fault : f ≢ OutOfMemory → Lacks left (need_at key val d (blanks key val d) bytes) ⊎ FaultOf key val d bytes f
+    pub fault : f ≢ OutOfMemory → Lacks left (charge_at key val d (blanks key val d) bytes) ⊎ FaultOf key val d bytes f
     pub full : f ≡ OutOfMemory → EntryFieldsTakeMemory bytes
-    pub pays : PaysAtMost left (need_at key val d (blanks key val d) bytes) left_after
+    pub pays : PaysAtMost left (charge_at key val d (blanks key val d) bytes) left_after

@@ -1,7 +1,7 @@
 -- How enums are read and written: as an int32. Source: the protobuf language guide, "Enumerations".
 use Rattle.std.specs.Prelude.{◌≡◌, ℤ, Bool, true, false, cond, pos, Ok, FitsSigned, Option}
 use Rattle.std.specs.Int.{cast_unsigned, w32, w64}
-use Rattle.buffa_bytes.specs.Content.{number_in}
+use Rattle.buffa_bytes.specs.PayloadValue.{number_in}
 use Rattle.buffa_wire.specs.BudgetLeft.{nothing}
 use Rattle.buffa_wire.specs.Enums.{Numbers, open_number}
 use Rattle.buffa_bytes.specs.Values.{int32_of}

@@ -8,18 +8,18 @@
 -- buffer has left, `B.beyond` those behind the limits of the buffers that were lent, and `C.pairs` what a map holds, in some order.
 use Rattle.std.specs.Prelude.{ℕ, ◌+◌, length, List, [], Option, None, Some, ◌≡◌, ◌≢◌, ◌<◌, ◌≤◌, Bool, ◌++◌, ◌⊎◌, if◌then◌else◌, true}
 use Rattle.std.proofs.Common.{inl, inr}
-use Rattle.buffa_wire.specs.Records.{Datum, Held}
+use Rattle.buffa_wire.specs.Records.{FieldData, Held}
 use denote.Ref.{MutBor}
 use Rattle.buffa_bytes.specs.declared.error.DecodeError.{DecodeError}
 use Rattle.buffa_bytes.specs.declared.error.DecodeError.TheVariants.{OutOfMemory, UnexpectedField, WireTypeMismatch}
-use Rattle.buffa_bytes.specs.Left.{past_no_tag, past_no_delimited, IsTailOf}
+use Rattle.buffa_bytes.specs.Unread.{past_no_tag, past_no_delimited, IsTailOf}
 use Rattle.buffa_bytes.specs.declared.wire_type.WireType.{WireType}
 use Rattle.buffa_bytes.specs.Field.{TagFault, TakesDelimited, TakesTag}
 use Rattle.buffa_wire.specs.BudgetLeft.{BudgetLeft, Pays, plus, unknown_fields}
 use Rattle.buffa_bytes.specs.declared.wire_type.WireType.TheVariants.{LengthDelimited}
 use Rattle.buffa_map.specs.Codec.{Reading}
 use Rattle.buffa_map.specs.Entry.{EntryFault, EntryOf, IsEntry, EntryFieldsTakeMemory}
-use Rattle.buffa_map.specs.EntryReading.{inner_need, need_of}
+use Rattle.buffa_map.specs.EntryReading.{inner_charge, charge_of}
 use Rattle.buffa_map.specs.Pairs.{InOrder, SamePairs}
 use Rattle.buffa_map.specs.Run.{fold_entries, ArePaid, Run, EntryRecord, step, undeclared_record, undeclared_records}
 use Rattle.buffa_map.specs.declared.map_entry.MapEntry.{MapEntry}
@@ -27,10 +27,10 @@ use Rattle.buffa_map.specs.declared.map_entry.MapEntry.{MapEntry}
 -- the pairs of the map, the records that are kept, and what is left of the budget
 pub record State (K V : Type 0) : Type 0 where
   pub pairs : List (K × V)
-  pub records : List (ℕ × Datum)
+  pub records : List (ℕ × FieldData)
   pub left : BudgetLeft
 
-abbrev pub state : {K V : Type 0} → List (K × V) → List (ℕ × Datum) → BudgetLeft → State K V
+abbrev pub state : {K V : Type 0} → List (K × V) → List (ℕ × FieldData) → BudgetLeft → State K V
 state pairs records left = record { pairs = pairs; records = records; left = left }
 
 -- By which rules entries are read: how a key is read, and how a value; which keys are the same; whether the map keeps the
@@ -62,7 +62,7 @@ rules key val storage depth number keeps = record {
 }
 
 -- the records that are kept of a run's entries, in order
-abbrev pub kept_of_run : {K V : Type 0} → Rules K V → List (EntryRecord K V) → List (ℕ × Datum)
+abbrev pub kept_of_run : {K V : Type 0} → Rules K V → List (EntryRecord K V) → List (ℕ × FieldData)
 kept_of_run r entries = if r.keeps_undeclared then undeclared_records r.number entries else []
 
 -- how many of the unknown fields left an undeclared entry costs: one, where it is kept
@@ -95,7 +95,7 @@ EntryTakesMemory {K} {V} r left bs =
     × (((r.keeps_undeclared ≡ true) × (r.val.undeclared ≡ true) × (e ≢ []))
     ⊎ (EntryFieldsTakeMemory r.key r.val r.depth e
     ⊎ ((s : MapEntry K V) × IsEntry r.key r.val r.depth e s
-    × ((s.known ≡ true) ⊎ ((r.keeps_undeclared ≡ true) × ((need_of r.key r.val r.depth r.cost e).unknown < left.unknown))))))
+    × ((s.known ≡ true) ⊎ ((r.keeps_undeclared ≡ true) × ((charge_of r.key r.val r.depth r.cost e).unknown < left.unknown))))))
 
 -- what a refused entry leaves unread
 pub record LeavesEntry (bytes : List ℕ) (f : DecodeError) (unread : List ℕ) : Type 0 where
@@ -113,7 +113,7 @@ pub record SpendsOnEntry {K V : Type 0} (r : Rules K V) (left : BudgetLeft) (byt
   -- of element memory nothing, or the entry's units and at most what the messages in it cost
   pub units : (left_after.memory ≡ left.memory)
       ⊎ ((left_after.memory + r.cost ≤ left.memory)
-      × (left.memory ≤ left_after.memory + (r.cost + (inner_need r.key r.val r.depth bytes).memory)))
+      × (left.memory ≤ left_after.memory + (r.cost + (inner_charge r.key r.val r.depth bytes).memory)))
   -- the units at least, where the entry was there and they were left, whatever it was refused for
   pub charged : (e rest : List ℕ) → TakesDelimited bytes e rest → r.cost ≤ left.memory → left_after.memory + r.cost ≤ left.memory
   -- nothing, where no length and so many bytes were there
@@ -121,9 +121,9 @@ pub record SpendsOnEntry {K V : Type 0} (r : Rules K V) (left : BudgetLeft) (byt
   -- of the unknown fields at most those are left that were
   pub most : left_after.unknown ≤ left.unknown
   -- and at least those without the one that keeps the entry, and without what the messages in it cost
-  pub least : left.unknown ≤ left_after.unknown + (unknown_cost r + (inner_need r.key r.val r.depth bytes).unknown)
+  pub least : left.unknown ≤ left_after.unknown + (unknown_cost r + (inner_charge r.key r.val r.depth bytes).unknown)
   -- the one that keeps the entry is gone only where memory ran out
-  pub no_keeping : f ≢ OutOfMemory → left.unknown ≤ left_after.unknown + (inner_need r.key r.val r.depth bytes).unknown
+  pub no_keeping : f ≢ OutOfMemory → left.unknown ≤ left_after.unknown + (inner_charge r.key r.val r.depth bytes).unknown
 
 -- The entry at the front was refused, and f is why. A fault inside a message may be told as any error but the two of a budget,
 -- `UnknownFieldLimitExceeded` and `ElementMemoryLimitExceeded`. Where the entry's units are left, but not what its messages need besides,
@@ -167,13 +167,13 @@ pub record RefusesRun {K V : Type 0} (r : Rules K V) (old : State K V) (bytes : 
 
 -- The records of the list at the return, none where no list was passed. The raw form of what an `Option` held is at the
 -- return: `inl` of nothing; or `inr (inl s)`, where s.0 is what was lent.
-abbrev pub records_after : Unit {0} ⊎ ((MutBor Held × Unit {0}) ⊎ ⊥) → List (ℕ × Datum)
+abbrev pub records_after : Unit {0} ⊎ ((MutBor Held × Unit {0}) ⊎ ⊥) → List (ℕ × FieldData)
 records_after (inl u) = []
 records_after (inr (inl s)) = s.0.now.records
 records_after (inr (inr s)) = []
 
 -- the records of the list at the call, none where no list was passed
-abbrev pub records_before : Option (MutBor Held) → List (ℕ × Datum)
+abbrev pub records_before : Option (MutBor Held) → List (ℕ × FieldData)
 records_before None = []
 records_before (Some list) = list.now.records
 
@@ -194,7 +194,7 @@ capacity_after (inr (inr s)) = 0
 -- ---- one entry, and what takes an entry without its length
 
 -- the record that is kept of an entry
-abbrev pub kept_of_entry : {K V : Type 0} → Rules K V → List ℕ → MapEntry K V → List (ℕ × Datum)
+abbrev pub kept_of_entry : {K V : Type 0} → Rules K V → List ℕ → MapEntry K V → List (ℕ × FieldData)
 kept_of_entry r entry says = if r.keeps_undeclared then undeclared_record r.number entry says.known else []
 
 -- The entry at the front of the bytes was read, and rest follows it: it is put, or, where it is undeclared, kept or dropped.
@@ -210,7 +210,7 @@ pub record MergesEntry {K V : Type 0} (r : Rules K V) (old : State K V) (bytes :
   -- an undeclared entry follows the old records, where it is kept
   pub keeps : new.records ≡ old.records ++ kept_of_entry r entry says
   -- exactly what the entry needs is spent, and an unknown field, where it is kept
-  pub pays : Pays old.left (plus (need_of r.key r.val r.depth r.cost entry) (unknown_fields (if says.known then 0 else unknown_cost r))) new.left
+  pub pays : Pays old.left (plus (charge_of r.key r.val r.depth r.cost entry) (unknown_fields (if says.known then 0 else unknown_cost r))) new.left
 
 -- the entry e was merged, or refused, wherever a length and e begin the bytes
 abbrev pub MergesWhole : {K V : Type 0} → Rules K V → State K V → List ℕ → State K V → Type 0

@@ -4,7 +4,7 @@ use Rattle.std.specs.Prelude.{◌≡◌, ◌≢◌, ◌+◌, ◌<◌, ◌≤◌,
 use Rattle.std.specs.List.{filter}
 use Rattle.buffa_wire.specs.BudgetLeft.{BudgetLeft}
 use Rattle.buffa_wire.specs.Encoding.{records_encoding}
-use Rattle.buffa_wire.specs.Records.{Datum}
+use Rattle.buffa_wire.specs.Records.{FieldData}
 use Rattle.buffa_bytes.specs.Written.{WritesFront}
 use Rattle.buffa_bytes.specs.declared.error.DecodeError.{DecodeError}
 use Rattle.buffa_bytes.specs.declared.error.EncodeError.{EncodeError}
@@ -71,7 +71,7 @@ KeepsMeaning {K} {V} eq es fs gs =
 
 -- ---- what is written
 
-module _ {K V : Type 0} (key : Writing K) (val : Writing V) (n : ℕ) (kept : List (ℕ × Datum)) (old new : List ℕ) where
+module _ {K V : Type 0} (key : Writing K) (val : Writing V) (n : ℕ) (kept : List (ℕ × FieldData)) (old new : List ℕ) where
   -- Memory ran out in the encoding of l, or behind it, after a beginning of the kept records; or an entry of l is too
   -- long, and the records of the pairs before it were written.
   abbrev pub RefusesRewrite : List (K × V) → EncodeError → Type 0
@@ -87,7 +87,7 @@ module _ {K V : Type 0} (key : Writing K) (val : Writing V) (n : ℕ) (kept : Li
 
 -- a map was walked once, and its encoding and the kept records' were written, or refused; what had room wasn't
 -- refused
-pub record WritesWalk {K V : Type 0} (eq : K → K → Bool) (Walks : List (K × V) → Type 0) (key : Writing K) (val : Writing V) (KeyFits : K → Type 0) (ValFits : V → Type 0) (n : ℕ) (pairs : List (K × V)) (kept : List (ℕ × Datum)) (old : List ℕ) (before : ℕ) {T : Type 0} (r : Result T EncodeError) (new : List ℕ) (after : ℕ) : Type 0 where
+pub record WritesWalk {K V : Type 0} (eq : K → K → Bool) (Walks : List (K × V) → Type 0) (key : Writing K) (val : Writing V) (KeyFits : K → Type 0) (ValFits : V → Type 0) (n : ℕ) (pairs : List (K × V)) (kept : List (ℕ × FieldData)) (old : List ℕ) (before : ℕ) {T : Type 0} (r : Result T EncodeError) (new : List ℕ) (after : ℕ) : Type 0 where
   pub walk : List (K × V)
   pub once : ListsOnce eq pairs walk
   pub encoding : WritesRewrite key val n kept old new r walk
@@ -101,7 +101,7 @@ pub record WritesWalk {K V : Type 0} (eq : K → K → Bool) (Walks : List (K ×
 -- the sink is its rewrite, by a walk that the map has; and room for no more than that was used. Of the sink, `old` is what stood in
 -- it and `written` what stands in it now, and it had room for `before` bytes and has room for `after`.
 pub record RewritesRun {K V : Type 0} (r : Rules K V) (key : Writing K) (val : Writing V) (KeyFits : K → Type 0) (ValFits : V → Type 0) (Walks : List (K × V) → Type 0) (left : BudgetLeft) (bytes : List ℕ) (new : List (K × V)) (left_after : BudgetLeft) (rest : List ℕ) (old written : List ℕ) (before after : ℕ) : Type 0 where
-  pub kept : List (ℕ × Datum)
+  pub kept : List (ℕ × FieldData)
   pub read : ReadsRun r (state [] [] left) bytes (state new kept left_after) rest
   pub out : List ℕ
   pub rewrite : IsRewrite r.same key val KeyFits ValFits r.number read.entries out
@@ -114,11 +114,11 @@ pub record RewritesRun {K V : Type 0} (r : Rules K V) (key : Writing K) (val : W
 -- f is why the bytes were refused; the entries before it stand in the map, and nothing was written
 abbrev pub RefusesDecoding : {K V : Type 0} → Rules K V → BudgetLeft → List ℕ → List (K × V) → BudgetLeft → List ℕ → List ℕ → List ℕ → DecodeError → Type 0
 RefusesDecoding r left bytes new left_after unread old written f =
-    (kept : List (ℕ × Datum)) × RefusesRun r (state [] [] left) bytes (state new kept left_after) unread f × (written ≡ old)
+    (kept : List (ℕ × FieldData)) × RefusesRun r (state [] [] left) bytes (state new kept left_after) unread f × (written ≡ old)
 
 -- The bytes were read so, and e is why the encoding wasn't written whole: out of memory only where it has no room.
 pub record RefusesEncoding {K V : Type 0} (r : Rules K V) (key : Writing K) (val : Writing V) (Walks : List (K × V) → Type 0) (left : BudgetLeft) (bytes : List ℕ) (new : List (K × V)) (left_after : BudgetLeft) (rest : List ℕ) (old written : List ℕ) (before : ℕ) (e : EncodeError) : Type 0 where
-  pub kept : List (ℕ × Datum)
+  pub kept : List (ℕ × FieldData)
   pub read : ReadsRun r (state [] [] left) bytes (state new kept left_after) rest
   pub walk : List (K × V)
   pub once : ListsOnce r.same (fold_entries r.same [] read.entries) walk

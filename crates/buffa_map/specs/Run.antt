@@ -7,10 +7,10 @@ use Rattle.buffa_bytes.specs.declared.wire_type.WireType.TheVariants.{LengthDeli
 use Rattle.buffa_bytes.specs.declared.error.DecodeError.{DecodeError}
 use Rattle.buffa_bytes.specs.declared.error.DecodeError.TheVariants.{UnexpectedField, WireTypeMismatch}
 use Rattle.buffa_wire.specs.BudgetLeft.{BudgetLeft, nothing, plus}
-use Rattle.buffa_wire.specs.Records.{Datum, bytes}
+use Rattle.buffa_wire.specs.Records.{FieldData, bytes}
 use Rattle.buffa_map.specs.Codec.{Reading}
 use Rattle.buffa_map.specs.Entry.{IsEntry, EntryFault}
-use Rattle.buffa_map.specs.EntryReading.{blanks, need_at}
+use Rattle.buffa_map.specs.EntryReading.{blanks, charge_at}
 use Rattle.buffa_map.specs.Pairs.{put}
 use Rattle.buffa_map.specs.declared.map_entry.MapEntry.{MapEntry}
 
@@ -27,11 +27,11 @@ undeclared [] = []
 undeclared (x ∷ xs) = if x.parts.known then undeclared xs else (x.bytes ∷ undeclared xs)
 
 -- the record of an entry of a field of number n, if it is undeclared
-abbrev pub undeclared_record : ℕ → List ℕ → Bool → List (ℕ × Datum)
+abbrev pub undeclared_record : ℕ → List ℕ → Bool → List (ℕ × FieldData)
 undeclared_record n e known = if known then [] else ((n, bytes e) ∷ [])
 
 -- the undeclared entries as length-delimited records of number n
-abbrev pub undeclared_records : {K V : Type 0} → ℕ → List (EntryRecord K V) → List (ℕ × Datum)
+abbrev pub undeclared_records : {K V : Type 0} → ℕ → List (EntryRecord K V) → List (ℕ × FieldData)
 undeclared_records n es = map (λ e. (n, bytes e)) (undeclared es)
 
 -- what the entry of a pair says
@@ -42,7 +42,7 @@ module _ {K V : Type 0} (key : Reading K) (val : Reading V) (d : ℕ) where
   -- what the messages in these entries cost
   abbrev pub cost_inside : List (EntryRecord K V) → BudgetLeft
   cost_inside [] = nothing
-  cost_inside (x ∷ xs) = plus (need_at key val d (blanks key val d) x.bytes) (cost_inside xs)
+  cost_inside (x ∷ xs) = plus (charge_at key val d (blanks key val d) x.bytes) (cost_inside xs)
 
   -- left_after is what is left of left after these entries, each of which costs some units of element memory and what the
   -- messages in it cost, and each one that is undeclared some of the unknown fields left

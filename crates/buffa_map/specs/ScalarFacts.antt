@@ -1,9 +1,9 @@
 -- What the codecs of scalars, strings and bytes owe: one law for each shape.
 use Rattle.std.proofs.Common.{◌≡◌, ℕ, Bool, true, false, List, length, Result, Ok, Err, refl, sym, ap, if◌then◌else◌}
 use Rattle.std.specs.Str.{is_utf8}
-use Rattle.buffa_bytes.specs.Front.{◌>>=◌}
-use Rattle.buffa_bytes.specs.Content.{Content, HasContent, bytes_in}
-use Rattle.buffa_bytes.specs.Content.Content.{bytes}
+use Rattle.buffa_bytes.specs.Readings.{◌>>=◌}
+use Rattle.buffa_bytes.specs.PayloadValue.{PayloadValue, HasPayloadValue, bytes_in}
+use Rattle.buffa_bytes.specs.PayloadValue.PayloadValue.{bytes}
 use Rattle.buffa_wire.specs.BudgetLeft.{IsLimit}
 use Rattle.buffa_bytes.specs.Values.{delimited_encoding}
 use Rattle.buffa_bytes.specs.Varint.{varint_encoding}
@@ -33,7 +33,7 @@ known_of : {V : Type 0} (t : V) (b : Bool) (new : V) (known : Bool) → ((if b t
 known_of t true new known h = always_known new known h
 known_of t false new known h = cc
 
-pub string_known : {V : Type 0} (of : List ℕ → V) (c : Content) (new : V) (known : Bool) → (text_as of (bytes_in c) >>= (λ v. read (v, true))) ≡ Ok (new, known) → known ≡ true
+pub string_known : {V : Type 0} (of : List ℕ → V) (c : PayloadValue) (new : V) (known : Bool) → (text_as of (bytes_in c) >>= (λ v. read (v, true))) ≡ Ok (new, known) → known ≡ true
 string_known of c new known h = known_of (of (bytes_in c)) (is_utf8 (bytes_in c)) new known h
 
 -- ---- no fault is a limit's
@@ -46,14 +46,14 @@ limit_of t true x h l = cc
 limit_of t false InvalidUtf8 h l = l
 limit_of t false _ h l = cc
 
-pub string_no_limit : {V : Type 0} (of : List ℕ → V) (c : Content) (x : DecodeError) → (text_as of (bytes_in c) >>= (λ v. read (v, true))) ≡ Err x → IsLimit x → ⊥
+pub string_no_limit : {V : Type 0} (of : List ℕ → V) (c : PayloadValue) (x : DecodeError) → (text_as of (bytes_in c) >>= (λ v. read (v, true))) ≡ Err x → IsLimit x → ⊥
 string_no_limit of c x h = limit_of (of (bytes_in c)) (is_utf8 (bytes_in c)) x h
 
 -- ---- a payload reads back to its value, whatever stood before
 
 -- p is a payload of wire type w that reads makes v of
-abbrev pub ReadsAs : {V : Type 0} → WireType → (Content → Result (V × Bool) DecodeError) → List ℕ → V → Type 0
-ReadsAs w reads p v = (c : Content) × HasContent w p c × (reads c ≡ Ok (v, true))
+abbrev pub ReadsAs : {V : Type 0} → WireType → (PayloadValue → Result (V × Bool) DecodeError) → List ℕ → V → Type 0
+ReadsAs w reads p v = (c : PayloadValue) × HasPayloadValue w p c × (reads c ≡ Ok (v, true))
 
 module _ {A : Type 0} (of : List ℕ → A) (content : A → List ℕ) (v : A) where
   pub bytes_read_back : IsLengthy (content v) → of (content v) ≡ v → ReadsAs LengthDelimited (λ c. read (of (bytes_in c), true)) (delimited_encoding (content v)) v

@@ -4,8 +4,8 @@
 use Rattle.std.specs.Prelude.{◌≡◌, ℕ, ℤ, pos, ◌<◌, ◌^◌, true, false, List, [], length, Ok}
 use Rattle.std.specs.Int.{cast_unsigned, to_le_bytes, w32, w64}
 use Rattle.std.specs.Str.{is_utf8}
-use Rattle.buffa_bytes.specs.Front.{◌>>=◌}
-use Rattle.buffa_bytes.specs.Content.{number_in, bytes_in}
+use Rattle.buffa_bytes.specs.Readings.{◌>>=◌}
+use Rattle.buffa_bytes.specs.PayloadValue.{number_in, bytes_in}
 use Rattle.buffa_wire.specs.BudgetLeft.{nothing}
 use Rattle.buffa_bytes.specs.Values.{delimited_encoding, int32_of}
 use Rattle.buffa_bytes.specs.Varint.{varint_encoding}

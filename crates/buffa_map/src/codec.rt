@@ -3,13 +3,13 @@
 ghost use Rattle.std.specs.Prelude.{◌≡◌, ◌≢◌, ℕ, Bool, Option, Some, false, true, length, Ok, Err, IfErr, IfOk, IsOk, OnErr};
 ghost use Rattle.buffa_bytes.specs.declared.error.DecodeError.TheVariants.{OutOfMemory};
 ghost use Rattle.buffa_bytes.specs.declared.wire_type.WireType.{WireType};
-ghost use Rattle.buffa_bytes.specs.Front.{FullOnlyIf};
-ghost use Rattle.buffa_bytes.specs.Left.{LeavesUnlessFull, past_no_payload, past_no_delimited, IsTailOf};
-ghost use Rattle.buffa_bytes.specs.Content.{Content, HasContent};
+ghost use Rattle.buffa_bytes.specs.Readings.{FullOnlyIf};
+ghost use Rattle.buffa_bytes.specs.Unread.{LeavesUnlessFull, past_no_payload, past_no_delimited, IsTailOf};
+ghost use Rattle.buffa_bytes.specs.PayloadValue.{PayloadValue, HasPayloadValue};
 ghost use Rattle.buffa_wire.specs.BudgetLeft.{budget_left, nothing, IsLimit};
 ghost use Rattle.buffa_bytes.specs.Written.{UsesRoom, Writes};
 ghost use Rattle.buffa_bytes.specs.declared.error.DecodeError.{DecodeError};
-ghost use Rattle.buffa_map.specs.Codec.{AlwaysDeclared, HoldsNothing, IsWhole, Reading, RefusesValue, Spends, ReadingTakesMemory, Writing, is_known, level, value_at, value_need};
+ghost use Rattle.buffa_map.specs.Codec.{AlwaysDeclared, HoldsNothing, IsWhole, Reading, RefusesValue, Spends, ReadingTakesMemory, Writing, is_known, level, value_at, value_charge};
 
 use buffa_wire::{Blank, Buf, DecodeContext, DecodeError, EncodeError, EncodeSink, WireType};
 use std::alloc::Global;
@@ -118,13 +118,13 @@ pub trait MapValueDecode: sealed::Sealed {
         ensures kept { B.beyond buf.new ≡ B.beyond buf.old }
         ensures tail { IsTailOf (B.unread buf.new) (B.unread buf.old) }
         ensures spends { Spends reading.nested result ctx.entry.budget.now
-            (value_need reading ctx.entry.depth (B.unread buf.old)) (budget_left ctx.exit) };
+            (value_charge reading ctx.entry.depth (B.unread buf.old)) (budget_left ctx.exit) };
 
     /// Plain payloads cost nothing.
-    ghost free: { reading.nested ≡ false → (d : ℕ) (c : Content) → reading.cost d c ≡ nothing };
+    ghost free: { reading.nested ≡ false → (d : ℕ) (c : PayloadValue) → reading.cost d c ≡ nothing };
 
     /// No fault that the reading has is a budget's.
-    ghost no_limit: { (d : ℕ) (old : Self.Value.Meaning) (c : Content) (x : DecodeError) → reading.reads d old c
+    ghost no_limit: { (d : ℕ) (old : Self.Value.Meaning) (c : PayloadValue) (x : DecodeError) → reading.reads d old c
         ≡ Err x → IsLimit x → ⊥ };
 
     /// The reading is of payloads of that wire type.
@@ -197,13 +197,13 @@ pub trait MapCodec: MapValueDecode {
 
     /// An encoding reads back to its value, whatever stood before, and as a declared one.
     ghost reads_back: { (d : ℕ) (old v : Self.Value.Meaning) → fits v → normal v →
-        (c : Content) × HasContent writing.wire (writing.encoding v) c × (Self.reading.reads d old c ≡ Ok (v, true)) };
+        (c : PayloadValue) × HasPayloadValue writing.wire (writing.encoding v) c × (Self.reading.reads d old c ≡ Ok (v, true)) };
 
     /// The default is normal.
     ghost blank_normal: { normal Self.Value.blank_is };
 
     /// What is read is normal, where what stood was, so that what a map took in is written and read back.
-    ghost stays_normal: { (d : ℕ) (old : Self.Value.Meaning) (c : Content) (new : Self.Value.Meaning)
+    ghost stays_normal: { (d : ℕ) (old : Self.Value.Meaning) (c : PayloadValue) (new : Self.Value.Meaning)
         (known : Bool) → normal old → Self.reading.reads d old c ≡ Ok (new, known) → normal new };
 
     /// The fixed length is that of every encoding.

@@ -2,9 +2,9 @@
 
 ghost use Rattle.std.specs.Prelude.{◌≡◌, ◌+◌, ◌<◌, ◌≤◌, ℕ, List, Ok, [], IfErr, IfOk, OnErr, OnOk, false, is_some, true};
 ghost use Rattle.buffa_bytes.specs.declared.error.DecodeError.TheVariants.{ElementMemoryLimitExceeded, OutOfMemory};
-ghost use Rattle.buffa_bytes.specs.Front.{varint_at};
+ghost use Rattle.buffa_bytes.specs.Readings.{varint_at};
 ghost use Rattle.buffa_wire.specs.BudgetLeft.{budget_left, plus, units};
-ghost use Rattle.buffa_map.specs.Entry.{meant_entry};
+ghost use Rattle.buffa_map.specs.Entry.{entry_meaning};
 ghost use Rattle.buffa_map.specs.Merge.{MergesEntry, MergesWhole, RefusesEntry, RefusesWhole, rules, state, records_before, records_after, capacity_before, capacity_after};
 ghost use Rattle.buffa_map.specs.Pairs.{InOrder, SamePairs, put};
 ghost use Rattle.buffa_map.specs.Parts.{ReadsCut, ReadsParts, RefusesCut, RefusesParts};
@@ -44,7 +44,7 @@ fn read_parts<KC: MapCodec, W: MergeValue, B: Buf>(
 ) -> Result<MapEntry<KC::Value, W::Value>, DecodeError>
     requires { W.may how.now ctx.depth }
     ensures ok { IfOk result (λ parts. ReadsParts KC.reading W.reading ctx.entry.depth (KC.COST + W.COST) (B.unread buf.old)
-        ctx.entry.budget.now (meant_entry KC.Value.meaning W.Value.meaning parts) (budget_left ctx.exit)) }
+        ctx.entry.budget.now (entry_meaning KC.Value.meaning W.Value.meaning parts) (budget_left ctx.exit)) }
     ensures err { IfErr result (RefusesParts KC.reading W.reading ctx.entry.depth (KC.COST + W.COST)
         (B.unread buf.old) ctx.entry.budget.now (budget_left ctx.exit)) }
     ensures kept { B.beyond buf.new ≡ B.beyond buf.old }
@@ -65,7 +65,7 @@ fn read_cut<KC: MapCodec, W: MergeValue, B: Buf>(
 ) -> Result<MapEntry<KC::Value, W::Value>, DecodeError>
     requires { W.may how.now ctx.depth }
     ensures ok { IfOk result (λ parts. ReadsCut KC.reading W.reading ctx.entry.depth (KC.COST + W.COST) len (B.unread buf.old)
-        ctx.entry.budget.now (meant_entry KC.Value.meaning W.Value.meaning parts) (budget_left ctx.exit) (B.unread buf.new)) }
+        ctx.entry.budget.now (entry_meaning KC.Value.meaning W.Value.meaning parts) (budget_left ctx.exit) (B.unread buf.new)) }
     ensures err { IfErr result (RefusesCut KC.reading W.reading ctx.entry.depth (KC.COST + W.COST)
         len (B.unread buf.old) ctx.entry.budget.now (budget_left ctx.exit) (B.unread buf.new)) }
     ensures kept { B.beyond buf.new ≡ B.beyond buf.old }

@@ -1,9 +1,9 @@
 //! The fields of an entry.
 
 ghost use Rattle.std.specs.Prelude.{◌≡◌, ◌<◌, IfErr, IfOk, MatchOption, Ok, OnOk};
-ghost use Rattle.buffa_bytes.specs.Front.{tag_at, Gives};
+ghost use Rattle.buffa_bytes.specs.Readings.{tag_at, Gives};
 ghost use Rattle.buffa_wire.specs.BudgetLeft.{budget_left};
-ghost use Rattle.buffa_map.specs.Entry.{meant_entry, MergesEntryField, MergesFields, RefusesEntryField, RefusesFields};
+ghost use Rattle.buffa_map.specs.Entry.{entry_meaning, MergesEntryField, MergesFields, RefusesEntryField, RefusesFields};
 
 use crate::codec::{MapValueDecode, MapValueDecodeStatus};
 use crate::map_entry::MapEntry;
@@ -54,9 +54,9 @@ fn merge_field<KC: MapValueDecode, W: MergeValue, B: Buf>(
     how: &W,
 ) -> Result<(), DecodeError>
     requires { W.may how.now ctx.depth }
-    ensures ok { OnOk result (MergesEntryField KC.reading W.reading ctx.entry.depth (meant_entry KC.Value.meaning W.Value.meaning parts.old)
-        ctx.entry.budget.now (B.unread buf.old) (meant_entry KC.Value.meaning W.Value.meaning parts.new) (budget_left ctx.exit) (B.unread buf.new)) }
-    ensures err { IfErr result (RefusesEntryField KC.reading W.reading ctx.entry.depth (meant_entry KC.Value.meaning W.Value.meaning parts.old)
+    ensures ok { OnOk result (MergesEntryField KC.reading W.reading ctx.entry.depth (entry_meaning KC.Value.meaning W.Value.meaning parts.old)
+        ctx.entry.budget.now (B.unread buf.old) (entry_meaning KC.Value.meaning W.Value.meaning parts.new) (budget_left ctx.exit) (B.unread buf.new)) }
+    ensures err { IfErr result (RefusesEntryField KC.reading W.reading ctx.entry.depth (entry_meaning KC.Value.meaning W.Value.meaning parts.old)
         ctx.entry.budget.now (B.unread buf.old) (budget_left ctx.exit)) }
     ensures kept { B.beyond buf.new ≡ B.beyond buf.old }
 {
@@ -87,7 +87,7 @@ pub(crate) fn merge_fields<KC: MapValueDecode, W: MergeValue, B: Buf>(
 ) -> Result<MapEntry<KC::Value, W::Value>, DecodeError>
     requires { W.may how.now ctx.depth }
     ensures ok { IfOk result (λ parts. MergesFields KC.reading W.reading ctx.entry.depth (B.unread buf.old)
-        ctx.entry.budget.now (meant_entry KC.Value.meaning W.Value.meaning parts) (budget_left ctx.exit)) }
+        ctx.entry.budget.now (entry_meaning KC.Value.meaning W.Value.meaning parts) (budget_left ctx.exit)) }
     ensures err { IfErr result (RefusesFields KC.reading W.reading ctx.entry.depth (B.unread buf.old)
         ctx.entry.budget.now (budget_left ctx.exit)) }
     ensures kept { B.beyond buf.new ≡ B.beyond buf.old }

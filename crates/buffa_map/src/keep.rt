@@ -3,7 +3,7 @@
 ghost use Rattle.std.specs.Prelude.{◌≡◌, ◌≢◌, ◌+◌, ◌<◌, ◌≤◌, ◌++◌, ◌∷◌, ℕ, Bool, List, [], true, false};
 ghost use Rattle.std.specs.Prelude.{IfErr, OnErr, OnOk, if◌then◌else◌};
 ghost use Rattle.buffa_bytes.specs.declared.error.DecodeError.TheVariants.{OutOfMemory, UnknownFieldLimitExceeded};
-ghost use Rattle.buffa_wire.specs.Records.{Datum, bytes};
+ghost use Rattle.buffa_wire.specs.Records.{FieldData, bytes};
 ghost use Rattle.buffa_map.specs.Merge.{capacity_of};
 
 use buffa_wire::{Budget, DecodeError, UnknownField, UnknownFieldData, UnknownFields};
@@ -18,7 +18,7 @@ pub trait Keeper {
     ghost KEEPS: { Bool };
 
     /// The records so far.
-    ghost records: { Self → List (ℕ × Datum) };
+    ghost records: { Self → List (ℕ × FieldData) };
 
     /// How many records fit without new memory, those that are there included.
     ghost room: { Self → ℕ };

@@ -9,9 +9,9 @@ use crate::codec::{MapCodec, MapValueDecode};
 /// it cost, and the unknown field of one with an undeclared value, where it is kept.
 ///
 /// ```ignore
-/// limits_are_told_where_needs_are_not_left::<KC, VC>();
+/// limits_are_reported_where_charges_are_not_left::<KC, VC>();
 /// ```
-pub fn limits_are_told_where_needs_are_not_left<KC: MapValueDecode, VC: MapValueDecode>()
+pub fn limits_are_reported_where_charges_are_not_left<KC: MapValueDecode, VC: MapValueDecode>()
     ensures { LimitsAreTrue KC.reading VC.reading }
 {}
 

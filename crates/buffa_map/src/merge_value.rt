@@ -4,14 +4,14 @@ ghost use Rattle.std.specs.Prelude.{◌≡◌, ◌≢◌, ◌+◌, ℕ, Bool, fa
 ghost use Rattle.buffa_bytes.specs.declared.error.DecodeError.TheVariants.{OutOfMemory};
 ghost use Rattle.buffa_bytes.specs.declared.wire_type.WireType.{WireType};
 ghost use Rattle.buffa_bytes.specs.declared.wire_type.WireType.TheVariants.{LengthDelimited};
-ghost use Rattle.buffa_bytes.specs.Front.{FullOnlyIf};
-ghost use Rattle.buffa_bytes.specs.Content.{Content, bytes_in};
+ghost use Rattle.buffa_bytes.specs.Readings.{FullOnlyIf};
+ghost use Rattle.buffa_bytes.specs.PayloadValue.{PayloadValue, bytes_in};
 ghost use Rattle.buffa_wire.specs.BudgetLeft.{budget_left, nothing};
 ghost use Rattle.buffa_wire.specs.Message.{merged_in};
 ghost use Rattle.buffa_map.specs.Calls.{MergesMessages};
-ghost use Rattle.buffa_map.specs.Codec.{AlwaysDeclared, Reading, RefusesValue, Spends, ReadingTakesMemory, is_known, value_at, value_need};
+ghost use Rattle.buffa_map.specs.Codec.{AlwaysDeclared, Reading, RefusesValue, Spends, ReadingTakesMemory, is_known, value_at, value_charge};
 ghost use Rattle.buffa_map.specs.Message.{message_reading};
-ghost use Rattle.buffa_map.specs.MessageFacts.{meant_known};
+ghost use Rattle.buffa_map.specs.MessageFacts.{merged_known};
 
 use crate::codec::{MapValueDecode, MapValueDecodeStatus};
 use crate::message_merge::merge_value_by;
@@ -67,10 +67,10 @@ pub trait MergeValue {
         ensures full { FullOnlyIf result (ReadingTakesMemory reading ctx.entry.depth (B.unread buf.old)) }
         ensures kept { B.beyond buf.new ≡ B.beyond buf.old }
         ensures spends { Spends reading.nested result ctx.entry.budget.now
-            (value_need reading ctx.entry.depth (B.unread buf.old)) (budget_left ctx.exit) };
+            (value_charge reading ctx.entry.depth (B.unread buf.old)) (budget_left ctx.exit) };
 
     /// Plain payloads cost nothing.
-    ghost free: { reading.nested ≡ false → (d : ℕ) (c : Content) → reading.cost d c ≡ nothing };
+    ghost free: { reading.nested ≡ false → (d : ℕ) (c : PayloadValue) → reading.cost d c ≡ nothing };
 
     /// The reading is of payloads of that wire type.
     ghost wire: { reading.wire ≡ WIRE_TYPE };
@@ -197,7 +197,7 @@ impl<M: MessageSpec, F: Fn(&mut M, &[u8], u32, &mut Budget) -> Result<(), Decode
 
     ghost blank = { refl };
 
-    ghost declared = { λ _ d old c new known h. meant_known (merged_in M.merged d old (bytes_in c)) new known h };
+    ghost declared = { λ _ d old c new known h. merged_known (merged_in M.merged d old (bytes_in c)) new known h };
 
     ghost undeclared = { refl };
 }

@@ -3,9 +3,9 @@
 ghost use Rattle.std.specs.Prelude.{false, refl};
 ghost use Rattle.buffa_bytes.specs.declared.wire_type.WireType.TheVariants.{LengthDelimited};
 ghost use Rattle.buffa_wire.specs.Message.{merged_in};
-ghost use Rattle.buffa_bytes.specs.Content.{bytes_in};
+ghost use Rattle.buffa_bytes.specs.PayloadValue.{bytes_in};
 ghost use Rattle.buffa_map.specs.Message.{message_reading};
-ghost use Rattle.buffa_map.specs.MessageFacts.{meant_known, meant_no_limit};
+ghost use Rattle.buffa_map.specs.MessageFacts.{merged_known, merged_no_limit};
 
 use crate::codec::sealed::Sealed;
 use crate::codec::{MapValueDecode, MapValueDecodeStatus};
@@ -54,13 +54,13 @@ impl<M: Message> MapValueDecode for Msg<M> {
 
     ghost free = { λ no d c. cc };
 
-    ghost no_limit = { λ d old c x h. meant_no_limit (merged_in M.merged d old (bytes_in c)) x h };
+    ghost no_limit = { λ d old c x h. merged_no_limit (merged_in M.merged d old (bytes_in c)) x h };
 
     ghost wire = { refl };
 
     ghost blank = { refl };
 
-    ghost declared = { λ _ d old c new known h. meant_known (merged_in M.merged d old (bytes_in c)) new known h };
+    ghost declared = { λ _ d old c new known h. merged_known (merged_in M.merged d old (bytes_in c)) new known h };
 
     ghost undeclared = { refl };
 }

@@ -1,12 +1,12 @@
 //! Entries of messages, merged by a function.
 
 ghost use Rattle.std.specs.Prelude.{◌≡◌, ◌≢◌, ◌+◌, ◌<◌, [], IfErr, IsOk, Ok, OnErr, OnOk, true, false};
-ghost use Rattle.buffa_bytes.specs.Front.{delimited_at, FullOnlyIf};
+ghost use Rattle.buffa_bytes.specs.Readings.{delimited_at, FullOnlyIf};
 ghost use Rattle.buffa_bytes.specs.declared.error.DecodeError.TheVariants.{OutOfMemory};
 ghost use Rattle.buffa_wire.specs.BudgetLeft.{PaysAtMost, budget_left};
 ghost use Rattle.buffa_wire.specs.Message.{MergesBytes, MergesInside, MessageFault, cost_of_payload};
 ghost use Rattle.buffa_map.specs.Calls.{MergesMessages};
-ghost use Rattle.buffa_map.specs.Codec.{RefusesValue, Spends, ReadingTakesMemory, value_at, value_need};
+ghost use Rattle.buffa_map.specs.Codec.{RefusesValue, Spends, ReadingTakesMemory, value_at, value_charge};
 ghost use Rattle.buffa_map.specs.Merge.{MergesEntry, RefusesEntry, rules, state};
 ghost use Rattle.buffa_map.specs.Message.{message_reading};
 
@@ -97,7 +97,7 @@ where
         (B.unread buf.old)) }
     ensures kept { B.beyond buf.new ≡ B.beyond buf.old }
     ensures spends { Spends true result ctx.entry.budget.now
-        (value_need (message_reading M.blank_is M.merged M.cost) ctx.entry.depth (B.unread buf.old))
+        (value_charge (message_reading M.blank_is M.merged M.cost) ctx.entry.depth (B.unread buf.old))
         (budget_left ctx.exit) }
 {
     merge_payload_by(alloc, value, buf, ctx, merge)?;

@@ -52,20 +52,20 @@ fn read_anew<KC: MapCodec, VC: MapCodec, C: MapStorage<Key = KC::Value, Value = 
     number: u32,
     buf: &mut B,
     ctx: DecodeContext<'_>,
-    aside: &mut UnknownFields,
+    unknowns: &mut UnknownFields,
 ) -> Result<(), DecodeError>
     ensures ok { OnOk result (ReadsRun
         (rules (KC.reading, KC.COST) (VC.reading, VC.COST) (C.equal, C.keeps_order) ctx.entry.depth number true)
-        (state [] aside.old.records ctx.entry.budget.now) (B.unread buf.old)
-        (state (C.pairs map.new) aside.new.records (budget_left ctx.exit)) (B.unread buf.new)) }
+        (state [] unknowns.old.records ctx.entry.budget.now) (B.unread buf.old)
+        (state (C.pairs map.new) unknowns.new.records (budget_left ctx.exit)) (B.unread buf.new)) }
     ensures err { IfErr result (RefusesRun
         (rules (KC.reading, KC.COST) (VC.reading, VC.COST) (C.equal, C.keeps_order) ctx.entry.depth number true)
-        (state [] aside.old.records ctx.entry.budget.now) (B.unread buf.old)
-        (state (C.pairs map.new) aside.new.records (budget_left ctx.exit)) (B.unread buf.new)) }
+        (state [] unknowns.old.records ctx.entry.budget.now) (B.unread buf.old)
+        (state (C.pairs map.new) unknowns.new.records (budget_left ctx.exit)) (B.unread buf.new)) }
     ensures kept { B.beyond buf.new ≡ B.beyond buf.old }
 {
     map.storage_clear();
-    read_run_by::<KC, VC, C, B, UnknownFields>(alloc, map, number, buf, ctx, aside)
+    read_run_by::<KC, VC, C, B, UnknownFields>(alloc, map, number, buf, ctx, unknowns)
 }
 
 // Writes the map, and the records of the list behind it.
@@ -74,13 +74,13 @@ fn write_with<
     VC: MapCodec,
     C: MapWrite + MapStorage<Key = KC::Value, Value = VC::Value>,
     S: EncodeSink,
->(map: &C, number: u32, aside: &UnknownFields, sink: &mut S) -> Result<(), EncodeError>
+>(map: &C, number: u32, unknowns: &UnknownFields, sink: &mut S) -> Result<(), EncodeError>
     requires { IsNumber number }
     ensures { WritesWalk C.equal (C.walks map.now) KC.writing VC.writing KC.fits VC.fits number (C.pairs map.now)
-        aside.now.records (S.written sink.old) (S.room sink.old) result (S.written sink.new) (S.room sink.new) }
+        unknowns.now.records (S.written sink.old) (S.room sink.old) result (S.written sink.new) (S.room sink.new) }
 {
     map.storage_write::<KC, VC, S>(number, sink)?;
-    aside.write_to(sink)
+    unknowns.write_to(sink)
 }
 
 /// Rewrites a map field: empties the map, reads the records to the end of the buffer into it, and writes
@@ -133,10 +133,10 @@ pub fn rewrite_map_field<
     // What lies behind the end of a limited buffer stays there.
     ensures kept { B.beyond buf.new ≡ B.beyond buf.old }
 {
-    let mut aside = UnknownFields::new(alloc);
-    match read_anew::<KC, VC, C, B>(alloc, map, number, buf, ctx, &mut aside) {
+    let mut unknowns = UnknownFields::new(alloc);
+    match read_anew::<KC, VC, C, B>(alloc, map, number, buf, ctx, &mut unknowns) {
         Err(fault) => Err(RewriteError::Decode(fault)),
-        Ok(()) => match write_with::<KC, VC, C, S>(map, number, &aside, sink) {
+        Ok(()) => match write_with::<KC, VC, C, S>(map, number, &unknowns, sink) {
             Ok(()) => Ok(()),
             Err(error) => Err(RewriteError::Encode(error)),
         },

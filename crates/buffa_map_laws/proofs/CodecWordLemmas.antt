@@ -2,12 +2,12 @@
 use Rattle.std.proofs.Common.{arith, ◌≡◌, ◌++◌, inl, inr, ℕ, zero, suc, ℤ, Bool, true, false, List, Option, None, Result, Ok, Err, ap, append_assoc, refl, sym, subst, ◌∙◌, cond}
 use Rattle.buffa_bytes.proofs.DelimitedLemmas.{delimited_complete, delimited_faulty}
 use Rattle.buffa_bytes.proofs.StepLemmas.{err_same}
-use Rattle.buffa_bytes.specs.Content.Content.{bytes, number}
+use Rattle.buffa_bytes.specs.PayloadValue.PayloadValue.{bytes, number}
 use Rattle.std.specs.Prelude.{is_some, pos, IsOk}
 use Rattle.std.specs.Str.{is_utf8}
-use Rattle.buffa_bytes.specs.Content.{Content, content_at, number_in, bytes_in}
+use Rattle.buffa_bytes.specs.PayloadValue.{PayloadValue, payload_value_at, number_in, bytes_in}
 use Rattle.buffa_bytes.specs.Delimited.{bytes_as, string_as, text_as}
-use Rattle.buffa_bytes.specs.Front.{delimited_at, varint_at, taken, ◌>>=◌}
+use Rattle.buffa_bytes.specs.Readings.{delimited_at, varint_at, taken, ◌>>=◌}
 use Rattle.buffa_bytes.specs.Values.{int32_of}
 use Rattle.buffa_bytes.specs.Scalars.{eight_as, four_as, varint_as}
 use Rattle.buffa_bytes.specs.declared.wire_type.WireType.{WireType}
@@ -17,32 +17,32 @@ use Rattle.buffa_bytes.specs.declared.error.DecodeError.TheVariants.{RecursionLi
 use Rattle.buffa_wire.specs.BudgetLeft.{BudgetLeft, Lacks, nothing, IsLimit}
 use Rattle.buffa_wire.specs.Enums.{numbers, open_number}
 use Rattle.buffa_wire.specs.Message.{merged_in}
-use Rattle.buffa_wire.proofs.KeepLemmas.{content_no_limit}
-use Rattle.buffa_map.specs.Codec.{Reading, ValueFault, value_at, value_need}
+use Rattle.buffa_wire.proofs.KeepLemmas.{payload_value_no_limit}
+use Rattle.buffa_map.specs.Codec.{Reading, ValueFault, value_at, value_charge}
 use Rattle.buffa_map_laws.specs.CodecWords.{AtBytes, Never, Reader, IsReadAs, MessagesAreReadAs, always, any_number, declared_number}
 use Rattle.buffa_map.specs.Enums.{closed_reading, open_reading}
-use Rattle.buffa_map.specs.Message.{meant, message_reading}
-use Rattle.buffa_map.specs.MessageFacts.{meant_no_limit}
+use Rattle.buffa_map.specs.Message.{merged_value, message_reading}
+use Rattle.buffa_map.specs.MessageFacts.{merged_no_limit}
 use Rattle.buffa_map.specs.Scalars.{bytes_reading, number_reading, string_reading}
 
 -- ---- payloads that are no messages, read by what they hold
-abbrev plain_reading : {V : Type 0} → V → WireType → (V → Content → Result (V × Bool) DecodeError) → Bool → Bool → Reading V
+abbrev plain_reading : {V : Type 0} → V → WireType → (V → PayloadValue → Result (V × Bool) DecodeError) → Bool → Bool → Reading V
 plain_reading blank w f undeclared memory = record { blank = blank; wire = w; reads = λ d old c. f old c; nested = false; undeclared = undeclared; takes_memory = memory; cost = λ d c. nothing }
 
-module _ {V : Type 0} (blank : V) (w : WireType) (f : V → Content → Result (V × Bool) DecodeError) (undeclared memory : Bool) where
+module _ {V : Type 0} (blank : V) (w : WireType) (f : V → PayloadValue → Result (V × Bool) DecodeError) (undeclared memory : Bool) where
   -- a payload is whole, where what it holds is read
-  whole_if : (old : V) (c : Result (Content × List ℕ) DecodeError) (r : Result ((V × Bool) × List ℕ) DecodeError) → (c >>= (λ x. f old x.0 >>= (λ v. Ok (v, x.1)))) ≡ r → IsOk r → IsOk c
+  whole_if : (old : V) (c : Result (PayloadValue × List ℕ) DecodeError) (r : Result ((V × Bool) × List ℕ) DecodeError) → (c >>= (λ x. f old x.0 >>= (λ v. Ok (v, x.1)))) ≡ r → IsOk r → IsOk c
   whole_if old (Ok c) r h ok = refl
   whole_if old (Err e) r h ok = rw (sym h) at ok
 
   plain_read : (at : Reader V) (Takes : List ℕ → Type 0) → ((old : V) (bs : List ℕ) → value_at (plain_reading blank w f undeclared memory) 0 old bs ≡ at old bs) →
-      ((bs : List ℕ) → memory ≡ true → IsOk (content_at w bs) → Takes bs) → IsReadAs (plain_reading blank w f undeclared memory) at Takes
+      ((bs : List ℕ) → memory ≡ true → IsOk (payload_value_at w bs) → Takes bs) → IsReadAs (plain_reading blank w f undeclared memory) at Takes
   plain_read at Takes same takes = record {
     value = λ d old bs. same old bs;
     fault = λ d old bs left e. ((λ h. sym (same old bs) ∙ h), (λ h. same old bs ∙ h));
     memory = λ d bs h. takes bs h.0 h.2;
     spends = λ r d bs left over h. h;
-    whole = λ d bs old ok. (refl, whole_if old (content_at w bs) (at old bs) (same old bs) ok);
+    whole = λ d bs old ok. (refl, whole_if old (payload_value_at w bs) (at old bs) (same old bs) ok);
   }
 
 -- ---- numbers: a varint, or four or eight bytes
@@ -93,7 +93,7 @@ string_value : {V : Type 0} (blank : V) (of : List ℕ → V) (old : V) (bs : Li
 string_value blank of old bs (Ok p) h = rw h (text_value of p (is_utf8 p.0) refl)
 string_value blank of old bs (Err e) h = rw h refl
 
-bytes_there : (bs : List ℕ) (r : Result (List ℕ × List ℕ) DecodeError) → delimited_at bs ≡ r → IsOk (content_at LengthDelimited bs) → AtBytes bs
+bytes_there : (bs : List ℕ) (r : Result (List ℕ × List ℕ) DecodeError) → delimited_at bs ≡ r → IsOk (payload_value_at LengthDelimited bs) → AtBytes bs
 bytes_there bs (Ok p) h ok = rw h refl
 bytes_there bs (Err e) h ok = let none = rw h at ok in cc
 
@@ -123,22 +123,22 @@ open_read of = plain_read (open_number of (pos 0)) Varint (λ old c. Ok (open_nu
 
 -- ---- messages
 module _ {V : Type 0} (blank : V) (merged : ℕ → V → List ℕ → Option V) (cost : ℕ → List ℕ → BudgetLeft) where
-  refused_so : (o : Option V) (rest : List ℕ) → o ≡ None → (f : DecodeError) × ((meant o >>= before rest) ≡ Err f)
+  refused_so : (o : Option V) (rest : List ℕ) → o ≡ None → (f : DecodeError) × ((merged_value o >>= before rest) ≡ Err f)
   refused_so o rest h = (UnexpectedEof, rw h refl)
 
   no_limit_in : (d : ℕ) (old : V) (bs : List ℕ) (f : DecodeError) → ValueFault (message_reading blank merged cost) d old bs f → IsLimit f → ⊥
   no_limit_in zero old bs RecursionLimitExceeded (inl h) l = l
   no_limit_in zero old bs f (inl h) l = cc
   no_limit_in (suc d) old bs f (inl h) l = cc
-  no_limit_in d old bs f (inr (inl h)) l = content_no_limit LengthDelimited bs f h.1 l
-  no_limit_in d old bs f (inr (inr (room, c, rest, x, t, h, inl same))) l = meant_no_limit (merged_in merged d old (bytes_in c)) x h (subst IsLimit same l)
+  no_limit_in d old bs f (inr (inl h)) l = payload_value_no_limit LengthDelimited bs f h.1 l
+  no_limit_in d old bs f (inr (inr (room, c, rest, x, t, h, inl same))) l = merged_no_limit (merged_in merged d old (bytes_in c)) x h (subst IsLimit same l)
   no_limit_in d old bs f (inr (inr (room, c, rest, x, t, h, inr other))) l = other l
 
-  nothing_lacks : (left need : BudgetLeft) → need ≡ nothing → Lacks left need → ⊥
-  nothing_lacks left need h (inl few) = omega (arith, few, ap (λ z. z.unknown) h)
-  nothing_lacks left need h (inr few) = omega (arith, few, ap (λ z. z.memory) h)
+  nothing_lacks : (left charge : BudgetLeft) → charge ≡ nothing → Lacks left charge → ⊥
+  nothing_lacks left charge h (inl few) = omega (arith, few, ap (λ z. z.unknown) h)
+  nothing_lacks left charge h (inr few) = omega (arith, few, ap (λ z. z.memory) h)
 
-  free_at : (bs : List ℕ) (r : Result (List ℕ × List ℕ) DecodeError) → delimited_at bs ≡ r → value_need (message_reading blank merged cost) 0 bs ≡ nothing
+  free_at : (bs : List ℕ) (r : Result (List ℕ × List ℕ) DecodeError) → delimited_at bs ≡ r → value_charge (message_reading blank merged cost) 0 bs ≡ nothing
   free_at bs (Ok p) h = rw h refl
   free_at bs (Err e) h = rw h refl
 
@@ -150,10 +150,10 @@ module _ {V : Type 0} (blank : V) (merged : ℕ → V → List ℕ → Option V)
   bytes_fault : (d : ℕ) (old : V) (bs : List ℕ) (f g : DecodeError) → delimited_at bs ≡ Err f → ValueFault (message_reading blank merged cost) (suc d) old bs g → g ≡ f
   bytes_fault d old bs f g none (inl h) = cc
   bytes_fault d old bs f g none (inr (inl h)) = err_same (sym (delimited_faulty bs g h.1) ∙ none)
-  bytes_fault d old bs f g none (inr (inr (room, bytes b, rest, x, (p, (t, v, is), split), reads, told))) =
+  bytes_fault d old bs f g none (inr (inr (room, bytes b, rest, x, (p, (t, v, is), split), reads, reported))) =
       let there : delimited_at bs ≡ Ok (b, rest) = ap delimited_at (split ∙ ap (λ z. z ++ rest) is ∙ append_assoc t b rest) ∙ delimited_complete t b rest v in
       let no = sym none ∙ there in cc
-  bytes_fault d old bs f g none (inr (inr (room, number n, rest, x, (p, none_is, split), reads, told))) = absurd none_is
+  bytes_fault d old bs f g none (inr (inr (room, number n, rest, x, (p, none_is, split), reads, reported))) = absurd none_is
 
   pub messages_read : MessagesAreReadAs (message_reading blank merged cost) merged cost
   messages_read = record {
@@ -165,6 +165,6 @@ module _ {V : Type 0} (blank : V) (merged : ℕ → V → List ℕ → Option V)
     limits = λ d old bs left f h l. elim h [ inl few ↦ few | inr bad ↦ absurd (no_limit_in d old bs f bad l) ];
     no_cost = λ bs. free_at bs (delimited_at bs) refl;
     no_bytes_cost = λ d bs f h. rw h refl;
-    level_told = λ old bs left f h. elim h [ inl few ↦ absurd (nothing_lacks left _ (free_at bs (delimited_at bs) refl) few) | inr bad ↦ level_fault old bs f bad ];
-    bytes_told = λ d old bs left f g none h. elim h [ inl few ↦ absurd (nothing_lacks left _ (rw none refl) few) | inr bad ↦ bytes_fault d old bs f g none bad ];
+    level_reported = λ old bs left f h. elim h [ inl few ↦ absurd (nothing_lacks left _ (free_at bs (delimited_at bs) refl) few) | inr bad ↦ level_fault old bs f bad ];
+    bytes_reported = λ d old bs left f g none h. elim h [ inl few ↦ absurd (nothing_lacks left _ (rw none refl) few) | inr bad ↦ bytes_fault d old bs f g none bad ];
   }

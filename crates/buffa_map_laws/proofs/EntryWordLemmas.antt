@@ -6,27 +6,27 @@ use Rattle.std.specs.List.{filter}
 use Rattle.std.specs.Map.{lookup_entry}
 use Rattle.buffa_bytes.proofs.DelimitedLemmas.{delimited_sound, delimited_taken}
 use Rattle.buffa_bytes.proofs.FieldLemmas.{same_refl, tag_complete, tag_falls, tag_read, same_false}
-use Rattle.buffa_bytes.proofs.ContentLemmas.{content_complete}
+use Rattle.buffa_bytes.proofs.PayloadValueLemmas.{payload_value_complete}
 use Rattle.buffa_bytes.proofs.FullLemmas.{delimited_full}
-use Rattle.buffa_bytes.proofs.LeftLemmas.{no_delimited_cut, no_number}
+use Rattle.buffa_bytes.proofs.UnreadLemmas.{no_delimited_cut, no_number}
 use Rattle.buffa_bytes.proofs.SequenceLemmas.{has_byte, not_nil, ok_same}
 use Rattle.buffa_bytes.proofs.StepLemmas.{agree_err, agree_ok}
 use Rattle.buffa_bytes.proofs.TailLemmas.{tail_dropped}
 use Rattle.buffa_bytes.proofs.WireLemmas.{check_differs, check_same}
 use Rattle.buffa_bytes.specs.Field.{LengthFault}
-use Rattle.buffa_bytes.specs.Front.{delimited_at, skip_at, tag_at, ◌>>=◌}
-use Rattle.buffa_bytes.specs.Left.{past_no_delimited, past_no_tag, IsTailOf}
+use Rattle.buffa_bytes.specs.Readings.{delimited_at, skip_at, tag_at, ◌>>=◌}
+use Rattle.buffa_bytes.specs.Unread.{past_no_delimited, past_no_tag, IsTailOf}
 use Rattle.buffa_bytes.specs.Scan.{ParsesEach, ParsesTo, join}
 use Rattle.buffa_bytes.specs.declared.wire_type.WireType.{WireType}
 use Rattle.buffa_bytes.specs.declared.wire_type.WireType.TheVariants.{LengthDelimited}
 use Rattle.buffa_bytes.specs.declared.error.DecodeError.{DecodeError}
 use Rattle.buffa_bytes.specs.declared.error.DecodeError.TheVariants.{ElementMemoryLimitExceeded, OutOfMemory, UnknownFieldLimitExceeded, WireTypeMismatch}
 use Rattle.buffa_wire.specs.BudgetLeft.{BudgetLeft, Pays, nothing, plus, units, unknown_fields}
-use Rattle.buffa_wire.specs.Records.{Datum, bytes}
-use Rattle.buffa_map.specs.Codec.{Reading, value_at, value_need}
+use Rattle.buffa_wire.specs.Records.{FieldData, bytes}
+use Rattle.buffa_map.specs.Codec.{Reading, value_at, value_charge}
 use Rattle.buffa_map.specs.Entry.{FaultOf, IsEntry, IsEntryField, EntryFieldTakesMemory, EntryFieldsTakeMemory}
-use Rattle.buffa_map.specs.EntryReading.{blanks, entry_field_at, field_need, inner_need, need_at, need_of}
-use Rattle.buffa_map_laws.specs.EntryWords.{EntriesAreFields, EntriesAreMerged, EntriesNeed, FieldTakesMemory, PairsAreLists, RefusedEntriesStay, RulesAreMet, RunsAreEntries}
+use Rattle.buffa_map.specs.EntryReading.{blanks, entry_field_at, field_charge, inner_charge, charge_at, charge_of}
+use Rattle.buffa_map_laws.specs.EntryWords.{EntriesAreFields, EntriesAreMerged, EntriesCharge, FieldTakesMemory, PairsAreLists, RefusedEntriesStay, RulesAreMet, RunsAreEntries}
 use Rattle.buffa_map.specs.Merge.{EntryTakesMemory, MergesEntry, ReadsRun, RefusesRun, Rules, State, kept_of_entry, kept_of_run, unknown_cost}
 use Rattle.buffa_map.specs.Pairs.{SamePairs, put}
 use Rattle.buffa_map.specs.Parts.{RefusesParts}
@@ -35,7 +35,7 @@ use Rattle.buffa_map.specs.declared.map_entry.MapEntry.{MapEntry}
 use Rattle.buffa_map.proofs.EntryLemmas.{field_complete, field_step}
 use Rattle.buffa_map_laws.proofs.FrontLemmas.{same_entry}
 use Rattle.buffa_map.proofs.MergeLemmas.{bad_parts, is_dropped, is_kept, is_put, no_entry, not_kept}
-use Rattle.buffa_map.proofs.NeedLemmas.{field_broken, inner_is, need_end, need_step, need_stop}
+use Rattle.buffa_map.proofs.ChargeLemmas.{field_broken, inner_is, charge_end, charge_step, charge_stop}
 use Rattle.buffa_map.proofs.RunLemmas.{SamePairs-step, extra_kept, none_kept, record_found}
 use Rattle.buffa_map.proofs.StepLemmas.{none_reached, stop_entry, stop_mismatch, stop_other, stop_tag}
 use Rattle.buffa_map.proofs.TailLemmas.{not_delimited, tail_behind}
@@ -89,18 +89,18 @@ none_plus a =
 
 module _ {K V : Type 0} (key : Reading K) (val : Reading V) (d : ℕ) where
   -- a field costs the same, whatever follows it
-  field_cost : (s t : MapEntry K V) (f : List ℕ) → IsEntryField key val d s f t → (b : BudgetLeft) × ((rest : List ℕ) → field_need key val d (f ++ rest) ≡ b)
+  field_cost : (s t : MapEntry K V) (f : List ℕ) → IsEntryField key val d s f t → (b : BudgetLeft) × ((rest : List ℕ) → field_charge key val d (f ++ rest) ≡ b)
   field_cost s t f (inl (k, known, (tag, p, c, is_tag, o, h, r, e), st)) = (
     key.cost d c,
     λ rest.
         let split : f ++ rest ≡ tag ++ (p ++ rest) = ap (λ z. z ++ rest) e ∙ append_assoc tag p rest in
-        rw (split, tag_complete tag 1 key.wire (p ++ rest) is_tag, same_refl key.wire, content_complete key.wire p c rest h) refl,
+        rw (split, tag_complete tag 1 key.wire (p ++ rest) is_tag, same_refl key.wire, payload_value_complete key.wire p c rest h) refl,
   )
   field_cost s t f (inr (inl (v, known, (tag, p, c, is_tag, o, h, r, e), st))) = (
     val.cost d c,
     λ rest.
         let split : f ++ rest ≡ tag ++ (p ++ rest) = ap (λ z. z ++ rest) e ∙ append_assoc tag p rest in
-        rw (split, tag_complete tag 2 val.wire (p ++ rest) is_tag, same_refl val.wire, content_complete val.wire p c rest h) refl,
+        rw (split, tag_complete tag 2 val.wire (p ++ rest) is_tag, same_refl val.wire, payload_value_complete val.wire p c rest h) refl,
   )
   field_cost s t f (inr (inr (n, w, not_one, not_two, (tag, p, is_tag, h, e), st))) = (
     nothing,
@@ -109,29 +109,29 @@ module _ {K V : Type 0} (key : Reading K) (val : Reading V) (d : ℕ) where
         rw (split, tag_complete tag n w (p ++ rest) is_tag, ne_eqb n 1 not_one, ne_eqb n 2 not_two) refl,
   )
 
-  need_behind : (ps : List (List ℕ)) (s t : MapEntry K V) (f : List ℕ) → ParsesEach (IsEntryField key val d) s ps t → need_at key val d s (join ps ++ f) ≡ plus (need_at key val d s (join ps)) (need_at key val d t f)
-  need_behind [] s t f h = rw (h, need_end key val d t [] refl) (sym (none_plus (need_at key val d t f)))
-  need_behind (p ∷ ps) s t f (u, h, more) =
+  charge_behind : (ps : List (List ℕ)) (s t : MapEntry K V) (f : List ℕ) → ParsesEach (IsEntryField key val d) s ps t → charge_at key val d s (join ps ++ f) ≡ plus (charge_at key val d s (join ps)) (charge_at key val d t f)
+  charge_behind [] s t f h = rw (h, charge_end key val d t [] refl) (sym (none_plus (charge_at key val d t f)))
+  charge_behind (p ∷ ps) s t f (u, h, more) =
       let cost = field_cost s u p h in
-      let all = need_step key val d s u (p ++ (join ps ++ f)) (join ps ++ f) (field_complete key val d s u p (join ps ++ f) h) ∙ ap (λ z. plus z (need_at key val d u (join ps ++ f))) (cost.1 (join ps ++ f)) in
-      let front = need_step key val d s u (p ++ join ps) (join ps) (field_complete key val d s u p (join ps) h) ∙ ap (λ z. plus z (need_at key val d u (join ps))) (cost.1 (join ps)) in
-      ap (need_at key val d s) (append_assoc p (join ps) f) ∙ all ∙ ap (λ z. plus cost.0 z) (need_behind ps u t f more)
-      ∙ plus_assoc cost.0 (need_at key val d u (join ps)) (need_at key val d t f) ∙ ap (λ z. plus z (need_at key val d t f)) (sym front)
+      let all = charge_step key val d s u (p ++ (join ps ++ f)) (join ps ++ f) (field_complete key val d s u p (join ps ++ f) h) ∙ ap (λ z. plus z (charge_at key val d u (join ps ++ f))) (cost.1 (join ps ++ f)) in
+      let front = charge_step key val d s u (p ++ join ps) (join ps) (field_complete key val d s u p (join ps) h) ∙ ap (λ z. plus z (charge_at key val d u (join ps))) (cost.1 (join ps)) in
+      ap (charge_at key val d s) (append_assoc p (join ps) f) ∙ all ∙ ap (λ z. plus cost.0 z) (charge_behind ps u t f more)
+      ∙ plus_assoc cost.0 (charge_at key val d u (join ps)) (charge_at key val d t f) ∙ ap (λ z. plus z (charge_at key val d t f)) (sym front)
 
   -- the field is all that is there, or it is refused
-  last_need : (s : MapEntry K V) (f : List ℕ) (r : Result (MapEntry K V × List ℕ) DecodeError) → entry_field_at key val d s f ≡ r → ((x : MapEntry K V × List ℕ) → r ≡ Ok x → x.1 ≡ []) → need_at key val d s f ≡ field_need key val d f
-  last_need s f (Ok x) h whole =
-      need_step key val d s x.0 f x.1 h ∙ ap (λ z. plus (field_need key val d f) z) (need_end key val d x.0 x.1 (ap length (whole x refl))) ∙ plus_none (field_need key val d f)
-  last_need s f (Err e) h whole = need_stop key val d s f e h
+  last_charge : (s : MapEntry K V) (f : List ℕ) (r : Result (MapEntry K V × List ℕ) DecodeError) → entry_field_at key val d s f ≡ r → ((x : MapEntry K V × List ℕ) → r ≡ Ok x → x.1 ≡ []) → charge_at key val d s f ≡ field_charge key val d f
+  last_charge s f (Ok x) h whole =
+      charge_step key val d s x.0 f x.1 h ∙ ap (λ z. plus (field_charge key val d f) z) (charge_end key val d x.0 x.1 (ap length (whole x refl))) ∙ plus_none (field_charge key val d f)
+  last_charge s f (Err e) h whole = charge_stop key val d s f e h
 
-  need_more : (cost : ℕ) (e f : List ℕ) (s : MapEntry K V) → IsEntry key val d e s → ((x : MapEntry K V × List ℕ) → entry_field_at key val d s f ≡ Ok x → x.1 ≡ []) →
-      need_of key val d cost (e ++ f) ≡ plus (need_of key val d cost e) (field_need key val d f)
-  need_more cost e f s (ps, is, each) whole =
+  charge_more : (cost : ℕ) (e f : List ℕ) (s : MapEntry K V) → IsEntry key val d e s → ((x : MapEntry K V × List ℕ) → entry_field_at key val d s f ≡ Ok x → x.1 ≡ []) →
+      charge_of key val d cost (e ++ f) ≡ plus (charge_of key val d cost e) (field_charge key val d f)
+  charge_more cost e f s (ps, is, each) whole =
       let joined : e ≡ join ps = is ∙ append-nil (join ps) in
-      let last = last_need s f (entry_field_at key val d s f) refl whole in
-      ap (λ z. plus (units cost) (need_at key val d (blanks key val d) (z ++ f))) joined ∙ ap (plus (units cost)) (need_behind ps (blanks key val d) s f each)
-      ∙ plus_assoc (units cost) (need_at key val d (blanks key val d) (join ps)) (need_at key val d s f)
-      ∙ ap (λ z. plus (plus (units cost) (need_at key val d (blanks key val d) z)) (need_at key val d s f)) (sym joined) ∙ ap (plus (need_of key val d cost e)) last
+      let last = last_charge s f (entry_field_at key val d s f) refl whole in
+      ap (λ z. plus (units cost) (charge_at key val d (blanks key val d) (z ++ f))) joined ∙ ap (plus (units cost)) (charge_behind ps (blanks key val d) s f each)
+      ∙ plus_assoc (units cost) (charge_at key val d (blanks key val d) (join ps)) (charge_at key val d s f)
+      ∙ ap (λ z. plus (plus (units cost) (charge_at key val d (blanks key val d) z)) (charge_at key val d s f)) (sym joined) ∙ ap (plus (charge_of key val d cost e)) last
 
 -- nothing is behind what a payload is read as, nor behind the field
 behind_value : {X S : Type 0} (r : Result (X × List ℕ) DecodeError) (g : X → S) (x : S × List ℕ) → (r >>= (λ v. let y : S × List ℕ = (g v.0, v.1) in Ok y)) ≡ Ok x → ((y : X × List ℕ) → r ≡ Ok y → y.1 ≡ []) → x.1 ≡ []
@@ -143,33 +143,33 @@ behind_other (Ok y) s x h whole = sym (ap (λ z. z.1) (ok_same h)) ∙ whole y r
 behind_other (Err e) s x h whole = cc
 
 module _ {K V : Type 0} (key : Reading K) (val : Reading V) where
-  pub entries_need : EntriesNeed key val
-  entries_need = record {
-    empty = λ d cost. ap (plus (units cost)) (need_end key val d (blanks key val d) [] refl) ∙ plus_none (units cost);
+  pub entries_charge : EntriesCharge key val
+  entries_charge = record {
+    empty = λ d cost. ap (plus (units cost)) (charge_end key val d (blanks key val d) [] refl) ∙ plus_none (units cost);
     key_field = λ d cost e f p s h tag whole.
-        let is : field_need key val d f ≡ value_need key d p = rw (tag, same_refl key.wire) refl in
-        need_more key val d cost e f s h (λ x k. behind_value (value_at key d s.key p) (λ v. record s { key = v.0 }) x (rw (tag, check_same 1 key.wire key.wire refl) at k) whole)
-        ∙ ap (plus (need_of key val d cost e)) is;
+        let is : field_charge key val d f ≡ value_charge key d p = rw (tag, same_refl key.wire) refl in
+        charge_more key val d cost e f s h (λ x k. behind_value (value_at key d s.key p) (λ v. record s { key = v.0 }) x (rw (tag, check_same 1 key.wire key.wire refl) at k) whole)
+        ∙ ap (plus (charge_of key val d cost e)) is;
     value_field = λ d cost e f p s h tag whole.
-        let is : field_need key val d f ≡ value_need val d p = rw (tag, same_refl val.wire) refl in
-        need_more key val d cost e f s h (λ x k. behind_value (value_at val d s.value p) (λ v. record s { value = v.0; known = v.1 }) x (rw (tag, check_same 2 val.wire val.wire refl) at k) whole)
-        ∙ ap (plus (need_of key val d cost e)) is;
+        let is : field_charge key val d f ≡ value_charge val d p = rw (tag, same_refl val.wire) refl in
+        charge_more key val d cost e f s h (λ x k. behind_value (value_at val d s.value p) (λ v. record s { value = v.0; known = v.1 }) x (rw (tag, check_same 2 val.wire val.wire refl) at k) whole)
+        ∙ ap (plus (charge_of key val d cost e)) is;
     other_field = λ d cost n w e f p s h tag not_one not_two whole.
-        let is : field_need key val d f ≡ nothing = rw (tag, ne_eqb n 1 not_one, ne_eqb n 2 not_two) refl in
-        need_more key val d cost e f s h (λ x k. behind_other (skip_at d n w p) s x (rw (tag, ne_eqb n 1 not_one, ne_eqb n 2 not_two) at k) whole)
-        ∙ ap (plus (need_of key val d cost e)) is ∙ plus_none (need_of key val d cost e);
+        let is : field_charge key val d f ≡ nothing = rw (tag, ne_eqb n 1 not_one, ne_eqb n 2 not_two) refl in
+        charge_more key val d cost e f s h (λ x k. behind_other (skip_at d n w p) s x (rw (tag, ne_eqb n 1 not_one, ne_eqb n 2 not_two) at k) whole)
+        ∙ ap (plus (charge_of key val d cost e)) is ∙ plus_none (charge_of key val d cost e);
     key_wire = λ d cost w e f p s h tag other.
-        let is : field_need key val d f ≡ nothing = rw (tag, same_false key.wire w other) refl in
-        need_more key val d cost e f s h (λ x k. let no = rw (tag, check_differs 1 key.wire w other) at k in cc)
-        ∙ ap (plus (need_of key val d cost e)) is ∙ plus_none (need_of key val d cost e);
+        let is : field_charge key val d f ≡ nothing = rw (tag, same_false key.wire w other) refl in
+        charge_more key val d cost e f s h (λ x k. let no = rw (tag, check_differs 1 key.wire w other) at k in cc)
+        ∙ ap (plus (charge_of key val d cost e)) is ∙ plus_none (charge_of key val d cost e);
     value_wire = λ d cost w e f p s h tag other.
-        let is : field_need key val d f ≡ nothing = rw (tag, same_false val.wire w other) refl in
-        need_more key val d cost e f s h (λ x k. let no = rw (tag, check_differs 2 val.wire w other) at k in cc)
-        ∙ ap (plus (need_of key val d cost e)) is ∙ plus_none (need_of key val d cost e);
+        let is : field_charge key val d f ≡ nothing = rw (tag, same_false val.wire w other) refl in
+        charge_more key val d cost e f s h (λ x k. let no = rw (tag, check_differs 2 val.wire w other) at k in cc)
+        ∙ ap (plus (charge_of key val d cost e)) is ∙ plus_none (charge_of key val d cost e);
     no_tag = λ d cost e r s f h tag.
-        let is : field_need key val d r ≡ nothing = rw tag refl in
-        need_more key val d cost e r s h (λ x k. let no = rw tag at k in cc)
-        ∙ ap (plus (need_of key val d cost e)) is ∙ plus_none (need_of key val d cost e);
+        let is : field_charge key val d r ≡ nothing = rw tag refl in
+        charge_more key val d cost e r s h (λ x k. let no = rw tag at k in cc)
+        ∙ ap (plus (charge_of key val d cost e)) is ∙ plus_none (charge_of key val d cost e);
   }
 
 -- ---- what no length, or no tag, leaves unread
@@ -237,12 +237,12 @@ module _ {K V : Type 0} (r : Rules K V) where
       × (r.cost ≤ left.memory) × (((r.keeps_undeclared ≡ true) × (r.val.undeclared ≡ true) × (e ≢ []))
       ⊎ (FieldTakesMemory r e
       ⊎ ((s : MapEntry K V) × IsEntry r.key r.val r.depth e s × ((s.known ≡ true)
-      ⊎ ((r.keeps_undeclared ≡ true) × ((need_of r.key r.val r.depth r.cost e).unknown < left.unknown))))))
+      ⊎ ((r.keeps_undeclared ≡ true) × ((charge_of r.key r.val r.depth r.cost e).unknown < left.unknown))))))
   entry_takes left bs (e, rest, is, room, inl copied) = (e, rest, delimited_taken bs e rest is, room, inl copied)
   entry_takes left bs (e, rest, is, room, inr (inl field)) = (e, rest, delimited_taken bs e rest is, room, inr (inl (field_takes e field)))
   entry_takes left bs (e, rest, is, room, inr (inr whole)) = (e, rest, delimited_taken bs e rest is, room, inr (inr whole))
 
-  inner : (bs e rest : List ℕ) → delimited_at bs ≡ Ok (e, rest) → inner_need r.key r.val r.depth bs ≡ need_at r.key r.val r.depth (blanks r.key r.val r.depth) e
+  inner : (bs e rest : List ℕ) → delimited_at bs ≡ Ok (e, rest) → inner_charge r.key r.val r.depth bs ≡ charge_at r.key r.val r.depth (blanks r.key r.val r.depth) e
   inner bs e rest is = inner_is r.key r.val r.depth bs e rest is
 
   refused_entries_stay : RefusedEntriesStay r
@@ -273,7 +273,7 @@ module _ {K V : Type 0} (r : Rules K V) where
     fold_same m k [] h = h
     fold_same m k (x ∷ es) h = fold_same (step r.same m x.parts) (step r.same k x.parts) es (SamePairs-step laws m k x.parts h)
 
-  abbrev numbered : ℕ → List ℕ → ℕ × Datum
+  abbrev numbered : ℕ → List ℕ → ℕ × FieldData
   numbered n e = (n, bytes e)
 
   kept_cons : (keeps known : Bool) (n : ℕ) (e : List ℕ) (ks : List (List ℕ)) →
@@ -282,7 +282,7 @@ module _ {K V : Type 0} (r : Rules K V) where
   kept_cons true false n e ks = refl
   kept_cons false known n e ks = refl
 
-  first_paid : (a b c : BudgetLeft) (x : EntryRecord K V) (xs : List (EntryRecord K V)) → Pays a (plus (need_of r.key r.val r.depth r.cost x.bytes) (unknown_fields (cond x.parts.known 0 (unknown_cost r)))) b →
+  first_paid : (a b c : BudgetLeft) (x : EntryRecord K V) (xs : List (EntryRecord K V)) → Pays a (plus (charge_of r.key r.val r.depth r.cost x.bytes) (unknown_fields (cond x.parts.known 0 (unknown_cost r)))) b →
       ArePaid r.key r.val r.depth r.cost (unknown_cost r) b xs c → ArePaid r.key r.val r.depth r.cost (unknown_cost r) a (x ∷ xs) c
   first_paid a b c x xs k h = (omega (arith, k.1, h.0), omega (arith, k.0, h.1, extra_kept x.parts.known x.bytes (undeclared xs) (unknown_cost r)))
 
@@ -293,7 +293,7 @@ module _ {K V : Type 0} (r : Rules K V) where
     found : (front : List ℕ) × IsRecord r.key r.val r.depth r.number front said × (bs ≡ front ++ rest)
     found = record_found r.key r.val r.depth r.number bs mid rest r.number LengthDelimited k.says tag refl (check_same r.number LengthDelimited LengthDelimited refl) k.entry k.read
 
-    first_keeps : (new : List (ℕ × Datum)) (es : List (EntryRecord K V)) → new ≡ now.records ++ kept_of_run r es → new ≡ old.records ++ kept_of_run r (said ∷ es)
+    first_keeps : (new : List (ℕ × FieldData)) (es : List (EntryRecord K V)) → new ≡ now.records ++ kept_of_run r es → new ≡ old.records ++ kept_of_run r (said ∷ es)
     first_keeps new es h =
         h ∙ ap (λ z. z ++ kept_of_run r es) k.keeps ∙ append_assoc old.records (kept_of_entry r k.entry k.says) (kept_of_run r es)
         ∙ ap (λ z. old.records ++ z) (sym (kept_cons r.keeps_undeclared k.says.known r.number k.entry (undeclared es)))

@@ -7,7 +7,7 @@ use Rattle.buffa_bytes.specs.Field.{TakesDelimited}
 use Rattle.buffa_wire.specs.BudgetLeft.{Lacks, BudgetLeft}
 use Rattle.buffa_map.specs.Codec.{Reading}
 use Rattle.buffa_map.specs.Entry.{EntryFault, EntryOf, FaultOf, IsEntry}
-use Rattle.buffa_map.specs.EntryReading.{need_of}
+use Rattle.buffa_map.specs.EntryReading.{charge_of}
 use Rattle.buffa_map.specs.declared.map_entry.MapEntry.{MapEntry}
 use Rattle.buffa_bytes.proofs.SequenceLemmas.{ok_no_err, ok_same}
 use Rattle.buffa_map.proofs.EntryLemmas.{entry_complete, entry_faulty}
@@ -31,23 +31,23 @@ module _ {K V : Type 0} (key : Reading K) (val : Reading V) (d : ℕ) where
   abbrev Behind : ℕ → ℕ → BudgetLeft → DecodeError → List ℕ → Type 0
   Behind cost extra left f e =
       ((left.memory < cost) × (f ≡ ElementMemoryLimitExceeded))
-      ⊎ ((cost ≤ left.memory) × (Lacks left (need_of key val d cost e) ⊎ (FaultOf key val d e f
-      ⊎ ((s : MapEntry K V) × IsEntry key val d e s × (s.known ≡ false) × (left.unknown < (need_of key val d cost e).unknown + extra) × (f ≡ UnknownFieldLimitExceeded)))))
+      ⊎ ((cost ≤ left.memory) × (Lacks left (charge_of key val d cost e) ⊎ (FaultOf key val d e f
+      ⊎ ((s : MapEntry K V) × IsEntry key val d e s × (s.known ≡ false) × (left.unknown < (charge_of key val d cost e).unknown + extra) × (f ≡ UnknownFieldLimitExceeded)))))
 
   none_behind : (cost extra : ℕ) (left : BudgetLeft) (e : List ℕ) (s : MapEntry K V) (f : DecodeError) → IsEntry key val d e s →
-      (need_of key val d cost e).memory ≤ left.memory → (need_of key val d cost e).unknown + cond s.known 0 extra ≤ left.unknown → Behind cost extra left f e → ⊥
+      (charge_of key val d cost e).memory ≤ left.memory → (charge_of key val d cost e).unknown + cond s.known 0 extra ≤ left.unknown → Behind cost extra left f e → ⊥
   none_behind cost extra left e s f h units slots (inl few) = absurd (omega (arith, units, few.0))
   none_behind cost extra left e s f h units slots (inr (many, inl (inl few))) = absurd (omega (arith, slots, few))
   none_behind cost extra left e s f h units slots (inr (many, inl (inr few))) = absurd (omega (arith, units, few))
   none_behind cost extra left e s f h units slots (inr (many, inr (inl bad))) = entry_no_fault e s f h bad
   none_behind cost extra left e s f h units slots (inr (many, inr (inr (t, k, known, few, which)))) =
       let same : s ≡ t = same_entry e s t h k in
-      let open_extra : (need_of key val d cost e).unknown + cond t.known 0 extra ≤ left.unknown = subst (λ (z : MapEntry K V). (need_of key val d cost e).unknown + cond z.known 0 extra ≤ left.unknown) same slots in
-      let taken : (need_of key val d cost e).unknown + extra ≤ left.unknown = subst (λ (z : Bool). (need_of key val d cost e).unknown + cond z 0 extra ≤ left.unknown) known open_extra in
+      let open_extra : (charge_of key val d cost e).unknown + cond t.known 0 extra ≤ left.unknown = subst (λ (z : MapEntry K V). (charge_of key val d cost e).unknown + cond z.known 0 extra ≤ left.unknown) same slots in
+      let taken : (charge_of key val d cost e).unknown + extra ≤ left.unknown = subst (λ (z : Bool). (charge_of key val d cost e).unknown + cond z 0 extra ≤ left.unknown) known open_extra in
       absurd (omega (arith, taken, few))
 
   pub paid_no_fault : (cost extra : ℕ) (left : BudgetLeft) (bs e rest : List ℕ) (s : MapEntry K V) (f : DecodeError) → EntryOf key val d bs e s rest →
-      (need_of key val d cost e).memory ≤ left.memory → (need_of key val d cost e).unknown + cond s.known 0 extra ≤ left.unknown → EntryFault key val d cost extra left bs f → ⊥
+      (charge_of key val d cost e).memory ≤ left.memory → (charge_of key val d cost e).unknown + cond s.known 0 extra ≤ left.unknown → EntryFault key val d cost extra left bs f → ⊥
   paid_no_fault cost extra left bs e rest s f (there, h) units slots (inl bad) = ok_no_err (sym (delimited_taken bs e rest there) ∙ delimited_faulty bs f bad)
   paid_no_fault cost extra left bs e rest s f (there, h) units slots (inr (g, after, also, k)) =
       let taken = same_taken bs g after e rest also there in

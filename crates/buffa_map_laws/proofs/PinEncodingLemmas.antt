@@ -13,8 +13,8 @@ use Rattle.buffa_bytes.specs.declared.wire_type.WireType.TheVariants.{LengthDeli
 use Rattle.buffa_bytes.proofs.SequenceLemmas.{ok_no_err, heads, tails}
 use Rattle.buffa_wire.specs.BudgetLeft.{BudgetLeft, nothing}
 use Rattle.buffa_wire.specs.Cache.{Cache}
-use Rattle.buffa_bytes.specs.Content.{Content}
-use Rattle.buffa_wire.specs.Records.{Datum}
+use Rattle.buffa_bytes.specs.PayloadValue.{PayloadValue}
+use Rattle.buffa_wire.specs.Records.{FieldData}
 use Rattle.buffa_wire.specs.Encoding.{records_encoding}
 use Rattle.buffa_bytes.specs.Values.{tag_encoding}
 use Rattle.buffa_map.specs.Codec.{Writing}
@@ -102,7 +102,7 @@ module _ {K M : Type 0} (key : Writing K) (encoding slots : M → List ℕ) wher
 -- ---- rewrites
 
 module _ {K V : Type 0} (r : Rules K V) (laws : IsEquivalence r.same)
-    (key_free : r.key.nested ≡ false → (d : ℕ) (c : Content) → r.key.cost d c ≡ nothing) (val_free : r.val.nested ≡ false → (d : ℕ) (c : Content) → r.val.cost d c ≡ nothing)
+    (key_free : r.key.nested ≡ false → (d : ℕ) (c : PayloadValue) → r.key.cost d c ≡ nothing) (val_free : r.val.nested ≡ false → (d : ℕ) (c : PayloadValue) → r.val.cost d c ≡ nothing)
     (key : Writing K) (val : Writing V) (KeyFits : K → Type 0) (ValFits : V → Type 0) (A B : List (K × V) → Type 0)
     (left : BudgetLeft) (bytes : List ℕ) (a b : List (K × V)) (over last : BudgetLeft) (x y old v w : List ℕ) (room : ℕ) where
   abbrev Rewritten : ℕ → Type 0
@@ -157,7 +157,7 @@ module _ {K V : Type 0} (r : Rules K V) (laws : IsEquivalence r.same)
       no_long key val h.rewrite.0 k.walk done p rest h.rewrite.2 (all_short key val h.rewrite.0 h.rewrite.2) is (All-permutation (IsShort key val) h.rewrite.0 k.walk turned) long
 
   -- two refused encodings
-  one_error : (d e : EncodeError) (kept more : List (ℕ × Datum)) (l m : List (K × V)) → RefusesRewrite key val r.number kept old v l d → RefusesRewrite key val r.number more old w m e →
+  one_error : (d e : EncodeError) (kept more : List (ℕ × FieldData)) (l m : List (K × V)) → RefusesRewrite key val r.number kept old v l d → RefusesRewrite key val r.number more old w m e →
       d ≢ OutOfMemory → e ≢ OutOfMemory → (d ≡ e) × (l ≡ m → v ≡ w)
   one_error OutOfMemory e kept more l m h k ne nf = absurd (ne refl)
   one_error d OutOfMemory kept more l m h k ne nf = absurd (nf refl)

@@ -9,25 +9,25 @@ use Rattle.buffa_bytes.specs.declared.error.DecodeError.TheVariants.{OutOfMemory
 use Rattle.buffa_bytes.specs.declared.wire_type.WireType.TheVariants.{LengthDelimited}
 use Rattle.buffa_bytes.proofs.SequenceLemmas.{ok_no_err, ok_same}
 use Rattle.buffa_wire.proofs.SpentLemmas.{not_lacked, one_left, same_left}
-use Rattle.buffa_bytes.specs.Left.{past_no_tag}
+use Rattle.buffa_bytes.specs.Unread.{past_no_tag}
 use Rattle.buffa_wire.specs.BudgetLeft.{BudgetLeft, Pays, nothing, plus, unknown_fields}
-use Rattle.buffa_bytes.specs.Content.{Content}
+use Rattle.buffa_bytes.specs.PayloadValue.{PayloadValue}
 use Rattle.buffa_bytes.specs.Field.{TakesDelimited}
-use Rattle.buffa_bytes.specs.Front.{delimited_at, tag_at}
-use Rattle.buffa_map.specs.Codec.{Reading, RefusesValue, Spends, value_at, value_need}
+use Rattle.buffa_bytes.specs.Readings.{delimited_at, tag_at}
+use Rattle.buffa_map.specs.Codec.{Reading, RefusesValue, Spends, value_at, value_charge}
 use Rattle.buffa_map.specs.Entry.{EntryFault}
-use Rattle.buffa_map.specs.EntryReading.{inner_need, need_at, need_of, blanks}
+use Rattle.buffa_map.specs.EntryReading.{inner_charge, charge_at, charge_of, blanks}
 use Rattle.buffa_map.specs.Merge.{RefusesEntry, Rules, State, RefusesRun, unknown_cost, kept_of_entry, kept_of_run}
 use Rattle.buffa_map.specs.Pairs.{SamePairs}
 use Rattle.buffa_map_laws.specs.Pinned.{SameState, EntryIsPinned, RunIsPinned, ValueIsPinned}
 use Rattle.buffa_map.specs.Run.{EntryRecord, ArePaid, RecordFault, Run, fold_entries, cost_inside, step, undeclared}
 use Rattle.buffa_map.specs.RunReading.{record_at}
-use Rattle.buffa_map.proofs.EntryLemmas.{Plain, need_by-nothing, value_faulty}
+use Rattle.buffa_map.proofs.EntryLemmas.{ImplicitField, charge_by-nothing, value_faulty}
 use Rattle.buffa_map_laws.proofs.FrontLemmas.{paid_no_fault, same_front, same_taken}
-use Rattle.buffa_map.proofs.NeedLemmas.{need_free}
+use Rattle.buffa_map.proofs.ChargeLemmas.{charge_free}
 use Rattle.buffa_bytes.proofs.ResultLemmas.{not_ok}
 use Rattle.buffa_map.proofs.RunLemmas.{InFault, in_faulty, run_complete, run_faulty, said_complete, said_faulty, extra_kept}
-use Rattle.buffa_map.proofs.StopLemmas.{HasWholeRecord, LeavesRecord, SpendsOnRecord, broken, leaves, pairs_stand, record_need, records_stand, run_fault, spends}
+use Rattle.buffa_map.proofs.StopLemmas.{HasWholeRecord, LeavesRecord, SpendsOnRecord, broken, leaves, pairs_stand, record_charge, records_stand, run_fault, spends}
 use Rattle.buffa_map.proofs.TailLemmas.{no_tag, not_delimited, one_number, one_wire, one_after}
 
 err_one : {A : Type 0} {x y : DecodeError} {r : Result A DecodeError} → r ≡ Err x → r ≡ Err y → x ≡ y
@@ -35,8 +35,8 @@ err_one h k = cc
 
 -- ---- budgets
 
-same_need : (old need more a b : BudgetLeft) → need ≡ more → Pays old need a → Pays old more b → a ≡ b
-same_need old need more a b e h k = one_left old more a b (subst (λ z. Pays old z a) e h) k
+same_charge : (old charge more a b : BudgetLeft) → charge ≡ more → Pays old charge a → Pays old more b → a ≡ b
+same_charge old charge more a b e h k = one_left old more a b (subst (λ z. Pays old z a) e h) k
 
 -- what a refusal may spend, where nothing is needed beside the cost
 abbrev Spent : ℕ → ℕ → ℕ → ℕ → Type 0
@@ -56,14 +56,14 @@ spent_one old over cost n m a b is z w h k p q =
 -- ---- entries
 
 module _ {K V : Type 0} (key : Reading K) (val : Reading V) (d n cost extra : ℕ)
-    (key_free : key.nested ≡ false → (d : ℕ) (c : Content) → key.cost d c ≡ nothing) (val_free : val.nested ≡ false → (d : ℕ) (c : Content) → val.cost d c ≡ nothing) where
-  behind_one : Plain key val d → (left : BudgetLeft) (e : List ℕ) (f g : DecodeError) → InFault key val d n cost extra left e f → InFault key val d n cost extra left e g → f ≡ g
+    (key_free : key.nested ≡ false → (d : ℕ) (c : PayloadValue) → key.cost d c ≡ nothing) (val_free : val.nested ≡ false → (d : ℕ) (c : PayloadValue) → val.cost d c ≡ nothing) where
+  behind_one : ImplicitField key val d → (left : BudgetLeft) (e : List ℕ) (f g : DecodeError) → InFault key val d n cost extra left e f → InFault key val d n cost extra left e g → f ≡ g
   behind_one plain left e f g h k =
       let p = in_faulty key val d n cost extra left key_free val_free e f h in
       let q = in_faulty key val d n cost extra left key_free val_free e g k in
       p.2 plain ∙ err_one p.1 q.1 ∙ sym (q.2 plain)
 
-  entry_one : Plain key val d → (left : BudgetLeft) (bs : List ℕ) (f g : DecodeError) → EntryFault key val d cost extra left bs f → EntryFault key val d cost extra left bs g → f ≡ g
+  entry_one : ImplicitField key val d → (left : BudgetLeft) (bs : List ℕ) (f g : DecodeError) → EntryFault key val d cost extra left bs f → EntryFault key val d cost extra left bs g → f ≡ g
   entry_one plain left bs f g (inl h) (inl k) = err_one (delimited_faulty bs f h) (delimited_faulty bs g k)
   entry_one plain left bs f g (inl h) (inr (e, rest, t, k)) = absurd (ok_no_err (sym (delimited_taken bs e rest t) ∙ delimited_faulty bs f h))
   entry_one plain left bs f g (inr (e, rest, t, h)) (inl k) = absurd (ok_no_err (sym (delimited_taken bs e rest t) ∙ delimited_faulty bs g k))
@@ -71,11 +71,11 @@ module _ {K V : Type 0} (key : Reading K) (val : Reading V) (d n cost extra : �
       let same = same_taken key val d bs e rest x after t u in
       behind_one plain left e f g h (subst (λ (z : List ℕ). InFault key val d n cost extra left z g) (sym (ap (λ z. z.0) same)) k)
 
-  inner_none : Plain key val d → (bs : List ℕ) → inner_need key val d bs ≡ nothing
-  inner_none plain bs = need_by-nothing (delimited_at bs) (λ e. need_at key val d (blanks key val d) e.0) (λ e. need_free key val d key_free val_free (blanks key val d) e.0 plain)
+  inner_none : ImplicitField key val d → (bs : List ℕ) → inner_charge key val d bs ≡ nothing
+  inner_none plain bs = charge_by-nothing (delimited_at bs) (λ e. charge_at key val d (blanks key val d) e.0) (λ e. charge_free key val d key_free val_free (blanks key val d) e.0 plain)
 
-  record_none : Plain key val d → (bs : List ℕ) → record_need key val d bs ≡ nothing
-  record_none plain bs = need_by-nothing (tag_at bs) (λ t. inner_need key val d t.2) (λ t. inner_none plain t.2)
+  record_none : ImplicitField key val d → (bs : List ℕ) → record_charge key val d bs ≡ nothing
+  record_none plain bs = charge_by-nothing (tag_at bs) (λ t. inner_charge key val d t.2) (λ t. inner_none plain t.2)
 
   -- ---- runs
 
@@ -98,7 +98,7 @@ module _ {K V : Type 0} (key : Reading K) (val : Reading V) (d n cost extra : �
       let whole : bs ≡ r ++ (more ++ rest) = split ∙ ap (λ z. z ++ rest) e ∙ append_assoc r more rest in
       (more, ap (record_at key val d n cost extra left) whole ∙ said_complete key val d n cost extra left r (more ++ rest) x (omega (arith, paid.0)) (one_unknown paid.1) m, run)
     where
-      one_unknown : over.unknown + ((length (undeclared (x ∷ es))) * extra + (cost_inside key val d (x ∷ es)).unknown) ≡ left.unknown → (need_of key val d cost x.bytes).unknown + cond x.parts.known 0 extra ≤ left.unknown
+      one_unknown : over.unknown + ((length (undeclared (x ∷ es))) * extra + (cost_inside key val d (x ∷ es)).unknown) ≡ left.unknown → (charge_of key val d cost x.bytes).unknown + cond x.parts.known 0 extra ≤ left.unknown
       one_unknown h = omega (arith, h, extra_kept x.parts.known x.bytes (undeclared es) extra)
 
   -- no record begins bytes that have a fault
@@ -149,8 +149,8 @@ module _ {K V : Type 0} (key : Reading K) (val : Reading V) (d n cost extra : �
 -- ---- the laws
 
 module _ {K V : Type 0} (r : Rules K V)
-    (key_free : r.key.nested ≡ false → (d : ℕ) (c : Content) → r.key.cost d c ≡ nothing) (val_free : r.val.nested ≡ false → (d : ℕ) (c : Content) → r.val.cost d c ≡ nothing) where
-  module _ (plain : Plain r.key r.val r.depth) (old : State K V) (bs : List ℕ) (a b : State K V) (x y : List ℕ) (f g : DecodeError)
+    (key_free : r.key.nested ≡ false → (d : ℕ) (c : PayloadValue) → r.key.cost d c ≡ nothing) (val_free : r.val.nested ≡ false → (d : ℕ) (c : PayloadValue) → r.val.cost d c ≡ nothing) where
+  module _ (plain : ImplicitField r.key r.val r.depth) (old : State K V) (bs : List ℕ) (a b : State K V) (x y : List ℕ) (f g : DecodeError)
       (h : RefusesEntry r old bs a x f) (k : RefusesEntry r old bs b y g) (ne : f ≢ OutOfMemory) (nf : g ≢ OutOfMemory) where
     refused_left : (z : Result (List ℕ × List ℕ) DecodeError) → delimited_at bs ≡ z → a.left ≡ b.left
     refused_left (Ok p) is =
@@ -159,7 +159,7 @@ module _ {K V : Type 0} (r : Rules K V)
         let unit = ap (λ (z : BudgetLeft). z.memory) none in
         let taken = ap (λ (z : BudgetLeft). z.unknown) none in
         same_left a.left b.left (omega (arith, h.spent.most, k.spent.most, h.spent.no_keeping ne, k.spent.no_keeping nf, taken))
-        (one_memory old.left.memory r.cost (inner_need r.key r.val r.depth bs).memory a.left.memory b.left.memory unit h.spent.units k.spent.units (h.spent.charged p.0 p.1 t) (k.spent.charged p.0 p.1 t))
+        (one_memory old.left.memory r.cost (inner_charge r.key r.val r.depth bs).memory a.left.memory b.left.memory unit h.spent.units k.spent.units (h.spent.charged p.0 p.1 t) (k.spent.charged p.0 p.1 t))
     refused_left (Err z) is = h.spent.unspent (not_delimited bs z is) ∙ sym (k.spent.unspent (not_delimited bs z is))
 
     refused_one : (f ≡ g) × SameState r a b
@@ -185,12 +185,12 @@ module _ {K V : Type 0} (r : Rules K V)
         let same = same_front r.key r.val r.depth bs h.entry x h.says k.entry y k.says h.read k.read in
         let e = same.0 in
         let s = same.2 in
-        let need : plus (need_of r.key r.val r.depth r.cost h.entry) (unknown_fields (cond h.says.known 0 (unknown_cost r))) ≡ plus (need_of r.key r.val r.depth r.cost k.entry) (unknown_fields (cond k.says.known 0 (unknown_cost r))) =
-        ap (λ z. plus (need_of r.key r.val r.depth r.cost z) (unknown_fields (cond h.says.known 0 (unknown_cost r)))) e ∙ ap (λ z. plus (need_of r.key r.val r.depth r.cost k.entry) (unknown_fields (cond z.known 0 (unknown_cost r)))) s in (
+        let charge : plus (charge_of r.key r.val r.depth r.cost h.entry) (unknown_fields (cond h.says.known 0 (unknown_cost r))) ≡ plus (charge_of r.key r.val r.depth r.cost k.entry) (unknown_fields (cond k.says.known 0 (unknown_cost r))) =
+        ap (λ z. plus (charge_of r.key r.val r.depth r.cost z) (unknown_fields (cond h.says.known 0 (unknown_cost r)))) e ∙ ap (λ z. plus (charge_of r.key r.val r.depth r.cost k.entry) (unknown_fields (cond z.known 0 (unknown_cost r)))) s in (
           record {
             pairs = λ q. sym (h.put q) ∙ ap (λ z. lookup_entry (r.same q) (step r.same old.pairs z)) s ∙ k.put q;
             records = h.keeps ∙ ap (λ z. old.records ++ kept_of_entry r h.entry z) s ∙ ap (λ z. old.records ++ kept_of_entry r z k.says) e ∙ sym k.keeps;
-            left = same_need old.left _ _ a.left b.left need h.pays k.pays;
+            left = same_charge old.left _ _ a.left b.left charge h.pays k.pays;
             order = λ o. h.order o ∙ ap (λ z. step r.same old.pairs z) s ∙ sym (k.order o);
           },
           same.1,
@@ -246,7 +246,7 @@ module _ {K V : Type 0} (r : Rules K V)
         let is = tag_read h.rest m r.number LengthDelimited t in
         h_leaves.past ne m e after is there ∙ sym (k_leaves.past nf m e after (ap tag_at (sym stopped_same.1) ∙ is) there)
 
-    module _ (plain : Plain r.key r.val r.depth) where
+    module _ (plain : ImplicitField r.key r.val r.depth) where
       abbrev h_spends : SpendsOnRecord r h.between.left h.rest f a.left
       h_spends = spends r old bs a x f h
 
@@ -269,7 +269,7 @@ module _ {K V : Type 0} (r : Rules K V)
                 let hc = h_spends.charged mid e after tag t in
                 let kc = k_spends.charged mid e after (subst (λ z. tag_at z ≡ Ok (r.number, LengthDelimited, mid)) rest tag) t in
                 same_left a.left b.left (omega (arith, h_spends.most, k_spends.most, h_spends.no_keeping ne, k_spends.no_keeping nf, two, ap (λ (z : BudgetLeft). z.unknown) none, ap (λ (z : BudgetLeft). z.unknown) nil))
-                (spent_one h.between.left.memory k.between.left.memory r.cost (record_need r.key r.val r.depth h.rest).memory (record_need r.key r.val r.depth k.rest).memory a.left.memory b.left.memory one (ap (λ (z : BudgetLeft). z.memory) none) (ap (λ (z : BudgetLeft). z.memory) nil) h_spends.units k_spends.units hc kc)
+                (spent_one h.between.left.memory k.between.left.memory r.cost (record_charge r.key r.val r.depth h.rest).memory (record_charge r.key r.val r.depth k.rest).memory a.left.memory b.left.memory one (ap (λ (z : BudgetLeft). z.memory) none) (ap (λ (z : BudgetLeft). z.memory) nil) h_spends.units k_spends.units hc kc)
           ]
 
       stopped_one : (f ≡ g) × SameState r a b
@@ -313,14 +313,14 @@ module _ {K V : Type 0} (r : Rules K V)
 plainly : {V : Type 0} (codec : Reading V) → codec.nested ≡ false → (d : ℕ) (old : V) (bs : List ℕ) (left : BudgetLeft) (f : DecodeError) → RefusesValue codec.nested codec d old bs left f → value_at codec d old bs ≡ Err f
 plainly codec plain d old bs left f h = subst (λ z. RefusesValue z codec d old bs left f) plain h
 
-paid_once : (b : Bool) (left need x y : BudgetLeft) → Spends {T = Unit {0}} b (Ok tt) left need x → Spends {T = Unit {0}} b (Ok tt) left need y → x ≡ y
-paid_once false left need x y h k = h ∙ sym k
-paid_once true left need x y h k = same_need left need need x y refl h k
+paid_once : (b : Bool) (left charge x y : BudgetLeft) → Spends {T = Unit {0}} b (Ok tt) left charge x → Spends {T = Unit {0}} b (Ok tt) left charge y → x ≡ y
+paid_once false left charge x y h k = h ∙ sym k
+paid_once true left charge x y h k = same_charge left charge charge x y refl h k
 
 not_refused : {V : Type 0} (codec : Reading V) (d : ℕ) (old : V) (bs : List ℕ) (left over : BudgetLeft) (x : (V × Bool) × List ℕ) (f : DecodeError) (b : Bool) →
-    value_at codec d old bs ≡ Ok x → Spends {T = Unit {0}} b (Ok tt) left (value_need codec d bs) over → RefusesValue b codec d old bs left f → ⊥
+    value_at codec d old bs ≡ Ok x → Spends {T = Unit {0}} b (Ok tt) left (value_charge codec d bs) over → RefusesValue b codec d old bs left f → ⊥
 not_refused codec d old bs left over x f false h paid k = ok_no_err (sym h ∙ k)
-not_refused codec d old bs left over x f true h paid (inl few) = not_lacked left (value_need codec d bs) over paid few
+not_refused codec d old bs left over x f true h paid (inl few) = not_lacked left (value_charge codec d bs) over paid few
 not_refused codec d old bs left over x f true h paid (inr bad) = ok_no_err (sym h ∙ (value_faulty codec d old bs f bad).1)
 
 pub value_is_pinned : {V : Type 0} (codec : Reading V) → ValueIsPinned codec
@@ -328,7 +328,7 @@ value_is_pinned codec = record {
   merged = λ d old bs v w a b x y h k.
       let same = ok_same (sym h ∙ k) in
       (ap (λ z. z.0.0) same, ap (λ z. z.0.1) same, ap (λ z. z.1) same);
-  spent = λ d bs left a b h k. paid_once codec.nested left (value_need codec d bs) a b h k;
+  spent = λ d bs left a b h k. paid_once codec.nested left (value_charge codec d bs) a b h k;
   refused = λ d old bs left over v a x f h paid k. not_refused codec d old bs left over ((v, a), x) f codec.nested h paid k;
   faults = λ plain d old bs left f g h k. err_one (plainly codec plain d old bs left f h) (plainly codec plain d old bs left g k);
 }

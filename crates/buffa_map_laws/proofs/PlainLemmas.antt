@@ -3,7 +3,7 @@ use Rattle.std.proofs.Common.{arith, ◌≡◌, ◌+◌, ◌≤◌, ◌⊎◌, i
 use Rattle.buffa_bytes.specs.declared.error.DecodeError.{DecodeError}
 use Rattle.buffa_wire.specs.BudgetLeft.{BudgetLeft, nothing, units}
 use Rattle.buffa_map.specs.Entry.{EntryFault}
-use Rattle.buffa_map.specs.EntryReading.{inner_need, need_of}
+use Rattle.buffa_map.specs.EntryReading.{inner_charge, charge_of}
 use Rattle.buffa_map.specs.Merge.{RefusesEntry, Rules, State, unknown_cost}
 use Rattle.buffa_map_laws.specs.Plain.{MergesExactly, PlainFault, SpendsExactly}
 
@@ -15,20 +15,20 @@ either : (a b cost n : ℕ) → (b ≡ a) ⊎ ((b + cost ≤ a) × (a ≤ b + (c
 either a b cost n (inl h) z = inl h
 either a b cost n (inr h) z = inr (omega (arith, h, z))
 
-module _ {K V : Type 0} (r : Rules K V) (need : (e : List ℕ) → need_of r.key r.val r.depth r.cost e ≡ units r.cost) (old : State K V) (bs : List ℕ) where
+module _ {K V : Type 0} (r : Rules K V) (charge : (e : List ℕ) → charge_of r.key r.val r.depth r.cost e ≡ units r.cost) (old : State K V) (bs : List ℕ) where
   fault_of_plain : (left : BudgetLeft) (f : DecodeError) → EntryFault r.key r.val r.depth r.cost (unknown_cost r) left bs f → PlainFault r.key r.val r.depth r.cost (unknown_cost r) left bs f
   fault_of_plain left f (inl h) = inl h
   fault_of_plain left f (inr (e, rest, t, inl h)) = inr (e, rest, t, inl h)
-  fault_of_plain left f (inr (e, rest, t, inr (many, inl (inl few)))) = absurd (omega (arith, few, ap (λ (z : BudgetLeft). z.unknown) (need e)))
-  fault_of_plain left f (inr (e, rest, t, inr (many, inl (inr few)))) = absurd (omega (arith, few, many, ap (λ (z : BudgetLeft). z.memory) (need e)))
+  fault_of_plain left f (inr (e, rest, t, inr (many, inl (inl few)))) = absurd (omega (arith, few, ap (λ (z : BudgetLeft). z.unknown) (charge e)))
+  fault_of_plain left f (inr (e, rest, t, inr (many, inl (inr few)))) = absurd (omega (arith, few, many, ap (λ (z : BudgetLeft). z.memory) (charge e)))
   fault_of_plain left f (inr (e, rest, t, inr (many, inr (inl h)))) = inr (e, rest, t, inr (many, inl h))
   fault_of_plain left f (inr (e, rest, t, inr (many, inr (inr (s, entry, known, few, which))))) =
-      inr (e, rest, t, inr (many, inr (s, entry, known, omega (arith, few, ap (λ (z : BudgetLeft). z.unknown) (need e)), which)))
+      inr (e, rest, t, inr (many, inr (s, entry, known, omega (arith, few, ap (λ (z : BudgetLeft). z.unknown) (charge e)), which)))
 
   pub exact_merge : (new : State K V) (rest : List ℕ) → MergesExactly r old bs new rest
-  exact_merge new rest m = (omega (arith, m.pays.1, ap (λ (z : BudgetLeft). z.memory) (need m.entry)), omega (arith, m.pays.0, ap (λ (z : BudgetLeft). z.unknown) (need m.entry)))
+  exact_merge new rest m = (omega (arith, m.pays.1, ap (λ (z : BudgetLeft). z.memory) (charge m.entry)), omega (arith, m.pays.0, ap (λ (z : BudgetLeft). z.unknown) (charge m.entry)))
 
-  pub exact_refusal : inner_need r.key r.val r.depth bs ≡ nothing → (new : State K V) (rest : List ℕ) (f : DecodeError) → RefusesEntry r old bs new rest f → SpendsExactly r old bs new f
+  pub exact_refusal : inner_charge r.key r.val r.depth bs ≡ nothing → (new : State K V) (rest : List ℕ) (f : DecodeError) → RefusesEntry r old bs new rest f → SpendsExactly r old bs new f
   exact_refusal inner new rest f h =
       let unit = ap (λ (z : BudgetLeft). z.memory) inner in
       let extra = ap (λ (z : BudgetLeft). z.unknown) inner in

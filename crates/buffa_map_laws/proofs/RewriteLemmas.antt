@@ -6,7 +6,7 @@ use Rattle.std.specs.List.{IsDistinct, filter}
 use Rattle.std.specs.Map.{lookup_entry, keys_of}
 use Rattle.std.proofs.lemmas.Map.Entries.{none_past_head}
 use Rattle.std.proofs.lemmas.Map.Keys.{IsDistinct-tail}
-use Rattle.buffa_bytes.specs.Content.{Content, HasContent, number_in}
+use Rattle.buffa_bytes.specs.PayloadValue.{PayloadValue, HasPayloadValue, number_in}
 use Rattle.buffa_wire.specs.Enums.{Numbers, DeclaresBlank, Refines}
 use Rattle.buffa_bytes.specs.Number.{IsNumber}
 use Rattle.buffa_wire.specs.Records.{bytes}
@@ -28,7 +28,7 @@ use Rattle.buffa_map.specs.Run.{fold_entries, undeclared, Run, EntryRecord, cost
 use Rattle.buffa_map.specs.Encoding.{AllHold, field_encoding}
 use Rattle.buffa_map.specs.declared.map_entry.MapEntry.{MapEntry}
 use Rattle.buffa_bytes.proofs.SequenceLemmas.{ok_same}
-use Rattle.buffa_map.proofs.BackLemmas.{as_record, plain_back, run_back}
+use Rattle.buffa_map.proofs.BackLemmas.{as_record, implicit_back, run_back}
 use Rattle.buffa_bytes.proofs.FieldLemmas.{is_tag}
 use Rattle.buffa_map_laws.proofs.ClassLemmas.{AreNew, IsLater, IsOrderedKinds, Kind, exact, first_key, older, newer, kept_meaning, last_kind, later, nothing_known, put_all}
 use Rattle.buffa_map_laws.proofs.ClassLemmas.Kind.{Both, Later, Neither}
@@ -116,7 +116,7 @@ module _ {K : Type 0} (Normal : K → Type 0) (e : Numbers) where
   Twins (x ∷ es) (y ∷ fs) = (x.bytes ≡ y.bytes) × Twin x.parts y.parts × Twins es fs
 
 module _ {K : Type 0} (key : Reading K) (Normal : K → Type 0) (blank_normal : Normal key.blank)
-    (stays : (d : ℕ) (old : K) (c : Content) (new : K) (known : Bool) → Normal old → key.reads d old c ≡ Ok (new, known) → Normal new)
+    (stays : (d : ℕ) (old : K) (c : PayloadValue) (new : K) (known : Bool) → Normal old → key.reads d old c ≡ Ok (new, known) → Normal new)
     (e f : Numbers) (has_blank : DeclaresBlank e) (refines : Refines e f) where
   not_declared : (n u : ℤ) → e.declares n ≡ false → Declared e u → u ≢ n
   not_declared n u h k same = let m : e.declares n ≡ true = subst (Declared e) same k in cc
@@ -168,7 +168,7 @@ module _ {K : Type 0} (key : Reading K) (Normal : K → Type 0) (blank_normal : 
       (y ∷ i.0, (r, rest, (t, l, tag, len, is, one.1), split, i.1), (refl, one.2, i.2))
 
   -- two readings of one run
-  pub twins : (key.nested ≡ false → (d : ℕ) (c : Content) → key.cost d c ≡ nothing) → (d n : ℕ) (b : List ℕ) (es fs : List (EntryRecord K ℤ)) → Run key (closed_reading e) d n b es → Run key (closed_reading f) d n b fs → Twins Normal e es fs
+  pub twins : (key.nested ≡ false → (d : ℕ) (c : PayloadValue) → key.cost d c ≡ nothing) → (d n : ℕ) (b : List ℕ) (es fs : List (EntryRecord K ℤ)) → Run key (closed_reading e) d n b es → Run key (closed_reading f) d n b fs → Twins Normal e es fs
   twins free d n bs es fs h k =
       let i = run_twin d n bs es h in
       let a = cost_inside key (closed_reading f) d i.0 in
@@ -377,15 +377,15 @@ all_fit : {K : Type 0} (P N : K → Type 0) (e f : Numbers) → ((n : ℤ) → e
 all_fit P N e f more [] h k = tt
 all_fit P N e f more (p ∷ l) h k = ((h.0, k.0), (h.1.0, more p.1 h.1.1), all_fit P N e f more l h.2 k.2)
 
-module _ {K : Type 0} (key : Reading K) (write : Writing K) (same_wire : write.wire ≡ key.wire) (plain : key.nested ≡ false) (free : key.nested ≡ false → (d : ℕ) (c : Content) → key.cost d c ≡ nothing) (Fits Normal : K → Type 0) (blank_normal : Normal key.blank)
-    (stays : (d : ℕ) (old : K) (c : Content) (new : K) (known : Bool) → Normal old → key.reads d old c ≡ Ok (new, known) → Normal new)
-    (back : (d : ℕ) (old v : K) → Fits v → Normal v → (c : Content) × HasContent write.wire (write.encoding v) c × (key.reads d old c ≡ Ok (v, true)))
+module _ {K : Type 0} (key : Reading K) (write : Writing K) (same_wire : write.wire ≡ key.wire) (plain : key.nested ≡ false) (free : key.nested ≡ false → (d : ℕ) (c : PayloadValue) → key.cost d c ≡ nothing) (Fits Normal : K → Type 0) (blank_normal : Normal key.blank)
+    (stays : (d : ℕ) (old : K) (c : PayloadValue) (new : K) (known : Bool) → Normal old → key.reads d old c ≡ Ok (new, known) → Normal new)
+    (back : (d : ℕ) (old v : K) → Fits v → Normal v → (c : PayloadValue) × HasPayloadValue write.wire (write.encoding v) c × (key.reads d old c ≡ Ok (v, true)))
     (e f : Numbers) (has_blank : DeclaresBlank e) (refines : Refines e f) (eq : K → K → Bool) (laws : IsEquivalence eq) where
   -- a number that f declares is read back
-  value_back : (d : ℕ) (old v : ℤ) → ClosedFits f v → (c : Content) × HasContent closed_writing.wire (closed_writing.encoding v) c × ((closed_reading f).reads d old c ≡ Ok (v, true))
+  value_back : (d : ℕ) (old v : ℤ) → ClosedFits f v → (c : PayloadValue) × HasPayloadValue closed_writing.wire (closed_writing.encoding v) c × ((closed_reading f).reads d old c ≡ Ok (v, true))
   value_back = closed_reads_back f
 
-  key_back : (d : ℕ) (old v : K) → Fits v × Normal v → (c : Content) × HasContent write.wire (write.encoding v) c × (key.reads d old c ≡ Ok (v, true))
+  key_back : (d : ℕ) (old v : K) → Fits v × Normal v → (c : PayloadValue) × HasPayloadValue write.wire (write.encoding v) c × (key.reads d old c ≡ Ok (v, true))
   key_back d old v h = back d old v h.0 h.1
 
   -- a pair of the map, as its record is read
@@ -442,7 +442,7 @@ module _ {K : Type 0} (key : Reading K) (write : Writing K) (same_wire : write.w
   rewrite_means d n b out es fs num h k (l, enum, has, fits, is) =
       let t = twins key Normal blank_normal stays e f has_blank refines free d n b es fs h k in
       let ok = all_fit Fits Normal e f refines.0 l fits (keys_of_walk es fs t l enum) in
-      let one = run_back key (closed_reading f) write closed_writing same_wire refl d (λ k. Fits k × Normal k) (ClosedFits f) (λ v ok. plain_back key write d v plain (key_back d key.blank v ok)) (λ v ok. plain_back (closed_reading f) closed_writing d v refl (value_back d f.blank v ok)) n l num has ok in
+      let one = run_back key (closed_reading f) write closed_writing same_wire refl d (λ k. Fits k × Normal k) (ClosedFits f) (λ v ok. implicit_back key write d v plain (key_back d key.blank v ok)) (λ v ok. implicit_back (closed_reading f) closed_writing d v refl (value_back d f.blank v ok)) n l num has ok in
       let two = unread_run key Normal e f d n b es fs num t k in
       let both = Run-join key (closed_reading f) d n (field_encoding write closed_writing n l) (records_encoding (undeclared_records n es)) (map says l) (unread es fs) one two in (
         said_again es fs t l enum,

@@ -1,13 +1,13 @@
 -- What the laws say of codecs in the words of bytes: varints, lengths and texts, as the layer below reads them.
 use Rattle.std.specs.Prelude.{◌≡◌, ◌↔◌, ℕ, ℤ, suc, true, false, Bool, cond, List, [], Option, None, Some, is_some, Result, Ok, Err, IsOk}
-use Rattle.buffa_bytes.specs.Front.{delimited_at, ◌>>=◌}
+use Rattle.buffa_bytes.specs.Readings.{delimited_at, ◌>>=◌}
 use Rattle.buffa_bytes.specs.Values.{int32_at}
 use Rattle.buffa_bytes.specs.declared.wire_type.WireType.{WireType}
 use Rattle.buffa_bytes.specs.declared.error.DecodeError.{DecodeError}
 use Rattle.buffa_bytes.specs.declared.error.DecodeError.TheVariants.{RecursionLimitExceeded}
 use Rattle.buffa_wire.specs.BudgetLeft.{BudgetLeft, Lacks, nothing, IsLimit}
 use Rattle.buffa_map.specs.declared.codec.MapValueDecodeStatus.{MapValueDecodeStatus}
-use Rattle.buffa_map.specs.Codec.{HoldsNothing, IsWhole, Reading, ReadingTakesMemory, RefusesValue, Spends, Writing, value_at, value_need}
+use Rattle.buffa_map.specs.Codec.{HoldsNothing, IsWhole, Reading, ReadingTakesMemory, RefusesValue, Spends, Writing, value_at, value_charge}
 
 -- What is made of the value that stood and of the bytes at the front: the new value, whether the payload is a declared
 -- one, and what follows it.
@@ -33,7 +33,7 @@ pub record IsReadAs {V : Type 0} (codec : Reading V) (at : Reader V) (Takes : Li
   pub value : (d : ℕ) (old : V) (bs : List ℕ) → value_at codec d old bs ≡ at old bs
   pub fault : (d : ℕ) (old : V) (bs : List ℕ) (left : BudgetLeft) (f : DecodeError) → RefusesValue codec.nested codec d old bs left f ↔ (at old bs ≡ Err f)
   pub memory : (d : ℕ) (bs : List ℕ) → ReadingTakesMemory codec d bs → Takes bs
-  pub spends : (r : Result MapValueDecodeStatus DecodeError) (d : ℕ) (bs : List ℕ) (left left_after : BudgetLeft) → Spends codec.nested r left (value_need codec d bs) left_after → left_after ≡ left
+  pub spends : (r : Result MapValueDecodeStatus DecodeError) (d : ℕ) (bs : List ℕ) (left left_after : BudgetLeft) → Spends codec.nested r left (value_charge codec d bs) left_after → left_after ≡ left
   pub whole : (d : ℕ) (bs : List ℕ) (old : V) → IsOk (at old bs) → IsWhole codec d bs
 
 -- no bytes
@@ -60,9 +60,9 @@ pub record MessagesAreReadAs {V : Type 0} (codec : Reading V) (merged : ℕ → 
   pub no_bytes : (d : ℕ) (old : V) (bs : List ℕ) (f : DecodeError) → delimited_at bs ≡ Err f → value_at codec (suc d) old bs ≡ Err f
   pub merges : (d : ℕ) (old new : V) (bs b rest : List ℕ) → delimited_at bs ≡ Ok (b, rest) → merged d old b ≡ Some new → value_at codec (suc d) old bs ≡ Ok ((new, true), rest)
   pub refuses : (d : ℕ) (old : V) (bs b rest : List ℕ) → delimited_at bs ≡ Ok (b, rest) → merged d old b ≡ None → (f : DecodeError) × (value_at codec (suc d) old bs ≡ Err f)
-  pub costs : (d : ℕ) (bs b rest : List ℕ) → delimited_at bs ≡ Ok (b, rest) → value_need codec (suc d) bs ≡ cost d b
-  pub limits : (d : ℕ) (old : V) (bs : List ℕ) (left : BudgetLeft) (f : DecodeError) → RefusesValue codec.nested codec d old bs left f → IsLimit f → Lacks left (value_need codec d bs)
-  pub no_cost : (bs : List ℕ) → value_need codec 0 bs ≡ nothing
-  pub no_bytes_cost : (d : ℕ) (bs : List ℕ) (f : DecodeError) → delimited_at bs ≡ Err f → value_need codec d bs ≡ nothing
-  pub level_told : (old : V) (bs : List ℕ) (left : BudgetLeft) (f : DecodeError) → RefusesValue codec.nested codec 0 old bs left f → f ≡ RecursionLimitExceeded
-  pub bytes_told : (d : ℕ) (old : V) (bs : List ℕ) (left : BudgetLeft) (f g : DecodeError) → delimited_at bs ≡ Err f → RefusesValue codec.nested codec (suc d) old bs left g → g ≡ f
+  pub costs : (d : ℕ) (bs b rest : List ℕ) → delimited_at bs ≡ Ok (b, rest) → value_charge codec (suc d) bs ≡ cost d b
+  pub limits : (d : ℕ) (old : V) (bs : List ℕ) (left : BudgetLeft) (f : DecodeError) → RefusesValue codec.nested codec d old bs left f → IsLimit f → Lacks left (value_charge codec d bs)
+  pub no_cost : (bs : List ℕ) → value_charge codec 0 bs ≡ nothing
+  pub no_bytes_cost : (d : ℕ) (bs : List ℕ) (f : DecodeError) → delimited_at bs ≡ Err f → value_charge codec d bs ≡ nothing
+  pub level_reported : (old : V) (bs : List ℕ) (left : BudgetLeft) (f : DecodeError) → RefusesValue codec.nested codec 0 old bs left f → f ≡ RecursionLimitExceeded
+  pub bytes_reported : (d : ℕ) (old : V) (bs : List ℕ) (left : BudgetLeft) (f g : DecodeError) → delimited_at bs ≡ Err f → RefusesValue codec.nested codec (suc d) old bs left g → g ≡ f

@@ -4,17 +4,17 @@ use Rattle.std.specs.Prelude.{◌≡◌, ◌≢◌, ◌↔◌, ◌⊎◌, ℕ, �
 use Rattle.std.specs.Cmp.{IsEquivalence}
 use Rattle.std.specs.List.{IsDistinct, filter}
 use Rattle.std.specs.Map.{keys_of, lookup_entry}
-use Rattle.buffa_bytes.specs.Front.{delimited_at, skip_at, tag_at}
-use Rattle.buffa_bytes.specs.Left.{past_no_delimited, past_no_tag, IsTailOf}
+use Rattle.buffa_bytes.specs.Readings.{delimited_at, skip_at, tag_at}
+use Rattle.buffa_bytes.specs.Unread.{past_no_delimited, past_no_tag, IsTailOf}
 use Rattle.buffa_bytes.specs.declared.wire_type.WireType.{WireType}
 use Rattle.buffa_bytes.specs.declared.wire_type.WireType.TheVariants.{LengthDelimited}
 use Rattle.buffa_bytes.specs.declared.error.DecodeError.{DecodeError}
 use Rattle.buffa_bytes.specs.declared.error.DecodeError.TheVariants.{ElementMemoryLimitExceeded, OutOfMemory, UnexpectedField, UnknownFieldLimitExceeded, WireTypeMismatch}
 use Rattle.buffa_wire.specs.BudgetLeft.{BudgetLeft, Pays, plus, units, unknown_fields}
 use Rattle.buffa_wire.specs.Records.{bytes}
-use Rattle.buffa_map.specs.Codec.{Reading, ReadingTakesMemory, value_at, value_need}
+use Rattle.buffa_map.specs.Codec.{Reading, ReadingTakesMemory, value_at, value_charge}
 use Rattle.buffa_map.specs.Entry.{FaultOf, IsEntry}
-use Rattle.buffa_map.specs.EntryReading.{need_of}
+use Rattle.buffa_map.specs.EntryReading.{charge_of}
 use Rattle.buffa_map.specs.Merge.{MergesEntry, ReadsRun, RefusesEntry, RefusesRun, Rules, State, state}
 use Rattle.buffa_map.specs.Pairs.{InOrder, ListsOnce, SamePairs, put}
 use Rattle.buffa_map.specs.Run.{EntryRecord, fold_entries, undeclared}
@@ -49,22 +49,22 @@ module _ {K V : Type 0} (key : Reading K) (val : Reading V) where
 
   -- An entry of no bytes needs its units. A field of the key or the value behind an entry needs what its payload does, also
   -- where that is refused, and a field of another number nothing; nor does one of another wire type, nor what is no tag.
-  pub record EntriesNeed : Type 0 where
-    pub empty : (d cost : ℕ) → need_of key val d cost [] ≡ units cost
+  pub record EntriesCharge : Type 0 where
+    pub empty : (d cost : ℕ) → charge_of key val d cost [] ≡ units cost
     pub key_field : (d cost : ℕ) (e f p : List ℕ) (s : MapEntry K V) → IsEntry key val d e s → tag_at f ≡ Ok (1, key.wire, p) →
         ((x : (K × Bool) × List ℕ) → value_at key d s.key p ≡ Ok x → x.1 ≡ []) →
-        need_of key val d cost (e ++ f) ≡ plus (need_of key val d cost e) (value_need key d p)
+        charge_of key val d cost (e ++ f) ≡ plus (charge_of key val d cost e) (value_charge key d p)
     pub value_field : (d cost : ℕ) (e f p : List ℕ) (s : MapEntry K V) → IsEntry key val d e s → tag_at f ≡ Ok (2, val.wire, p) →
         ((x : (V × Bool) × List ℕ) → value_at val d s.value p ≡ Ok x → x.1 ≡ []) →
-        need_of key val d cost (e ++ f) ≡ plus (need_of key val d cost e) (value_need val d p)
+        charge_of key val d cost (e ++ f) ≡ plus (charge_of key val d cost e) (value_charge val d p)
     pub other_field : (d cost n : ℕ) (w : WireType) (e f p : List ℕ) (s : MapEntry K V) → IsEntry key val d e s → tag_at f ≡ Ok (n, w, p) →
-        n ≢ 1 → n ≢ 2 → ((x : List ℕ) → skip_at d n w p ≡ Ok x → x ≡ []) → need_of key val d cost (e ++ f) ≡ need_of key val d cost e
+        n ≢ 1 → n ≢ 2 → ((x : List ℕ) → skip_at d n w p ≡ Ok x → x ≡ []) → charge_of key val d cost (e ++ f) ≡ charge_of key val d cost e
     pub key_wire : (d cost : ℕ) (w : WireType) (e f p : List ℕ) (s : MapEntry K V) → IsEntry key val d e s → tag_at f ≡ Ok (1, w, p) →
-        w ≢ key.wire → need_of key val d cost (e ++ f) ≡ need_of key val d cost e
+        w ≢ key.wire → charge_of key val d cost (e ++ f) ≡ charge_of key val d cost e
     pub value_wire : (d cost : ℕ) (w : WireType) (e f p : List ℕ) (s : MapEntry K V) → IsEntry key val d e s → tag_at f ≡ Ok (2, w, p) →
-        w ≢ val.wire → need_of key val d cost (e ++ f) ≡ need_of key val d cost e
+        w ≢ val.wire → charge_of key val d cost (e ++ f) ≡ charge_of key val d cost e
     pub no_tag : (d cost : ℕ) (e r : List ℕ) (s : MapEntry K V) (f : DecodeError) → IsEntry key val d e s → tag_at r ≡ Err f →
-        need_of key val d cost (e ++ r) ≡ need_of key val d cost e
+        charge_of key val d cost (e ++ r) ≡ charge_of key val d cost e
 
 module _ {K V : Type 0} (r : Rules K V) where
   -- some fields that are an entry are followed by a field of the key or the value that takes memory
@@ -78,14 +78,14 @@ module _ {K V : Type 0} (r : Rules K V) where
   -- for want of an unknown field.
   pub record EntriesAreMerged : Type 0 where
     pub declared : (old : State K V) (bs e rest : List ℕ) (s : MapEntry K V) (left : BudgetLeft) → delimited_at bs ≡ Ok (e, rest) →
-        IsEntry r.key r.val r.depth e s → s.known ≡ true → Pays old.left (need_of r.key r.val r.depth r.cost e) left →
+        IsEntry r.key r.val r.depth e s → s.known ≡ true → Pays old.left (charge_of r.key r.val r.depth r.cost e) left →
         MergesEntry r old bs (state (put r.same old.pairs s.key s.value) old.records left) rest
     pub kept : (old : State K V) (bs e rest : List ℕ) (s : MapEntry K V) (left : BudgetLeft) → delimited_at bs ≡ Ok (e, rest) →
         IsEntry r.key r.val r.depth e s → s.known ≡ false → r.keeps_undeclared ≡ true →
-        Pays old.left (plus (need_of r.key r.val r.depth r.cost e) (unknown_fields 1)) left →
+        Pays old.left (plus (charge_of r.key r.val r.depth r.cost e) (unknown_fields 1)) left →
         MergesEntry r old bs (state old.pairs (old.records ++ (r.number, bytes e) ∷ []) left) rest
     pub dropped : (old : State K V) (bs e rest : List ℕ) (s : MapEntry K V) (left : BudgetLeft) → delimited_at bs ≡ Ok (e, rest) →
-        IsEntry r.key r.val r.depth e s → s.known ≡ false → r.keeps_undeclared ≡ false → Pays old.left (need_of r.key r.val r.depth r.cost e) left →
+        IsEntry r.key r.val r.depth e s → s.known ≡ false → r.keeps_undeclared ≡ false → Pays old.left (charge_of r.key r.val r.depth r.cost e) left →
         MergesEntry r old bs (state old.pairs old.records left) rest
     pub no_bytes : (old : State K V) (bs : List ℕ) (f : DecodeError) → delimited_at bs ≡ Err f → RefusesEntry r old bs old (past_no_delimited bs) f
     pub no_units : (old : State K V) (bs e rest : List ℕ) → delimited_at bs ≡ Ok (e, rest) → old.left.memory < r.cost →
@@ -93,7 +93,7 @@ module _ {K V : Type 0} (r : Rules K V) where
     pub fault : (old : State K V) (bs e rest : List ℕ) (f : DecodeError) (left : BudgetLeft) → delimited_at bs ≡ Ok (e, rest) →
         f ≢ OutOfMemory → FaultOf r.key r.val r.depth e f → Pays old.left (units r.cost) left → RefusesEntry r old bs (state old.pairs old.records left) rest f
     pub no_field : (old : State K V) (bs e rest : List ℕ) (s : MapEntry K V) (left : BudgetLeft) → delimited_at bs ≡ Ok (e, rest) →
-        IsEntry r.key r.val r.depth e s → s.known ≡ false → r.keeps_undeclared ≡ true → Pays old.left (need_of r.key r.val r.depth r.cost e) left →
+        IsEntry r.key r.val r.depth e s → s.known ≡ false → r.keeps_undeclared ≡ true → Pays old.left (charge_of r.key r.val r.depth r.cost e) left →
         left.unknown ≡ 0 → RefusesEntry r old bs (state old.pairs old.records left) rest UnknownFieldLimitExceeded
 
   -- What a refused entry leaves: the pairs and the records, and an end of the bytes unread. One that is there spends its units, if
@@ -115,10 +115,10 @@ module _ {K V : Type 0} (r : Rules K V) where
     pub put : (old new : State K V) (bs tail : List ℕ) → RefusesEntry r old bs new tail OutOfMemory → r.key.takes_memory ≡ false → r.val.takes_memory ≡ false →
         r.keeps_undeclared ≡ false → (e : List ℕ) × (rest : List ℕ) × (s : MapEntry K V) × (delimited_at bs ≡ Ok (e, rest)) × IsEntry r.key r.val r.depth e s × (s.known ≡ true)
     pub units : (old new : State K V) (bs e rest tail : List ℕ) (f : DecodeError) → RefusesEntry r old bs new tail f → delimited_at bs ≡ Ok (e, rest) →
-        old.left.memory ≤ new.left.memory + (need_of r.key r.val r.depth r.cost e).memory
+        old.left.memory ≤ new.left.memory + (charge_of r.key r.val r.depth r.cost e).memory
     pub fields : (old new : State K V) (bs e rest tail : List ℕ) (f : DecodeError) → RefusesEntry r old bs new tail f → delimited_at bs ≡ Ok (e, rest) →
-        (old.left.unknown ≤ new.left.unknown + ((need_of r.key r.val r.depth r.cost e).unknown + (if r.keeps_undeclared then 1 else 0)))
-        × (f ≢ OutOfMemory → old.left.unknown ≤ new.left.unknown + (need_of r.key r.val r.depth r.cost e).unknown)
+        (old.left.unknown ≤ new.left.unknown + ((charge_of r.key r.val r.depth r.cost e).unknown + (if r.keeps_undeclared then 1 else 0)))
+        × (f ≢ OutOfMemory → old.left.unknown ≤ new.left.unknown + (charge_of r.key r.val r.depth r.cost e).unknown)
     pub unspent : (old new : State K V) (bs tail : List ℕ) (f g : DecodeError) → RefusesEntry r old bs new tail f → delimited_at bs ≡ Err g →
         (new.left ≡ old.left) × (tail ≡ past_no_delimited bs)
     pub end : (old new : State K V) (bs tail : List ℕ) (f : DecodeError) → RefusesEntry r old bs new tail f → IsTailOf tail bs
@@ -129,7 +129,7 @@ module _ {K V : Type 0} (r : Rules K V) where
         × (r.cost ≤ old.left.memory) × (((r.keeps_undeclared ≡ true) × (r.val.undeclared ≡ true) × (e ≢ []))
         ⊎ (FieldTakesMemory e
         ⊎ ((s : MapEntry K V) × IsEntry r.key r.val r.depth e s × ((s.known ≡ true)
-        ⊎ ((r.keeps_undeclared ≡ true) × ((need_of r.key r.val r.depth r.cost e).unknown < old.left.unknown))))))
+        ⊎ ((r.keeps_undeclared ≡ true) × ((charge_of r.key r.val r.depth r.cost e).unknown < old.left.unknown))))))
 
   -- A run is its entries, each behind a tag of the field's number: no bytes are a run that changes nothing, and a record in
   -- front of a run is merged first. A run is refused at the first record that is: its tag, its number, its wire type, or its

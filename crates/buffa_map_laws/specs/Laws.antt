@@ -5,13 +5,13 @@ use Rattle.std.specs.List.{IsDistinct}
 use Rattle.std.specs.List.Sorted.{IsPermutation}
 use Rattle.std.specs.Map.{keys_of}
 use Rattle.buffa_bytes.specs.declared.error.DecodeError.{DecodeError}
-use Rattle.buffa_bytes.specs.Content.{Content, TakesContent}
+use Rattle.buffa_bytes.specs.PayloadValue.{PayloadValue, TakesPayloadValue}
 use Rattle.buffa_wire.specs.Enums.{DeclaresBlank, Numbers, Refines}
 use Rattle.buffa_wire.specs.BudgetLeft.{BudgetLeft, nothing, units}
 use Rattle.buffa_bytes.specs.Number.{IsNumber}
 use Rattle.buffa_map.specs.Codec.{Reading, ValueFault, Writing, level, value_at}
 use Rattle.buffa_map.specs.Entry.{EntryFault, EntryOf, FaultOf, IsEntry}
-use Rattle.buffa_map.specs.EntryReading.{entry_of, inner_need, need_of}
+use Rattle.buffa_map.specs.EntryReading.{entry_of, inner_charge, charge_of}
 use Rattle.buffa_map.specs.Enums.{ClosedFits, closed_reading, closed_writing}
 use Rattle.buffa_map.specs.MessageField.{IsSmallField}
 use Rattle.buffa_map.specs.Scalars.{delimited_writing}
@@ -27,7 +27,7 @@ module _ {V : Type 0} (codec : Reading V) where
   pub record ValuesAreRead : Type 0 where
     pub ok : (d : ℕ) (old : V) (bs : List ℕ) (new : V) (known : Bool) (rest : List ℕ) →
         (value_at codec d old bs ≡ Ok ((new, known), rest))
-        ↔ ((level codec.nested d ≡ Ok tt) × (c : Content) × TakesContent codec.wire bs c rest × (codec.reads d old c ≡ Ok (new, known)))
+        ↔ ((level codec.nested d ≡ Ok tt) × (c : PayloadValue) × TakesPayloadValue codec.wire bs c rest × (codec.reads d old c ≡ Ok (new, known)))
     pub refused : (d : ℕ) (old : V) (bs : List ℕ) (f : DecodeError) → value_at codec d old bs ≡ Err f → ValueFault codec d old bs f
 
 module _ {K V : Type 0} (key : Reading K) (val : Reading V) where
@@ -52,9 +52,9 @@ module _ {K V : Type 0} (key : Reading K) (val : Reading V) where
         RunFault key val d n cost unknown_cost left bs f → (x : DecodeError) × (run_of key val d n cost unknown_cost left bs ≡ Err x)
 
   -- where no payload is a message, units are all that is needed
-  pub record NeedsUnits : Type 0 where
-    pub entry : ArePlain → (d cost : ℕ) (e : List ℕ) → need_of key val d cost e ≡ units cost
-    pub front : ArePlain → (d : ℕ) (bs : List ℕ) → inner_need key val d bs ≡ nothing
+  pub record ChargesUnits : Type 0 where
+    pub entry : ArePlain → (d cost : ℕ) (e : List ℕ) → charge_of key val d cost e ≡ units cost
+    pub front : ArePlain → (d : ℕ) (bs : List ℕ) → inner_charge key val d bs ≡ nothing
     pub run : ArePlain → (d : ℕ) (es : List (EntryRecord K V)) → cost_inside key val d es ≡ nothing
 
   -- bytes are an entry, or a run, in one way only, and not while they have a fault
@@ -65,7 +65,7 @@ module _ {K V : Type 0} (key : Reading K) (val : Reading V) where
     pub front : (d : ℕ) (bs e a : List ℕ) (s : MapEntry K V) (f b : List ℕ) (t : MapEntry K V) → EntryOf key val d bs e s a → EntryOf key val d bs f t b → (e ≡ f) × (a ≡ b) × (s ≡ t)
     -- an entry that is paid has no fault
     pub front_or_fault : (d cost unknown_cost : ℕ) (left : BudgetLeft) (bs e rest : List ℕ) (s : MapEntry K V) (f : DecodeError) → EntryOf key val d bs e s rest →
-        (need_of key val d cost e).memory ≤ left.memory → (need_of key val d cost e).unknown + cond s.known 0 unknown_cost ≤ left.unknown →
+        (charge_of key val d cost e).memory ≤ left.memory → (charge_of key val d cost e).unknown + cond s.known 0 unknown_cost ≤ left.unknown →
         EntryFault key val d cost unknown_cost left bs f → ⊥
     pub run : (d n : ℕ) (bs : List ℕ) (es fs : List (EntryRecord K V)) → Run key val d n bs es → Run key val d n bs fs → es ≡ fs
     -- a run that is paid has no fault

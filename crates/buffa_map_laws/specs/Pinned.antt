@@ -3,7 +3,7 @@ use Rattle.std.specs.Prelude.{◌≡◌, ◌≢◌, ℕ, Bool, false, true, List
 use Rattle.buffa_bytes.specs.declared.error.DecodeError.{DecodeError}
 use Rattle.buffa_bytes.specs.declared.error.DecodeError.TheVariants.{OutOfMemory}
 use Rattle.buffa_wire.specs.BudgetLeft.{BudgetLeft}
-use Rattle.buffa_map.specs.Codec.{Reading, RefusesValue, Spends, value_at, value_need}
+use Rattle.buffa_map.specs.Codec.{Reading, RefusesValue, Spends, value_at, value_charge}
 use Rattle.buffa_map_laws.specs.Laws.{ArePlain}
 use Rattle.buffa_map.specs.Merge.{MergesEntry, ReadsRun, RefusesEntry, Rules, State, RefusesRun}
 use Rattle.buffa_map.specs.Pairs.{SamePairs}
@@ -61,7 +61,7 @@ module _ {K V : Type 0} (key : Reading K) (val : Reading V) where
 
 -- the payload at the front was merged, and what it costs was spent
 abbrev pub IsPaid : {V : Type 0} → Reading V → ℕ → List ℕ → BudgetLeft → BudgetLeft → Type 0
-IsPaid codec d bs left over = Spends {T = Unit {0}} codec.nested (Ok tt) left (value_need codec d bs) over
+IsPaid codec d bs left over = Spends {T = Unit {0}} codec.nested (Ok tt) left (value_charge codec d bs) over
 
 -- A payload is merged in one way only, and leaves one budget; what is merged and paid can't have been refused; where it
 -- is no message, its fault is one.

@@ -4,7 +4,7 @@
 ghost use Rattle.buffa_wire.specs.Parse.{Fits};
 ghost use Rattle.buffa_wire.specs.Records.{records_of};
 ghost use Rattle.buffa_map.specs.Message.{message_reading};
-ghost use Rattle.buffa_map_laws.specs.Laws.{EntriesAreRead, NeedsUnits, OneReading, RewriteMeans};
+ghost use Rattle.buffa_map_laws.specs.Laws.{EntriesAreRead, ChargesUnits, OneReading, RewriteMeans};
 ghost use Rattle.buffa_map_laws.specs.Laws.{RunsAreRead, RunsJoin, ValuesAreRead, WalksAgree, WrittenIsRead};
 ghost use Rattle.buffa_map_laws.specs.Laws.{MessagesAreRead, NewerTakes};
 ghost use Rattle.buffa_map_laws.specs.Plain.{EntriesAreExact};
@@ -33,17 +33,17 @@ pub fn runs_are_read<KC: MapValueDecode, VC: MapValueDecode>()
 /// Where no payload is a message, an entry needs its units and nothing more.
 ///
 /// ```ignore
-/// plain_entries_need_units::<KC, VC>();
+/// plain_entries_charge_units::<KC, VC>();
 /// ```
-pub fn plain_entries_need_units<KC: MapValueDecode, VC: MapValueDecode>()
-    ensures { NeedsUnits KC.reading VC.reading }
+pub fn plain_entries_charge_units<KC: MapValueDecode, VC: MapValueDecode>()
+    ensures { ChargesUnits KC.reading VC.reading }
 {}
 
 /// Where no payload is a message, an entry's fault is the first, and it spends its cost or nothing.
 pub fn plain_entries_are_exact<KC: MapCodec, VC: MapCodec>()
     ensures { EntriesAreExact KC.reading VC.reading }
 {
-    plain_entries_need_units::<KC, VC>();
+    plain_entries_charge_units::<KC, VC>();
 }
 
 /// Bytes are an entry, or a run, in one way at most, and in none where they have a fault.

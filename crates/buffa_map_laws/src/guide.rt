@@ -3,10 +3,10 @@
 ghost use Rattle.std.specs.Prelude.{◌≡◌, ◌↔◌, ◌++◌, ◌^◌, ◌<◌, FitsSigned, List, ℕ, ℤ, is_some, length, false, map, true, Ok, Err};
 ghost use Rattle.std.specs.Int.{w32};
 ghost use Rattle.std.specs.Str.{is_utf8};
-ghost use Rattle.buffa_bytes.specs.Content.Content.{bytes, number};
+ghost use Rattle.buffa_bytes.specs.PayloadValue.PayloadValue.{bytes, number};
 ghost use Rattle.buffa_bytes.specs.declared.error.DecodeError.TheVariants.{InvalidUtf8};
 ghost use Rattle.buffa_bytes.specs.Delimited.{bytes_as, string_as};
-ghost use Rattle.buffa_bytes.specs.Front.{delimited_at};
+ghost use Rattle.buffa_bytes.specs.Readings.{delimited_at};
 ghost use Rattle.buffa_bytes.specs.Varint.{varint_encoding};
 ghost use Rattle.buffa_bytes.specs.declared.wire_type.WireType.TheVariants as wire;
 ghost use Rattle.buffa_bytes.specs.Scalars.{bool_encoding, fixed32_encoding, fixed64_encoding, int64_encoding, sfixed32_encoding};
@@ -16,7 +16,7 @@ ghost use Rattle.buffa_bytes.specs.Scalars.{sint64_at, uint32_at, uint64_at};
 ghost use Rattle.buffa_bytes.specs.Values.{int32_at, int32_encoding, int32_of, string_at};
 ghost use Rattle.buffa_map_laws.specs.CodecWords.{WritesAs, AtBytes, Never, NothingIsFree, IsReadAs, MessagesAreReadAs, always, any_number, declared_number};
 ghost use Rattle.buffa_map.specs.EntryReading.{blanks};
-ghost use Rattle.buffa_map_laws.specs.EntryWords.{EntriesAreFields, EntriesNeed, PairsAreLists, RulesAreTheGuides};
+ghost use Rattle.buffa_map_laws.specs.EntryWords.{EntriesAreFields, EntriesCharge, PairsAreLists, RulesAreTheGuides};
 ghost use Rattle.buffa_map.specs.Pairs.{means};
 ghost use Rattle.buffa_map_laws.specs.FieldWords.{EnumsAreNumbers, FieldsAreRecords, MessageFieldsAreRecords, RewritesAreFields};
 
@@ -72,7 +72,7 @@ pub fn messages_are_read_so<M: Message>()
 /// An entry is its fields, one behind the other: what each of them says, and how each may be wrong.
 pub fn entries_are_their_fields<KC: MapValueDecode, VC: MapValueDecode>()
     ensures fields { EntriesAreFields KC.reading VC.reading }
-    ensures needs { EntriesNeed KC.reading VC.reading }
+    ensures needs { EntriesCharge KC.reading VC.reading }
 {}
 
 /// Entries are put, kept or dropped, each for its need, and runs are their entries, one behind the other.

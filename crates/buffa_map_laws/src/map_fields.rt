@@ -18,7 +18,7 @@ pub use crate::codecs::{
 };
 pub use crate::entries::{
     entries_are_read, newer_enums_take_it_too, one_reading, plain_entries_are_exact,
-    plain_entries_need_units, rewrite_means, runs_are_read, runs_join, values_are_read,
+    plain_entries_charge_units, rewrite_means, runs_are_read, runs_join, values_are_read,
     walks_agree, written_is_read, written_messages_are_read,
 };
 pub use crate::guide::{
@@ -41,7 +41,7 @@ pub use crate::runs::{
 pub use crate::storages::{
     hashed_maps_are_these, index_maps_are_these, ordered_maps_are_these, ordered_maps_have_one_walk,
 };
-pub use buffa_map::laws::{limits_are_told_where_needs_are_not_left, size_is_length};
+pub use buffa_map::laws::{limits_are_reported_where_charges_are_not_left, size_is_length};
 use buffa_map::map_codec::{Map, MapStorage, MapValueDecodeStatus, RewriteError, StableOrder};
 use buffa_wire::{Blank, MapKey};
 use std::fmt::Display;

@@ -5,9 +5,9 @@ ghost use Rattle.std.specs.Prelude.{◌≡◌, ◌≢◌, ◌↔◌, ◌⊎◌, 
 ghost use Rattle.std.specs.Prelude.{List, [], ◌∷◌, ◌++◌, length, map, Result, Ok, Err, IsOk};
 ghost use Rattle.buffa_bytes.specs.ErrorText.{decode_error_text, encode_error_text};
 ghost use Rattle.buffa_bytes.specs.Field.{IsTag, LengthFault, PayloadFault, TagFault, TakesTag};
-ghost use Rattle.buffa_bytes.specs.Front.{delimited_at};
+ghost use Rattle.buffa_bytes.specs.Readings.{delimited_at};
 ghost use Rattle.buffa_bytes.specs.Number.{wire_number};
-ghost use Rattle.buffa_bytes.specs.Left.{past_no_tag};
+ghost use Rattle.buffa_bytes.specs.Unread.{past_no_tag};
 ghost use Rattle.buffa_bytes.specs.Varint.{IsVarint};
 ghost use Rattle.buffa_bytes.specs.declared.error.DecodeError.{DecodeError};
 ghost use Rattle.buffa_bytes.specs.declared.error.DecodeError.TheVariants.{ElementMemoryLimitExceeded, OutOfMemory};
@@ -21,11 +21,11 @@ ghost use Rattle.buffa_wire.specs.BudgetLeft.{BudgetLeft, Lacks, Pays, PaysAtMos
 ghost use Rattle.buffa_wire.specs.Cache.{Cache, advanced};
 ghost use Rattle.buffa_wire.specs.Encoding.{records_encoding};
 ghost use Rattle.buffa_wire.specs.Passes.{Begins, Consumes};
-ghost use Rattle.buffa_wire.specs.Records.{Datum, bytes};
+ghost use Rattle.buffa_wire.specs.Records.{FieldData, bytes};
 ghost use Rattle.buffa_map.specs.Codec.{HoldsNothing, IsWhole, ReadingTakesMemory, RefusesValue, Spends};
 ghost use Rattle.buffa_map.specs.Encoding.{entry_encoding, field_encoding, saturated};
 ghost use Rattle.buffa_map.specs.Entry.{EntryFault, FaultOf, IsEntry, EntryFieldsTakeMemory};
-ghost use Rattle.buffa_map.specs.EntryReading.{need_of};
+ghost use Rattle.buffa_map.specs.EntryReading.{charge_of};
 ghost use Rattle.buffa_map.specs.Merge.{MergesEntry, ReadsRun, RefusesEntry, RefusesRun, State, rules, state};
 ghost use Rattle.buffa_map.specs.MessageField.{IsFieldWritten, IsSmallField, field_slots};
 ghost use Rattle.buffa_map.specs.Pairs.{ListsOnce, SamePairs, put};
@@ -56,7 +56,7 @@ pub fn rules_are_these<KC: MapValueDecode, VC: MapValueDecode>()
           cost = a + b;
           keeps_undeclared = keeps;
         } }
-    ensures state { (pairs : List (KC.Value.Meaning × VC.Value.Meaning)) (records : List (ℕ × Datum)) (left : BudgetLeft) →
+    ensures state { (pairs : List (KC.Value.Meaning × VC.Value.Meaning)) (records : List (ℕ × FieldData)) (left : BudgetLeft) →
         state pairs records left ≡ record { pairs = pairs; records = records; left = left } }
 {}
 
@@ -79,12 +79,12 @@ pub fn named_readings_are_these<E: Enumeration>()
 /// What a codec spends of a budget: nothing where its payloads are no messages; and of messages exactly what the payload needs, or on a
 /// refusal at most that.
 pub fn codecs_spend_so()
-    ensures plain { (r : Result MapValueDecodeStatus DecodeError) (left need over : BudgetLeft) →
-        Spends false r left need over ↔ (over ≡ left) }
-    ensures merged { (s : MapValueDecodeStatus) (left need over : BudgetLeft) →
-        Spends true (Ok s) left need over ↔ Pays left need over }
-    ensures refused { (f : DecodeError) (left need over : BudgetLeft) →
-        Spends {T = MapValueDecodeStatus} true (Err f) left need over ↔ PaysAtMost left need over }
+    ensures plain { (r : Result MapValueDecodeStatus DecodeError) (left charge over : BudgetLeft) →
+        Spends false r left charge over ↔ (over ≡ left) }
+    ensures merged { (s : MapValueDecodeStatus) (left charge over : BudgetLeft) →
+        Spends true (Ok s) left charge over ↔ Pays left charge over }
+    ensures refused { (f : DecodeError) (left charge over : BudgetLeft) →
+        Spends {T = MapValueDecodeStatus} true (Err f) left charge over ↔ PaysAtMost left charge over }
 {}
 
 /// The codec of messages takes memory only where a level is left, and a length and so many bytes are there; and it takes none
@@ -116,7 +116,7 @@ pub fn merged_entries_are_these<KC: MapValueDecode, VC: MapValueDecode>()
         MergesEntry (rules (KC.reading, a) (VC.reading, b) (same, ordered) d n keeps) old bs new rest →
         (e : List ℕ) × (s : MapEntry KC.Value.Meaning VC.Value.Meaning)
         × ((t : List ℕ) × IsVarint t (length e) × (bs ≡ t ++ (e ++ rest)) × IsEntry KC.reading VC.reading d e s)
-        × Pays old.left (plus (need_of KC.reading VC.reading d (a + b) e)
+        × Pays old.left (plus (charge_of KC.reading VC.reading d (a + b) e)
         (unknown_fields (cond s.known 0 (if keeps then 1 else 0)))) new.left
         × SamePairs same (cond s.known (put same old.pairs s.key s.value) old.pairs) new.pairs
         × (ordered ≡ true → new.pairs ≡ cond s.known (put same old.pairs s.key s.value) old.pairs)
@@ -134,9 +134,9 @@ pub fn refused_entries_are_these<KC: MapValueDecode, VC: MapValueDecode>()
         EntryFault KC.reading VC.reading d cost more left bs f ↔ (LengthFault bs f
         ⊎ ((t : List ℕ) × (e : List ℕ) × (rest : List ℕ) × IsVarint t (length e) × (bs ≡ t ++ (e ++ rest))
         × (((left.memory < cost) × (f ≡ ElementMemoryLimitExceeded))
-        ⊎ ((cost ≤ left.memory) × (Lacks left (need_of KC.reading VC.reading d cost e) ⊎ (FaultOf KC.reading VC.reading d e f
+        ⊎ ((cost ≤ left.memory) × (Lacks left (charge_of KC.reading VC.reading d cost e) ⊎ (FaultOf KC.reading VC.reading d e f
         ⊎ ((s : MapEntry KC.Value.Meaning VC.Value.Meaning) × IsEntry KC.reading VC.reading d e s × (s.known ≡ false)
-        × (left.unknown < (need_of KC.reading VC.reading d cost e).unknown + more) × (f ≡ UnknownFieldLimitExceeded)))))))) }
+        × (left.unknown < (charge_of KC.reading VC.reading d cost e).unknown + more) × (f ≡ UnknownFieldLimitExceeded)))))))) }
 {}
 
 /// The fault of an entry is that of what follows some fields that are an entry: of its tag; of a key or a value of another wire
@@ -170,10 +170,10 @@ pub fn runs_are_these<KC: MapValueDecode, VC: MapValueDecode>()
         ↔ ((after.memory + (length xs * cost + (cost_inside KC.reading VC.reading d xs).memory) ≡ left.memory)
         × (after.unknown + (length (undeclared xs) * more + (cost_inside KC.reading VC.reading d xs).unknown)
         ≡ left.unknown)) }
-    ensures no_needs { (d : ℕ) → cost_inside KC.reading VC.reading d [] ≡ nothing }
+    ensures no_charges { (d : ℕ) → cost_inside KC.reading VC.reading d [] ≡ nothing }
     ensures needs { (d : ℕ) (x : EntryRecord KC.Value.Meaning VC.Value.Meaning)
         (xs : List (EntryRecord KC.Value.Meaning VC.Value.Meaning)) → cost_inside KC.reading VC.reading d (x ∷ xs)
-        ≡ plus (need_of KC.reading VC.reading d 0 x.bytes) (cost_inside KC.reading VC.reading d xs) }
+        ≡ plus (charge_of KC.reading VC.reading d 0 x.bytes) (cost_inside KC.reading VC.reading d xs) }
 {}
 
 /// Why bytes are no run: behind some records, which are paid, comes no tag, or one of another number or wire type; or an entry that is
@@ -251,7 +251,7 @@ pub fn rewrites_are_readings<
     ensures read { (a b d n room after : ℕ) (storage : C) (left over : BudgetLeft) (bs rest old written : List ℕ)
         (new : List (KC.Value.Meaning × VC.Value.Meaning)) →
         RewritesRun (rules (KC.reading, a) (VC.reading, b) (C.equal, C.keeps_order) d n true) KC.writing VC.writing KC.fits VC.fits
-        (C.walks storage) left bs new over rest old written room after → (kept : List (ℕ × Datum))
+        (C.walks storage) left bs new over rest old written room after → (kept : List (ℕ × FieldData))
         × ReadsRun (rules (KC.reading, a) (VC.reading, b) (C.equal, C.keeps_order) d n true) (state [] [] left) bs
         (state new kept over) rest }
     ensures written { (a b d n room after : ℕ) (storage : C) (left over : BudgetLeft) (bs rest old written : List ℕ)
@@ -265,7 +265,7 @@ pub fn rewrites_are_readings<
     ensures not_written { (a b d n room : ℕ) (storage : C) (left over : BudgetLeft) (bs rest old written : List ℕ)
         (new : List (KC.Value.Meaning × VC.Value.Meaning)) (e : EncodeError) →
         RefusesEncoding (rules (KC.reading, a) (VC.reading, b) (C.equal, C.keeps_order) d n true) KC.writing VC.writing
-        (C.walks storage) left bs new over rest old written room e → (kept : List (ℕ × Datum))
+        (C.walks storage) left bs new over rest old written room e → (kept : List (ℕ × FieldData))
         × ReadsRun (rules (KC.reading, a) (VC.reading, b) (C.equal, C.keeps_order) d n true) (state [] [] left) bs
         (state new kept over) rest }
 {}

@@ -13,7 +13,7 @@ use Rattle.buffa_bytes.proofs.FieldLemmas.{tag_as}
 use Rattle.buffa_wire.proofs.MessageLemmas.{NoLimit, no_limit}
 use Rattle.buffa_bytes.proofs.SequenceLemmas.{ParsesTo-first}
 use Rattle.buffa_bytes.specs.Scan.{ParsesEach, join}
-use Rattle.buffa_bytes.specs.Front.{same_wire}
+use Rattle.buffa_bytes.specs.Readings.{same_wire}
 use Rattle.buffa_message_set.specs.Item.{ItemFieldFault, IsItemField, IsReadAlike, Item, ItemFault, Said, said, says, unsaid}
 use Rattle.buffa_message_set.proofs.ItemLemmas.{StopsFrom, TakesFrom, both_false, both_true, field_no_end, is_type_id, item_fault, out_of, read_complete, read_faulty, takes_item}
 

@@ -5,7 +5,7 @@ use Rattle.std.proofs.lemmas.List.{append_cancel_right}
 use Rattle.buffa_bytes.specs.Field.{IsTag, LengthFault, Payload, TakesDelimited, TakesTag}
 use Rattle.buffa_bytes.specs.Values.{tag_encoding}
 use Rattle.buffa_bytes.specs.Varint.{IsVarint, varint_encoding}
-use Rattle.buffa_bytes.specs.Front.{delimited_at, skip_at, tag_at, taken, varint_at, same_wire, FullOnlyIf, Gives}
+use Rattle.buffa_bytes.specs.Readings.{delimited_at, skip_at, tag_at, taken, varint_at, same_wire, FullOnlyIf, Gives}
 use Rattle.buffa_bytes.specs.Scan.{parsed, scan, ParsesEach, ParsesTo, join}
 use Rattle.buffa_bytes.specs.Scan.Scanned.{ends, goes}
 use Rattle.buffa_bytes.specs.declared.wire_type.WireType.{WireType}
@@ -20,7 +20,7 @@ use Rattle.buffa_bytes.proofs.ListLemmas.{cut_twice}
 use Rattle.buffa_bytes.proofs.FaultLemmas.{IsOfBytes, as_of_bytes, length_fault, payload_fault, tag_fault, varint_fault}
 use Rattle.buffa_bytes.proofs.FullLemmas.{skip_no_full}
 use Rattle.buffa_bytes.proofs.VarintLemmas.{IsVarint-varint_encoding, varint_complete, varint_faulty, varint_sound}
-use Rattle.buffa_bytes.specs.Left.{IsFrontOf}
+use Rattle.buffa_bytes.specs.Unread.{IsFrontOf}
 use Rattle.buffa_bytes.proofs.LendLemmas.{delimited_front}
 use Rattle.buffa_bytes.proofs.SequenceLemmas.{Ends, Meets, ParsesTo-more, UpTo, if_meets, ok_same, parsed_meets, upto_agrees, upto_complete, upto_sound}
 use Rattle.buffa_message_set.specs.Item.{BytesAt, EndFault, ItemFieldFault, HasMessage, IsItemField, IsMessageAt, IsOther, IsOutOfRange, IsTypeId, Item, ItemFault, Reaches, Said, TakesItem, TypeIdFault, appended_at, body_encoding, ends_item, ended, item_field_at, item_at, item_from, item_step, said, says, type_id_at, unsaid}

@@ -4,7 +4,7 @@ use Rattle.std.specs.Prelude.{◌≡◌, ◌≢◌, ℕ, suc, ◌+◌, ◌^◌, 
 use Rattle.buffa_bytes.specs.Varint.{IsVarint, TakesVarint, VarintFault, varint_encoding}
 use Rattle.buffa_bytes.specs.Values.{delimited_encoding, tag_encoding}
 use Rattle.buffa_bytes.specs.Field.{Field, Group, IsTag, LengthFault, PayloadFault, TagFault, TakesDelimited, TakesTag}
-use Rattle.buffa_bytes.specs.Front.{delimited_at, skip_at, tag_at, varint_at, ◌>>=◌, same_wire}
+use Rattle.buffa_bytes.specs.Readings.{delimited_at, skip_at, tag_at, varint_at, ◌>>=◌, same_wire}
 use Rattle.buffa_bytes.specs.Scan.{Scanned, parsed, scan, ParsesTo}
 use Rattle.buffa_bytes.specs.Scan.Scanned.{ends}
 use Rattle.buffa_wire.specs.BudgetLeft.{BudgetLeft}

@@ -13,8 +13,8 @@
 ghost use Rattle.std.specs.Prelude.{◌≡◌, ◌≢◌, ◌^◌, ◌<◌, ◌++◌, ◌==◌, ◌&&◌, ℕ, List, length, Ok, Err, IfErr, IfOk, IsOk, MatchResult};
 ghost use Rattle.buffa_bytes.specs.declared.error.DecodeError.TheVariants.{OutOfMemory};
 ghost use Rattle.buffa_wire.specs.BudgetLeft.{budget_left};
-ghost use Rattle.buffa_bytes.specs.Front.{taken, varint_at, FullOnlyIf, Gives, GivesUnlessFull, same_wire};
-ghost use Rattle.buffa_bytes.specs.Left.{IsTailOf};
+ghost use Rattle.buffa_bytes.specs.Readings.{taken, varint_at, FullOnlyIf, Gives, GivesUnlessFull, same_wire};
+ghost use Rattle.buffa_bytes.specs.Unread.{IsTailOf};
 ghost use Rattle.buffa_bytes.specs.Values.{tag_encoding};
 ghost use Rattle.buffa_bytes.specs.Written.{UsesRoom, Writes};
 ghost use Rattle.buffa_message_set.specs.Item.{HasMessage, IsTypeId, SpendsUnknown, item_field_at, item_at, item_in, item_size, item_encoding, BytesAt, IsMessageAt, appended_at, ended_by, id_and_length, id_then, item_head, said_by, type_id_at, unsaid};

@@ -4,20 +4,20 @@ use Rattle.buffa_bytes.specs.declared.error.EncodeError.{EncodeError}
 use Rattle.buffa_wire.specs.Cache.{Cache}
 use Rattle.buffa_wire.specs.Encoding.{records_encoding}
 use Rattle.buffa_wire.specs.Passes.{IsSized, IsWritten}
-use Rattle.buffa_fields.specs.Layout.{IsCounted, IsPut, Layout}
-use Rattle.buffa_fields.specs.facts.LayoutFacts.{puts, sizes, start}
-use Rattle.buffa_recursive.specs.RecursiveLayout.{Laying}
+use Rattle.buffa_fields.specs.Schema.{IsCounted, IsPut, Schema}
+use Rattle.buffa_fields.specs.facts.SchemaFacts.{puts, sizes, start}
+use Rattle.buffa_recursive.specs.RecursiveSchema.{RecursiveSchema}
 use Rattle.buffa_recursive.specs.Layers.{IsSound}
-use Rattle.buffa_recursive.specs.Fixpoint.{told, told_layout}
+use Rattle.buffa_recursive.specs.Fixpoint.{semantics, message_schema}
 use Rattle.buffa_recursive.specs.facts.FixpointFacts.{records_are, slots_are}
-use Rattle.buffa_recursive.specs.InnerMessages.{Words, encoding_by}
+use Rattle.buffa_recursive.specs.InnerMessages.{Semantics, encoding_by}
 
-module _ {X : Type 0} (each : ℕ) (o : Laying X) (sound : IsSound o) (x : X) where
-  abbrev w : Words X
-  w = told each o sound
+module _ {X : Type 0} (each : ℕ) (o : RecursiveSchema X) (sound : IsSound o) (x : X) where
+  abbrev w : Semantics X
+  w = semantics each o sound
 
-  abbrev l : Layout X o.Y
-  l = told_layout each o sound
+  abbrev l : Schema X o.Y
+  l = message_schema each o sound
 
   encoding_is : records_encoding (l.records (l.meaning x)) ≡ encoding_by w x
   encoding_is = ap records_encoding (ap l.records (o.meaning_is w x) ∙ sym (records_are each o sound x))

@@ -2,26 +2,26 @@
 -- Source: the protobuf language guide for proto2, "Specifying Field Rules"; a message in a required or optional field, in a list or in a map
 -- has to have all of its own, too.
 use Rattle.std.specs.Prelude.{◌&&◌, Bool, true, Option, None, Some}
-use Rattle.buffa_recursive.specs.MessageTree.{Knot, KnotList, Maybe, Slots, kid, knot, many, no_kid, no_slot, nobody, one, somebody}
+use Rattle.buffa_recursive.specs.MessageTree.{MessageTree, TreeList, Maybe, InnerMembers, first_tree, message_tree, many, no_trees, no_inner, no_tree, one, some_tree}
 
 -- by what is asked of one message, apart from those of its own type in it
-module _ {W : Type 0} (asked : Knot W → Bool) where
+module _ {W : Type 0} (asked : MessageTree W → Bool) where
   abbrev mutual
-    pub knot_has : Knot W → Bool
-    knot_has (knot o ss) = asked (knot o ss) && slots_have ss
+    pub tree_has : MessageTree W → Bool
+    tree_has (message_tree o ss) = asked (message_tree o ss) && inner_have ss
 
-    pub slots_have : Slots W → Bool
-    slots_have no_slot = true
-    slots_have (many ks ss) = kids_have ks && slots_have ss
-    slots_have (one m ss) = maybe_has m && slots_have ss
+    pub inner_have : InnerMembers W → Bool
+    inner_have no_inner = true
+    inner_have (many ks ss) = trees_have ks && inner_have ss
+    inner_have (one m ss) = maybe_has m && inner_have ss
 
-    pub kids_have : KnotList W → Bool
-    kids_have no_kid = true
-    kids_have (kid t ks) = knot_has t && kids_have ks
+    pub trees_have : TreeList W → Bool
+    trees_have no_trees = true
+    trees_have (first_tree t ks) = tree_has t && trees_have ks
 
     pub maybe_has : Maybe W → Bool
-    maybe_has nobody = true
-    maybe_has (somebody t) = knot_has t
+    maybe_has no_tree = true
+    maybe_has (some_tree t) = tree_has t
 
 -- it is so of what may be there
 abbrev pub true_if_there : {X : Type 0} → (X → Bool) → Option X → Bool

@@ -3,34 +3,34 @@
 use Rattle.std.specs.Prelude.{◌≡◌, ◌≤◌, ℕ, true, List, [], Option, Some, None, refl}
 use Rattle.std.specs.List.{AllByRecursion}
 use Rattle.buffa_bytes.specs.Field.{SomeField}
-use Rattle.buffa_bytes.specs.Front.{check_wire}
+use Rattle.buffa_bytes.specs.Readings.{check_wire}
 use Rattle.buffa_bytes.specs.Join.{Join}
 use Rattle.buffa_bytes.specs.declared.wire_type.WireType.TheVariants.{LengthDelimited}
 use Rattle.buffa_wire.specs.BudgetLeft.{BudgetLeft}
 use Rattle.buffa_wire.specs.Encoding.{records_encoding}
 use Rattle.buffa_wire.specs.Parse.{AreValid, Fits}
-use Rattle.buffa_wire.specs.Records.{Datum, bytes, records_of}
-use Rattle.buffa_fields.specs.Framing.{Messages, cost_as, each_cost_as, taken_as}
-use Rattle.buffa_fields.specs.facts.FramingFacts.{delimited_holds, each_stays, one_stays}
+use Rattle.buffa_wire.specs.Records.{FieldData, bytes, records_of}
+use Rattle.buffa_fields.specs.Framing.{Messages, each_cost_as, taken_as}
+use Rattle.buffa_fields.specs.facts.FramingFacts.{delimited_holds, each_stays}
 use Rattle.buffa_fields.specs.Framings.{delimited}
-use Rattle.buffa_fields.specs.Layout.{Shape}
+use Rattle.buffa_fields.specs.Schema.{Shape}
 use Rattle.buffa_fields.specs.Levels.{AreExactLevels}
 use Rattle.buffa_fields.specs.Lists.{element_records}
-use Rattle.buffa_fields.specs.MemberRecords.{optional_records}
-use Rattle.buffa_fields.specs.Nested.{FitsInside, message_levels, message_slots, taken_behind, taken_there}
+use Rattle.buffa_fields.specs.MemberRecords.{explicit_records}
+use Rattle.buffa_fields.specs.Submessages.{FitsInside, message_levels, message_slots, taken_behind, taken_there}
 use Rattle.buffa_fields.specs.Refusals.{RefusesBoxed}
-use Rattle.buffa_fields.specs.RepeatedNested.{MessagesTakeMemory, messages_levels, messages_slots}
+use Rattle.buffa_fields.specs.RepeatedMessages.{MessagesTakeMemory, messages_levels, messages_slots}
 use Rattle.buffa_fields.specs.Values.{IfThere}
-use Rattle.buffa_recursive.specs.TakenThrough.{taken_apart}
+use Rattle.buffa_recursive.specs.TakenThrough.{taken_through}
 
 -- How they are merged and written, at every depth, and that normal ones have valid records and read back.
-pub record Words (X : Type 0) : Type 1 where
-  -- the units of element memory that one costs in a list
+pub record Semantics (X : Type 0) : Type 1 where
+  -- the units of element memory that one costs in a list, or in a box
   pub each : ℕ
   pub blank : X
   pub merged : ℕ → X → List ℕ → Option X
   pub cost : ℕ → List ℕ → BudgetLeft
-  pub records : X → List (ℕ × Datum)
+  pub records : X → List (ℕ × FieldData)
   pub slots : X → List ℕ
   pub levels : X → ℕ
   pub normal : X → Type 0
@@ -38,7 +38,7 @@ pub record Words (X : Type 0) : Type 1 where
   pub valid : (v : X) → normal v → AreValid (records_of (records v))
   pub back : (d : ℕ) (v : X) → Fits (records_of (records v)) → normal v → levels v ≤ d → merged d blank (records_encoding (records v)) ≡ Some v
 
-module _ {X : Type 0} (w : Words X) where
+module _ {X : Type 0} (w : Semantics X) where
   abbrev pub encoding_by : X → List ℕ
   encoding_by x = records_encoding (w.records x)
 
@@ -71,7 +71,7 @@ module _ {X : Type 0} (w : Words X) where
     checks = λ n wire. check_wire n LengthDelimited wire;
     refuses = λ d old n wire bs left e new. old ≡ new;
     asks = MessagesTakeMemory;
-    need = each_cost_as LengthDelimited w.each (delimited.cost w.cost);
+    charge = each_cost_as LengthDelimited w.each (delimited.cost w.cost);
     records = element_records (λ x. bytes (encoding_by x));
     slots = messages_slots encoding_by w.slots;
     levels = messages_levels w.levels;
@@ -88,21 +88,21 @@ module _ {X : Type 0} (w : Words X) where
     blank = None;
     takes = taken_there w.blank (taken_as LengthDelimited (delimited.makes w.merged));
     checks = λ n wire. check_wire n LengthDelimited wire;
-    refuses = RefusesBoxed w.blank w.merged w.cost;
+    refuses = RefusesBoxed w.each w.blank w.merged w.cost;
     asks = MessagesTakeMemory;
-    need = cost_as LengthDelimited (delimited.cost w.cost);
-    records = optional_records (λ x. bytes (encoding_by x));
+    charge = each_cost_as LengthDelimited w.each (delimited.cost w.cost);
+    records = explicit_records (λ x. bytes (encoding_by x));
     slots = message_slots encoding_by w.slots;
     levels = message_levels w.levels;
     Exact = AreExactBy;
     normal = λ o. IfThere (FitsInside w.normal w.records) o;
-    stays = one_stays delimited delimited_holds w.cost;
+    stays = each_stays delimited delimited_holds w.each w.cost;
   }
 
 -- ---- a value that is told in another way
 -- by what it means
-abbrev pub as_meant : {P A : Type 0} → Shape P A → Shape A A
-as_meant s = record {
+abbrev pub shape_by_meaning : {P A : Type 0} → Shape P A → Shape A A
+shape_by_meaning s = record {
   whole = s.whole;
   meaning = λ a. a;
   blank = s.blank;
@@ -110,7 +110,7 @@ as_meant s = record {
   checks = s.checks;
   refuses = s.refuses;
   asks = s.asks;
-  need = s.need;
+  charge = s.charge;
   records = s.records;
   slots = s.slots;
   levels = s.levels;
@@ -125,11 +125,11 @@ as_other to from s = record {
   whole = s.whole;
   meaning = λ b. b;
   blank = to s.blank;
-  takes = taken_apart to from s.takes;
+  takes = taken_through to from s.takes;
   checks = s.checks;
   refuses = λ d old n wire bs left e new. s.refuses d (from old) n wire bs left e (from new);
   asks = s.asks;
-  need = s.need;
+  charge = s.charge;
   records = λ k b. s.records k (from b);
   slots = λ b. s.slots (from b);
   levels = λ b. s.levels (from b);
@@ -144,11 +144,11 @@ lossless to from s = record {
   whole = s.whole;
   meaning = λ b. b;
   blank = to s.blank;
-  takes = taken_apart to from s.takes;
+  takes = taken_through to from s.takes;
   checks = s.checks;
   refuses = λ d old n wire bs left e new. s.refuses d (from old) n wire bs left e (from new);
   asks = s.asks;
-  need = s.need;
+  charge = s.charge;
   records = λ k b. s.records k (from b);
   slots = λ b. s.slots (from b);
   levels = λ b. s.levels (from b);

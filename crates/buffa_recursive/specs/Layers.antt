@@ -9,22 +9,22 @@ use Rattle.buffa_wire.specs.Parse.{Fits}
 use Rattle.buffa_wire.specs.Records.{records_of}
 use Rattle.buffa_wire.specs.Takes.{cost_of, merged_of}
 use Rattle.buffa_wire.proofs.TakesLemmas.{merged_of_fields}
-use Rattle.buffa_fields.specs.facts.LayoutFacts.{reads_back}
-use Rattle.buffa_recursive.specs.facts.TakenThroughFacts.{knot_merged_apart}
-use Rattle.buffa_recursive.specs.RecursiveLayout.{Laying, whole_takes}
-use Rattle.buffa_recursive.specs.InnerMessages.{Words}
+use Rattle.buffa_fields.specs.facts.SchemaFacts.{reads_back}
+use Rattle.buffa_recursive.specs.facts.TakenThroughFacts.{merged_through}
+use Rattle.buffa_recursive.specs.RecursiveSchema.{RecursiveSchema, whole_takes}
+use Rattle.buffa_recursive.specs.InnerMessages.{Semantics}
 
 -- each number is valid for a field, no two members have the same one, and records that a member puts aside are kept
-abbrev pub IsSound : {X : Type 0} → Laying X → Type 1
-IsSound {X} o = (w : Words X) → (o.layout w).sound ≡ true
+abbrev pub IsSound : {X : Type 0} → RecursiveSchema X → Type 1
+IsSound {X} o = (w : Semantics X) → (o.schema w).sound ≡ true
 
 pub never_some : {A B : Type 0} (u : A) → (let o : Option A = None in o) ≡ Some u → B
 never_some u h = cc
 
-module _ {X : Type 0} (each : ℕ) (o : Laying X) where
+module _ {X : Type 0} (each : ℕ) (o : RecursiveSchema X) where
   -- nothing is told
-  abbrev pub untold : Words X
-  untold = record {
+  abbrev pub no_semantics : Semantics X
+  no_semantics = record {
     each = each;
     blank = o.into o.blank;
     merged = λ d x b. None;
@@ -39,36 +39,36 @@ module _ {X : Type 0} (each : ℕ) (o : Laying X) where
   }
 
   -- a value is normal where it has no more than its members, these are, and those that hold other messages read back
-  abbrev pub IsNormalLaid : Words X → X → Type 0
-  IsNormalLaid w x = o.Owes × (o.into (o.out x) ≡ x) × (o.layout w).normal (o.out x)
+  abbrev pub IsNormalRecursive : Semantics X → X → Type 0
+  IsNormalRecursive w x = o.Owes × (o.into (o.out x) ≡ x) × (o.schema w).normal (o.out x)
 
   module _ (sound : IsSound o) where
-    pub layer_back : (w : Words X) (d : ℕ) (x : X) → Fits (records_of ((o.layout w).records (o.out x))) → IsNormalLaid w x → (o.layout w).levels (o.out x) ≤ d →
-        merged_of (whole_takes o w) d (o.into o.blank) (records_encoding ((o.layout w).records (o.out x))) ≡ Some x
+    pub layer_back : (w : Semantics X) (d : ℕ) (x : X) → Fits (records_of ((o.schema w).records (o.out x))) → IsNormalRecursive w x → (o.schema w).levels (o.out x) ≤ d →
+        merged_of (whole_takes o w) d (o.into o.blank) (records_encoding ((o.schema w).records (o.out x))) ≡ Some x
     layer_back w d x fits h low =
-        let l = o.layout w in
+        let l = o.schema w in
         let bs = records_encoding (l.records (o.out x)) in
-        knot_merged_apart o.into o.out o.again l.takes d o.blank bs
+        merged_through o.into o.out o.again l.takes d o.blank bs
         ∙ ap (option_map o.into) (ap (λ z. merged_of l.takes d z bs) (sym (o.blank_is w)) ∙ reads_back l (o.owes w h.0) (sound w) d (o.out x) fits h.2 low)
         ∙ ap (λ z. Some z) h.1
 
     -- a layer more
-    abbrev pub layer : Words X → Words X
+    abbrev pub layer : Semantics X → Semantics X
     layer w = record {
       each = each;
       blank = o.into o.blank;
       merged = merged_of (whole_takes o w);
-      cost = cost_of (o.layout w).need;
-      records = λ x. (o.layout w).records (o.out x);
-      slots = λ x. (o.layout w).slots (o.out x);
-      levels = λ x. (o.layout w).levels (o.out x);
-      normal = IsNormalLaid w;
+      cost = cost_of (o.schema w).charge;
+      records = λ x. (o.schema w).records (o.out x);
+      slots = λ x. (o.schema w).slots (o.out x);
+      levels = λ x. (o.schema w).levels (o.out x);
+      normal = IsNormalRecursive w;
       fields = λ d v u b h. merged_of_fields (whole_takes o w) d v u b h;
-      valid = λ x h. (o.layout w).valid (o.owes w h.0) (sound w) (o.out x) h.2;
+      valid = λ x h. (o.schema w).valid (o.owes w h.0) (sound w) (o.out x) h.2;
       back = layer_back w;
     }
 
     -- so many layers
-    abbrev pub layers : ℕ → Words X
-    layers zero = untold
+    abbrev pub layers : ℕ → Semantics X
+    layers zero = no_semantics
     layers (suc n) = layer (layers n)

@@ -3,7 +3,7 @@ pub mod TakenThrough
 pub mod MapKeys
 pub mod MessageTree
 pub mod InnerMessages
-pub mod RecursiveLayout
+pub mod RecursiveSchema
 pub mod Layers
 pub mod Fixpoint
 pub mod MemberKinds

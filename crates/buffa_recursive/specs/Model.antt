@@ -1,9 +1,9 @@
 -- What contracts see of a message that holds itself, by its members, one after the other: the author's `Model` says it so.
 use Rattle.std.specs.Prelude.{List, ℕ, Option}
-use Rattle.buffa_wire.specs.Records.{Datum}
+use Rattle.buffa_wire.specs.Records.{FieldData}
 use Rattle.buffa_map.specs.Pairs.{means}
-use Rattle.buffa_recursive.specs.MessageTree.{Knot, Rest, many, no_slot, of_list, of_option, one}
-use Rattle.buffa_fields.specs.Layout.{Shape}
+use Rattle.buffa_recursive.specs.MessageTree.{MessageTree, Rest, many, no_inner, of_list, of_option, one}
+use Rattle.buffa_fields.specs.Schema.{Shape}
 use Rattle.buffa_fields.specs.OneOfParts.{OneOf, case_means}
 use Rattle.buffa_recursive.specs.MapTree.{keys_in, values_in}
 
@@ -25,21 +25,21 @@ module _ {W : Type 0} where
   has_case e o r = has (case_means e o) r
 
   -- a list of the message's own type
-  abbrev pub has_list : {B : Type 0} → List (Knot W) → Rest W B → Rest W B
+  abbrev pub has_list : {B : Type 0} → List (MessageTree W) → Rest W B → Rest W B
   has_list ts r = (r.0, many (of_list ts) r.1)
 
   -- one message of the message's own type, that may be there
-  abbrev pub has_one : {B : Type 0} → Option (Knot W) → Rest W B → Rest W B
+  abbrev pub has_one : {B : Type 0} → Option (MessageTree W) → Rest W B → Rest W B
   has_one o r = (r.0, one (of_option o) r.1)
 
   -- a map of the message's own type, whose keys mean this
-  abbrev pub has_map : {J K B : Type 0} → (J → K) → List (J × Knot W) → Rest W B → Rest W (List K × B)
+  abbrev pub has_map : {J K B : Type 0} → (J → K) → List (J × MessageTree W) → Rest W B → Rest W (List K × B)
   has_map f ps r = let qs = means f (λ m. m) ps in ((keys_in qs, r.0), many (values_in qs) r.1)
 
   -- the fields that are kept
-  abbrev pub has_kept : List (ℕ × Datum) → Rest W (List (ℕ × Datum))
-  has_kept rs = (rs, no_slot)
+  abbrev pub has_unknown_fields : List (ℕ × FieldData) → Rest W (List (ℕ × FieldData))
+  has_unknown_fields rs = (rs, no_inner)
 
   -- none are
   abbrev pub has_none : Rest W (Unit {0})
-  has_none = (tt, no_slot)
+  has_none = (tt, no_inner)

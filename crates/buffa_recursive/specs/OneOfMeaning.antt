@@ -5,7 +5,7 @@ use Rattle.buffa_bytes.specs.declared.error.DecodeError.{DecodeError}
 use Rattle.buffa_bytes.specs.declared.wire_type.WireType.{WireType}
 use Rattle.buffa_wire.specs.BudgetLeft.{BudgetLeft}
 use Rattle.buffa_fields.specs.Cases.{Cases}
-use Rattle.buffa_fields.specs.Layout.{more}
+use Rattle.buffa_fields.specs.Schema.{more}
 use Rattle.buffa_fields.specs.OneOfParts.{OneOf, case_means}
 
 module _ {O X : Type 0} (e : OneOf O X) where
@@ -13,14 +13,14 @@ module _ {O X : Type 0} (e : OneOf O X) where
   cases = e.all.cases
 
   -- its cases; the case of a number took a field where it took it of some values that mean this, before and after
-  abbrev pub meant_cases : Cases X X
-  meant_cases = record {
+  abbrev pub cases_by_meaning : Cases X X
+  cases_by_meaning = record {
     meaning = λ x. x;
     mine = cases.mine;
     sound = cases.sound;
     takes = cases.takes;
     asks = cases.asks;
-    need = cases.need;
+    charge = cases.charge;
     records = cases.records;
     slots = cases.slots;
     levels = cases.levels;
@@ -35,5 +35,5 @@ module _ {O X : Type 0} (e : OneOf O X) where
   }
 
   -- the case of the number took the field, of what the oneof meant, and of what it means then
-  abbrev pub TookMeant : ℕ → Option X → ℕ → WireType → List ℕ → BudgetLeft → Result (Unit {0}) DecodeError → Option X → BudgetLeft → List ℕ → Type 0
-  TookMeant d old n w bs before r new after rest = meant_cases.Took (λ x. option_map (λ y. y) x) d old n w bs before r new after rest
+  abbrev pub TookByMeaning : ℕ → Option X → ℕ → WireType → List ℕ → BudgetLeft → Result (Unit {0}) DecodeError → Option X → BudgetLeft → List ℕ → Type 0
+  TookByMeaning d old n w bs before r new after rest = cases_by_meaning.Took (λ x. option_map (λ y. y) x) d old n w bs before r new after rest

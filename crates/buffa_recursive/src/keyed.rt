@@ -2,7 +2,7 @@
 
 ghost use Rattle.buffa_recursive.specs.MapKeys.{Keys, keys_by};
 
-use buffa_fields::ordered_key::OrderedKey;
+use buffa_fields::members::ordered_key::OrderedKey;
 use buffa_map::map_codec::MapCodec;
 use buffa_wire::Blank;
 use std::marker::PhantomData;

@@ -4,20 +4,20 @@
 //! contracts cite of it is in `specs/` under the name `Terms`.
 //!
 //! ```ignore
-//! use buffa_recursive::{Laid, SelfFields, SelfListed, SelfListing, SelfMerger, SelfVisitor, take_list};
+//! use buffa_recursive::{RecursiveType, RecursiveFields, RecursiveFieldByField, RecursiveMeaning, InnerMerger, RecursiveVisitor, take_list};
 //! ```
 #![tactic(auto)]
 
-pub mod fields;
+pub mod inner_merger;
 pub mod keyed;
-pub mod layout;
-pub mod listing;
 pub mod maps;
 mod merge;
-pub mod merger;
 pub mod message;
 pub mod one_of;
 mod pairs;
+pub mod recursive_fields;
+pub mod recursive_meaning;
+pub mod recursive_type;
 pub mod required;
 pub mod required_meaning;
 mod sizer;
@@ -27,17 +27,17 @@ pub mod visitor;
 mod writer;
 mod writes;
 
-pub use crate::fields::SelfFields;
+pub use crate::inner_merger::InnerMerger;
 pub use crate::keyed::{ByKey, Keyed};
-pub use crate::layout::Laid;
-pub use crate::listing::{SelfListed, SelfListing};
 pub use crate::maps::take_map;
-pub use crate::merger::SelfMerger;
 pub use crate::one_of::take_one_of;
+pub use crate::recursive_fields::RecursiveFields;
+pub use crate::recursive_meaning::{RecursiveFieldByField, RecursiveMeaning};
+pub use crate::recursive_type::RecursiveType;
 pub use crate::required::{
     SelfAsked, SelfAsker, SelfRequired, list_initialized, map_initialized, one_initialized,
     tree_initialized,
 };
 pub use crate::required_meaning::{RequiredCases, RequiredMeaning, RequiredMember};
 pub use crate::takes::{take_list, take_one};
-pub use crate::visitor::SelfVisitor;
+pub use crate::visitor::RecursiveVisitor;

@@ -7,16 +7,16 @@ ghost use Rattle.buffa_wire.specs.Message.{MergesBytes};
 ghost use Rattle.buffa_wire.specs.Passes.{IsNext};
 ghost use Rattle.buffa_map.specs.Calls.{SizesMessages, WritesMessages};
 ghost use Rattle.buffa_map.specs.Pairs.{means};
-ghost use Rattle.buffa_fields.specs.Layout.{Follow, IsCounted, IsPut, Seen, Took, visited};
-ghost use Rattle.buffa_recursive.specs.RecursiveLayout.{map_shape};
-ghost use Rattle.buffa_recursive.specs.Fixpoint.{told};
+ghost use Rattle.buffa_fields.specs.Schema.{Follow, IsCounted, IsPut, Seen, Took, visited};
+ghost use Rattle.buffa_recursive.specs.RecursiveSchema.{map_shape};
+ghost use Rattle.buffa_recursive.specs.Fixpoint.{semantics};
 ghost use Rattle.buffa_recursive.specs.InnerMessages.{encoding_by};
 
+use crate::inner_merger::InnerMerger;
 use crate::keyed::{ByKey, Keyed};
-use crate::listing::SelfListing;
-use crate::merger::SelfMerger;
 use crate::pairs::{pairs_len_by, take_pair_by, write_pairs_by};
-use buffa_fields::ordered_key::OrderedKey;
+use crate::recursive_meaning::RecursiveMeaning;
+use buffa_fields::members::ordered_key::OrderedKey;
 use buffa_map::map_codec::MapCodec;
 use buffa_wire::{Budget, DecodeContext, DecodeError, EncodeError, EncodeSink, SizeCache, Tag};
 use std::alloc::Global;
@@ -24,7 +24,7 @@ use std::collections::BTreeMap;
 
 // Adds the length of a map of messages to a sum. Only memory can run out: an error that is named here, and not handed on, is
 // a constant, which costs a message that is sized nothing on its way out.
-pub(crate) fn map_counted<'a, KC: MapCodec, M: SelfListing + 'a, F>(
+pub(crate) fn map_counted<'a, KC: MapCodec, M: RecursiveMeaning + 'a, F>(
     total: u32,
     number: u32,
     map: &'a BTreeMap<KC::Value, M>,
@@ -36,14 +36,14 @@ where
     F: Fn(&M, &mut SizeCache) -> Result<u32, EncodeError>,
     requires number { IsNumber number }
     requires may { let ps = means KC.Value.meaning M.meaning map.now.entries in
-        (x : _) (c : _) → M.laying.height x.now ≤ M.laying.pairs_height (M.laying.of_pairs ps) → F.pre size x c }
+        (x : _) (c : _) → M.schema.height x.now ≤ M.schema.pairs_height (M.schema.of_pairs ps) → F.pre size x c }
     requires keeps { let ps = means KC.Value.meaning M.meaning map.now.entries in
-        let w = told M.Laid.COST M.laying M.sound in
-        SizesMessages (F.post size) (λ v. M.laying.height v ≤ M.laying.pairs_height (M.laying.of_pairs ps)) (λ m. m)
+        let w = semantics M.RecursiveType.COST M.schema M.sound in
+        SizesMessages (F.post size) (λ v. M.schema.height v ≤ M.schema.pairs_height (M.schema.of_pairs ps)) (λ m. m)
         (encoding_by w) w.slots }
-    ensures { let s = map_shape M.laying ⟦<ByKey<KC> as Keyed>⟧.keys (told M.Laid.COST M.laying M.sound) in
+    ensures { let s = map_shape M.schema ⟦<ByKey<KC> as Keyed>⟧.keys (semantics M.RecursiveType.COST M.schema M.sound) in
         (name : ℕ) (z : Seen) → IsCounted name (Ok total) cache.old z →
-        IsCounted name result cache.new (visited s number (M.laying.of_pairs (means KC.Value.meaning M.meaning map.now.entries)) z) }
+        IsCounted name result cache.new (visited s number (M.schema.of_pairs (means KC.Value.meaning M.meaning map.now.entries)) z) }
 {
     match pairs_len_by::<KC, M, F>(number, map, cache, size) {
         Ok(len) => Ok(total.saturating_add(len)),
@@ -52,7 +52,7 @@ where
 }
 
 // Writes a map of messages behind what was written. Here too the one error is named.
-pub(crate) fn map_put<'a, KC: MapCodec, M: SelfListing + 'a, S: EncodeSink, F>(
+pub(crate) fn map_put<'a, KC: MapCodec, M: RecursiveMeaning + 'a, S: EncodeSink, F>(
     number: u32,
     map: &'a BTreeMap<KC::Value, M>,
     cache: &mut SizeCache,
@@ -63,22 +63,22 @@ where
     KC::Value: OrderedKey + 'a,
     F: Fn(&M, &mut SizeCache, &mut S) -> Result<(), EncodeError>,
     requires number { IsNumber number }
-    requires next { let s = map_shape M.laying ⟦<ByKey<KC> as Keyed>⟧.keys (told M.Laid.COST M.laying M.sound) in
-        IsNext (s.slots (M.laying.of_pairs (means KC.Value.meaning M.meaning map.now.entries))) cache.old }
+    requires next { let s = map_shape M.schema ⟦<ByKey<KC> as Keyed>⟧.keys (semantics M.RecursiveType.COST M.schema M.sound) in
+        IsNext (s.slots (M.schema.of_pairs (means KC.Value.meaning M.meaning map.now.entries))) cache.old }
     requires may { let ps = means KC.Value.meaning M.meaning map.now.entries in
-        let w = told M.Laid.COST M.laying M.sound in
-        (x : _) (c : _) (s : _) → M.laying.height x.now ≤ M.laying.pairs_height (M.laying.of_pairs ps) →
+        let w = semantics M.RecursiveType.COST M.schema M.sound in
+        (x : _) (c : _) (s : _) → M.schema.height x.now ≤ M.schema.pairs_height (M.schema.of_pairs ps) →
         IsNext (w.slots x.now) c.now → F.pre write x c s }
     requires keeps { let ps = means KC.Value.meaning M.meaning map.now.entries in
-        let w = told M.Laid.COST M.laying M.sound in
-        WritesMessages (F.post write) (λ v. M.laying.height v ≤ M.laying.pairs_height (M.laying.of_pairs ps)) (λ m. m)
+        let w = semantics M.RecursiveType.COST M.schema M.sound in
+        WritesMessages (F.post write) (λ v. M.schema.height v ≤ M.schema.pairs_height (M.schema.of_pairs ps)) (λ m. m)
         (encoding_by w) w.slots S.written }
-    ensures seen { let s = map_shape M.laying ⟦<ByKey<KC> as Keyed>⟧.keys (told M.Laid.COST M.laying M.sound) in
+    ensures seen { let s = map_shape M.schema ⟦<ByKey<KC> as Keyed>⟧.keys (semantics M.RecursiveType.COST M.schema M.sound) in
         (name of : ℕ) (z : Seen) → IsPut name of (S.written sink.old) cache.old (Ok tt) z →
         IsPut name of (S.written sink.new) cache.new result
-        (visited s number (M.laying.of_pairs (means KC.Value.meaning M.meaning map.now.entries)) z) }
-    ensures waits { let s = map_shape M.laying ⟦<ByKey<KC> as Keyed>⟧.keys (told M.Laid.COST M.laying M.sound) in
-        (rest : List ℕ) → Follow (s.slots (M.laying.of_pairs (means KC.Value.meaning M.meaning map.now.entries)) ++ rest) (Ok tt) cache.old →
+        (visited s number (M.schema.of_pairs (means KC.Value.meaning M.meaning map.now.entries)) z) }
+    ensures waits { let s = map_shape M.schema ⟦<ByKey<KC> as Keyed>⟧.keys (semantics M.RecursiveType.COST M.schema M.sound) in
+        (rest : List ℕ) → Follow (s.slots (M.schema.of_pairs (means KC.Value.meaning M.meaning map.now.entries)) ++ rest) (Ok tt) cache.old →
         Follow rest result cache.new }
 {
     match write_pairs_by::<KC, M, S, F>(number, map, cache, sink, write) {
@@ -96,7 +96,7 @@ where
 /// ```ignore
 /// 5 => take_map::<Int32, Outline, I>(&mut self.by_number, alloc, tag, buf, ctx, inner),
 /// ```
-pub fn take_map<KC: MapCodec, M: SelfListing, I: SelfMerger<M>>(
+pub fn take_map<KC: MapCodec, M: RecursiveMeaning, I: InnerMerger<M>>(
     map: &mut BTreeMap<KC::Value, M>,
     alloc: Global,
     tag: Tag,
@@ -107,10 +107,10 @@ pub fn take_map<KC: MapCodec, M: SelfListing, I: SelfMerger<M>>(
 where
     KC::Value: OrderedKey,
     requires { (d : ℕ) → d + 1 ≡ ctx.depth → I.may inner.now d }
-    ensures { let s = map_shape M.laying ⟦<ByKey<KC> as Keyed>⟧.keys (told M.Laid.COST M.laying M.sound) in
-        Took s ctx.entry.depth (M.laying.of_pairs (means KC.Value.meaning M.meaning map.old.entries)) tag.number
+    ensures { let s = map_shape M.schema ⟦<ByKey<KC> as Keyed>⟧.keys (semantics M.RecursiveType.COST M.schema M.sound) in
+        Took s ctx.entry.depth (M.schema.of_pairs (means KC.Value.meaning M.meaning map.old.entries)) tag.number
         tag.wire_type buf.old.now ctx.entry.budget.now result
-        (M.laying.of_pairs (means KC.Value.meaning M.meaning map.new.entries)) (budget_left ctx.exit) buf.new.now }
+        (M.schema.of_pairs (means KC.Value.meaning M.meaning map.new.entries)) (budget_left ctx.exit) buf.new.now }
 {
     let DecodeContext { depth, budget } = ctx;
     take_pair_by::<KC, M, _>(
@@ -120,10 +120,10 @@ where
         buf,
         depth,
         budget,
-        |kid: &mut M, bytes: &[u8], depth: u32, budget: &mut Budget| -> Result<(), DecodeError>
+        |child: &mut M, bytes: &[u8], depth: u32, budget: &mut Budget| -> Result<(), DecodeError>
             requires { I.may inner.now depth }
-            ensures { let t = told M.Laid.COST M.laying M.sound in
-                MergesBytes t.merged t.cost depth kid.old bytes.now budget.old result kid.new budget.new }
-        { inner.merge(alloc, kid, bytes, depth, budget) },
+            ensures { let t = semantics M.RecursiveType.COST M.schema M.sound in
+                MergesBytes t.merged t.cost depth child.old bytes.now budget.old result child.new budget.new }
+        { inner.merge(alloc, child, bytes, depth, budget) },
     )
 }

@@ -1,15 +1,15 @@
 //! Merging messages that hold themselves.
 
 ghost use Rattle.std.specs.Prelude.{◌≡◌, ◌+◌, [], IfErr, IsOk, OnOk};
-ghost use Rattle.buffa_bytes.specs.Front.{FullOnlyIf};
-ghost use Rattle.buffa_wire.specs.Message.{BeginsField, MergesBytes, Stands};
+ghost use Rattle.buffa_bytes.specs.Readings.{FullOnlyIf};
+ghost use Rattle.buffa_wire.specs.Message.{BeginsField, MergesBytes, PartlyMerged};
 ghost use Rattle.buffa_map.specs.Calls.{MergesMessages};
 ghost use Rattle.buffa_recursive.specs.RefusedFields.{IsSelfRefused};
-ghost use Rattle.buffa_recursive.specs.Fixpoint.{told, told_layout};
+ghost use Rattle.buffa_recursive.specs.Fixpoint.{semantics, message_schema};
 
-use crate::fields::SelfFields;
-use crate::listing::SelfListing;
-use crate::merger::SelfMerger;
+use crate::inner_merger::InnerMerger;
+use crate::recursive_fields::RecursiveFields;
+use crate::recursive_meaning::RecursiveMeaning;
 use buffa_wire::{Blank, Budget, Buf, DecodeContext, DecodeError, Tag};
 use std::alloc::Global;
 
@@ -19,10 +19,11 @@ struct MergerBy<F> {
     merge: F,
 }
 
-impl<M: SelfListing, F: Fn(&mut M, &[u8], u32, &mut Budget) -> Result<(), DecodeError>> SelfMerger<
-    M,
-> for MergerBy<F> {
-    ghost may = { λ s d. let t = told M.COST M.laying M.sound in
+impl<
+    M: RecursiveMeaning,
+    F: Fn(&mut M, &[u8], u32, &mut Budget) -> Result<(), DecodeError>,
+> InnerMerger<M> for MergerBy<F> {
+    ghost may = { λ s d. let t = semantics M.COST M.schema M.sound in
         ((x : _) (b : _) (w : _) → F.pre s.merge x b d w)
         × ((x : _) (b : _) (w : _) (r : _) (y : _) (v : _) → F.post s.merge x b d w r y v →
         MergesBytes t.merged t.cost d x.now b.now w.now r y.now v.now × (b.now ≡ [] → IsOk r)) };
@@ -45,7 +46,7 @@ impl<M: SelfListing, F: Fn(&mut M, &[u8], u32, &mut Budget) -> Result<(), Decode
 
 // Merges the field whose tag was read, by a function that merges the bytes of a message inside.
 pub(crate) fn take_by<
-    M: SelfFields,
+    M: RecursiveFields,
     F: Fn(&mut M, &[u8], u32, &mut Budget) -> Result<(), DecodeError>,
 >(
     message: &mut M,
@@ -57,12 +58,12 @@ pub(crate) fn take_by<
     merge: F,
 ) -> Result<(), DecodeError>
     requires may { (x : _) (b : _) (d : _) (w : _) → d + 1 ≡ depth → F.pre merge x b d w }
-    requires keeps { let t = told M.COST M.laying M.sound in MergesMessages (F.post merge) (λ m. m) t.merged t.cost depth }
+    requires keeps { let t = semantics M.COST M.schema M.sound in MergesMessages (F.post merge) (λ m. m) t.merged t.cost depth }
     requires free { (x : _) (b : _) (d : _) (w : _) (r : _) (y : _) (v : _) → d + 1 ≡ depth → F.post merge x b d w r y v →
         b.now ≡ [] → IsOk r }
-    ensures taken { (told_layout M.COST M.laying M.sound).Taken depth message.old tag.number tag.wire_type buf.old.now
+    ensures taken { (message_schema M.COST M.schema M.sound).Taken depth message.old tag.number tag.wire_type buf.old.now
         budget.old result message.new budget.new buf.new.now }
-    ensures whole { OnOk result (M.laying.into (M.laying.out message.new) ≡ message.new) }
+    ensures whole { OnOk result (M.schema.into (M.schema.out message.new) ≡ message.new) }
 {
     let lent = DecodeContext {
         depth,
@@ -72,17 +73,17 @@ pub(crate) fn take_by<
 }
 
 // Merges all the fields that the bytes are into a message: one that is inside another, or the outermost one.
-pub(crate) fn merge_self<M: SelfFields>(
+pub(crate) fn merge_self<M: RecursiveFields>(
     alloc: Global,
     message: &mut M,
     bytes: &[u8],
     depth: u32,
     budget: &mut Budget,
 ) -> Result<(), DecodeError>
-    ensures merged { let t = told M.COST M.laying M.sound in
+    ensures merged { let t = semantics M.COST M.schema M.sound in
         MergesBytes t.merged t.cost depth message.old bytes.now budget.old result message.new budget.new }
-    ensures stands { let t = told M.COST M.laying M.sound in
-        IfErr result (λ e. Stands t.merged t.cost (IsSelfRefused M.COST M.laying M.sound) depth message.old bytes.now
+    ensures partly { let t = semantics M.COST M.schema M.sound in
+        IfErr result (λ e. PartlyMerged t.merged t.cost (IsSelfRefused M.COST M.schema M.sound) depth message.old bytes.now
         budget.old e message.new) }
     ensures full { FullOnlyIf result (BeginsField bytes.now) }
     ensures free { bytes.now ≡ [] → IsOk result }
@@ -97,11 +98,14 @@ pub(crate) fn merge_self<M: SelfFields>(
             &mut rest,
             depth,
             budget,
-            |kid: &mut M, bytes: &[u8], depth: u32, budget: &mut Budget| -> Result<(), DecodeError>
-                ensures merged { let t = told M.COST M.laying M.sound in
-                    MergesBytes t.merged t.cost depth kid.old bytes.now budget.old result kid.new budget.new }
+            |child: &mut M, bytes: &[u8], depth: u32, budget: &mut Budget| -> Result<
+                (),
+                DecodeError,
+            >
+                ensures merged { let t = semantics M.COST M.schema M.sound in
+                    MergesBytes t.merged t.cost depth child.old bytes.now budget.old result child.new budget.new }
                 ensures free { bytes.now ≡ [] → IsOk result }
-            { merge_self(alloc, kid, bytes, depth, budget) },
+            { merge_self(alloc, child, bytes, depth, budget) },
         )?;
     }
     Ok(())

@@ -4,14 +4,14 @@ ghost use Rattle.std.specs.Prelude.{◌≡◌, ◌++◌, [], IsOk, List, Ok, ℕ
 ghost use Rattle.buffa_wire.specs.BudgetLeft.{budget_left};
 ghost use Rattle.buffa_wire.specs.Encoding.{records_encoding};
 ghost use Rattle.buffa_wire.specs.Passes.{IsNext, IsSized, IsWritten};
-ghost use Rattle.buffa_fields.specs.Layout.{Comes, Follow, IsCounted, IsPut, Seen, more};
-ghost use Rattle.buffa_recursive.specs.OneOfMeaning.{TookMeant};
+ghost use Rattle.buffa_fields.specs.Schema.{Comes, Follow, IsCounted, IsPut, Seen, more};
+ghost use Rattle.buffa_recursive.specs.OneOfMeaning.{TookByMeaning};
 ghost use Rattle.buffa_fields.specs.OneOfParts.{case_means, case_records, case_slots};
 
-use buffa_fields::one_of::{OneOf, visit_one_of};
-use buffa_fields::sizer::Sizer;
-use buffa_fields::visitor::Visitor;
-use buffa_fields::writer::Writer;
+use buffa_fields::oneofs::one_of::{OneOf, visit_one_of};
+use buffa_fields::passes::sizer::Sizer;
+use buffa_fields::passes::visitor::Visitor;
+use buffa_fields::passes::writer::Writer;
 use buffa_wire::{DecodeContext, DecodeError, EncodeError, EncodeSink, SizeCache, Tag};
 use std::alloc::Global;
 
@@ -32,7 +32,7 @@ pub fn take_one_of<E: OneOf>(
     buf: &mut &[u8],
     ctx: DecodeContext<'_>,
 ) -> Result<(), DecodeError>
-    ensures { TookMeant E.cases ctx.entry.depth (case_means E.cases slot.old) tag.number tag.wire_type buf.old.now
+    ensures { TookByMeaning E.cases ctx.entry.depth (case_means E.cases slot.old) tag.number tag.wire_type buf.old.now
         ctx.entry.budget.now result (case_means E.cases slot.new) (budget_left ctx.exit) buf.new.now }
 {
     E::take(slot, alloc, tag, buf, ctx)
@@ -62,7 +62,7 @@ fn case_len<E: OneOf>(part: &Option<E>, cache: &mut SizeCache) -> Result<u32, En
 }
 
 // Adds the length of the case that is there, if one is, to a sum.
-#[tactic(auto, using(buffa_fields::specs::facts::LayoutFacts::is_counted, buffa_fields::specs::facts::LayoutFacts::counted_err, buffa_fields::specs::facts::LayoutFacts::counted_none))]
+#[tactic(auto, using(buffa_fields::specs::facts::SchemaFacts::is_counted, buffa_fields::specs::facts::SchemaFacts::counted_err, buffa_fields::specs::facts::SchemaFacts::counted_none))]
 pub(crate) fn case_counted<E: OneOf>(
     total: Result<u32, EncodeError>,
     part: &Option<E>,
@@ -106,7 +106,7 @@ fn write_case<E: OneOf, S: EncodeSink>(
 }
 
 // Writes it behind what was written, until memory runs out.
-#[tactic(auto, using(buffa_fields::specs::facts::LayoutFacts::is_put, buffa_fields::specs::facts::LayoutFacts::put_none, buffa_fields::specs::facts::LayoutFacts::follow_first, buffa_fields::specs::facts::LayoutFacts::follow_rest, buffa_fields::specs::facts::LayoutFacts::follow_none))]
+#[tactic(auto, using(buffa_fields::specs::facts::SchemaFacts::is_put, buffa_fields::specs::facts::SchemaFacts::put_none, buffa_fields::specs::facts::SchemaFacts::follow_first, buffa_fields::specs::facts::SchemaFacts::follow_rest, buffa_fields::specs::facts::SchemaFacts::follow_none))]
 pub(crate) fn case_put<E: OneOf, S: EncodeSink>(
     written: Result<(), EncodeError>,
     part: &Option<E>,

@@ -7,7 +7,7 @@ ghost use Rattle.std.specs.Prelude.{◌≡◌, ◌≢◌, ◌+◌, [], OnErr};
 ghost use Rattle.std.specs.BTreeMap.{insert_entry};
 ghost use Rattle.std.specs.List.{Contains};
 ghost use Rattle.std.specs.Map.{values_of};
-ghost use Rattle.buffa_bytes.specs.Front.{FullOnlyIf};
+ghost use Rattle.buffa_bytes.specs.Readings.{FullOnlyIf};
 ghost use Rattle.buffa_bytes.specs.Number.{IsNumber};
 ghost use Rattle.buffa_bytes.specs.declared.wire_type.WireType.TheVariants.{LengthDelimited};
 ghost use Rattle.buffa_wire.specs.Passes.{IsNext};
@@ -18,10 +18,10 @@ ghost use Rattle.buffa_map.specs.Pairs.{means};
 ghost use Rattle.buffa_fields.specs.Calls.{ChecksWire};
 ghost use Rattle.buffa_fields.specs.MapFields.{PairTakesMemory, pair_cost, pair_taken};
 ghost use Rattle.buffa_fields.specs.MemberCalls.{SizesPairs, WritesPairs};
-ghost use Rattle.buffa_fields.specs.NestedMaps.{pair_slots};
+ghost use Rattle.buffa_fields.specs.MapsOfMessages.{pair_slots};
 ghost use Rattle.buffa_fields.specs.Refusals.{RefusesPairIn};
 
-use buffa_fields::ordered_key::OrderedKey;
+use buffa_fields::members::ordered_key::OrderedKey;
 use buffa_map::map_codec::{
     MapCodec, merge_message_entry_by, message_field_len_by, write_message_field_by,
 };
@@ -61,7 +61,7 @@ where
 }
 
 // Writes a map field of messages, whose slots are next, by a function that writes a message.
-#[tactic(auto, unfolding(buffa_fields::specs::NestedMaps::pair_slots))]
+#[tactic(auto, unfolding(buffa_fields::specs::MapsOfMessages::pair_slots))]
 pub(crate) fn write_pairs_by<'a, KC: MapCodec, M: MessageSpec + 'a, S: EncodeSink, F>(
     number: u32,
     map: &'a BTreeMap<KC::Value, M>,

@@ -4,7 +4,7 @@ ghost use Rattle.std.specs.Prelude.{◌≡◌, ◌<◌, ℕ};
 ghost use Rattle.std.specs.Option.{option_map};
 ghost use Rattle.buffa_map.specs.Pairs.{means};
 ghost use Rattle.buffa_recursive.specs.Asking.{AskingOf};
-ghost use Rattle.buffa_recursive.specs.RecursiveLayout.{Laying};
+ghost use Rattle.buffa_recursive.specs.RecursiveSchema.{RecursiveSchema};
 
 use buffa_wire::Blank;
 use std::collections::BTreeMap;
@@ -15,8 +15,8 @@ use std::collections::BTreeMap;
 /// impl SelfAsked for Task { .. }
 /// ```
 pub trait SelfAsked {
-    /// The message, as `Laid` has it.
-    ghost tree: { Laying Self };
+    /// The message, as `RecursiveType` has it.
+    ghost tree: { RecursiveSchema Self };
 
     /// What is asked of a message with those of its type in it, and of those in a member.
     ghost asking: { AskingOf tree };
@@ -142,8 +142,8 @@ pub fn tree_initialized<M: SelfRequired>(message: &M) -> bool
 {
     initialized_by(
         message,
-        |kid: &M| -> bool
-            ensures { result ≡ M.asking.whole kid.now }
-        { tree_initialized(kid) },
+        |child: &M| -> bool
+            ensures { result ≡ M.asking.whole child.now }
+        { tree_initialized(child) },
     )
 }

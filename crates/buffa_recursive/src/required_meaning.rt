@@ -5,14 +5,14 @@ ghost use Rattle.std.specs.List.{list_all};
 ghost use Rattle.buffa_fields.specs.OneOfParts.{case_means};
 ghost use Rattle.buffa_recursive.specs.Initialized.{true_if_there};
 
-use buffa_fields::framing::Framing;
-use buffa_fields::map_nested::MapOfNested;
-use buffa_fields::member::Member;
-use buffa_fields::message_in::MessageIn;
-use buffa_fields::messages_in::MessagesIn;
-use buffa_fields::one_of::OneOf;
-use buffa_fields::ordered_key::OrderedKey;
-use buffa_fields::ordered_nested::OrderedMapOfNested;
+use buffa_fields::members::framing::Framing;
+use buffa_fields::members::member::Member;
+use buffa_fields::members::message_in::MessageIn;
+use buffa_fields::members::message_map_field::MessageMapField;
+use buffa_fields::members::messages_in::MessagesIn;
+use buffa_fields::members::ordered_key::OrderedKey;
+use buffa_fields::members::ordered_message_map_field::OrderedMessageMapField;
+use buffa_fields::oneofs::one_of::OneOf;
 use buffa_map::map_codec::{Map, MapCodec};
 use buffa_wire::{Blank, MapKey, Message};
 use std::collections::BTreeMap;
@@ -26,7 +26,7 @@ use std::hash::Hash;
 /// ```
 pub trait RequiredMeaning: Blank {
     /// Whether all that is required is there, by what the message means.
-    ghost meant: { Self.Meaning → Bool };
+    ghost by_meaning: { Self.Meaning → Bool };
 
     /// Whether all that is required is there.
     ///
@@ -34,25 +34,25 @@ pub trait RequiredMeaning: Blank {
     /// self.name.is_some()
     /// ```
     fn meaning_initialized(&self) -> bool
-        ensures { result ≡ meant (Self.meaning self.now) };
+        ensures { result ≡ by_meaning (Self.meaning self.now) };
 }
 
 /// A member type whose messages are looked into.
 pub trait RequiredMember: Member {
     /// Whether all that is required is there, by what the member means.
-    ghost meant: { Self.Meaning → Bool };
+    ghost by_meaning: { Self.Meaning → Bool };
 
     /// Whether all that is required is there.
     ///
     /// ```ignore
-    /// RepeatedNested::<Person>::part_initialized(&self.people)
+    /// RepeatedMessageField::<Person>::part_initialized(&self.people)
     /// ```
     fn part_initialized(part: &Self::Part) -> bool
-        ensures { result ≡ meant (Self.shape.meaning part.now) };
+        ensures { result ≡ by_meaning (Self.shape.meaning part.now) };
 }
 
 impl<F: Framing, N: Message + RequiredMeaning> RequiredMember for MessageIn<F, N> {
-    ghost meant = { true_if_there N.meant };
+    ghost by_meaning = { true_if_there N.by_meaning };
 
     fn part_initialized(part: &Option<N>) -> bool {
         match part {
@@ -64,13 +64,13 @@ impl<F: Framing, N: Message + RequiredMeaning> RequiredMember for MessageIn<F, N
 
 // Whether all that is required is there, in each message of a list.
 fn each_initialized<N: RequiredMeaning>(list: &Vec<N>) -> bool
-    ensures { result ≡ list_all (λ m. N.meant (N.meaning m)) list.now.items }
+    ensures { result ≡ list_all (λ m. N.by_meaning (N.meaning m)) list.now.items }
 {
     list.iter().all(|message| message.meaning_initialized())
 }
 
 impl<F: Framing, N: Message + RequiredMeaning> RequiredMember for MessagesIn<F, N> {
-    ghost meant = { list_all N.meant };
+    ghost by_meaning = { list_all N.by_meaning };
 
     fn part_initialized(part: &Vec<N>) -> bool {
         each_initialized(part)
@@ -79,16 +79,16 @@ impl<F: Framing, N: Message + RequiredMeaning> RequiredMember for MessagesIn<F, 
 
 // Whether all that is required is there, in each message of a map.
 fn values_initialized<K: Hash + Eq, N: RequiredMeaning>(map: &Map<K, N>) -> bool
-    ensures { result ≡ list_all (λ p. N.meant (N.meaning p.1)) map.now.entries }
+    ensures { result ≡ list_all (λ p. N.by_meaning (N.meaning p.1)) map.now.entries }
 {
     map.iter().all(|(_, message)| message.meaning_initialized())
 }
 
-impl<KC: MapCodec, N: Message + RequiredMeaning> RequiredMember for MapOfNested<KC, N>
+impl<KC: MapCodec, N: Message + RequiredMeaning> RequiredMember for MessageMapField<KC, N>
 where
     KC::Value: MapKey + Hash,
 {
-    ghost meant = { list_all (λ p. N.meant p.1) };
+    ghost by_meaning = { list_all (λ p. N.by_meaning p.1) };
 
     fn part_initialized(part: &Map<KC::Value, N>) -> bool {
         values_initialized(part)
@@ -97,16 +97,16 @@ where
 
 // Whether all that is required is there, in each message of a map in the order of its keys.
 fn ordered_initialized<K: Ord, N: RequiredMeaning>(map: &BTreeMap<K, N>) -> bool
-    ensures { result ≡ list_all (λ p. N.meant (N.meaning p.1)) map.now.entries }
+    ensures { result ≡ list_all (λ p. N.by_meaning (N.meaning p.1)) map.now.entries }
 {
     map.iter().all(|(_, message)| message.meaning_initialized())
 }
 
-impl<KC: MapCodec, N: Message + RequiredMeaning> RequiredMember for OrderedMapOfNested<KC, N>
+impl<KC: MapCodec, N: Message + RequiredMeaning> RequiredMember for OrderedMessageMapField<KC, N>
 where
     KC::Value: OrderedKey,
 {
-    ghost meant = { list_all (λ p. N.meant p.1) };
+    ghost by_meaning = { list_all (λ p. N.by_meaning p.1) };
 
     fn part_initialized(part: &BTreeMap<KC::Value, N>) -> bool {
         ordered_initialized(part)
@@ -120,7 +120,7 @@ where
 /// ```
 pub trait RequiredCases: OneOf {
     /// Whether all that is required is there, by what a case means.
-    ghost meant: { Self.Meaning → Bool };
+    ghost by_meaning: { Self.Meaning → Bool };
 
     /// Whether all that is required is there, in the case that is there, if one is.
     ///
@@ -128,5 +128,5 @@ pub trait RequiredCases: OneOf {
     /// TaskAt::case_initialized(&self.at)
     /// ```
     fn case_initialized(part: &Option<Self>) -> bool
-        ensures { result ≡ true_if_there meant (case_means Self.cases part.now) };
+        ensures { result ≡ true_if_there by_meaning (case_means Self.cases part.now) };
 }

@@ -6,29 +6,29 @@ ghost use Rattle.buffa_bytes.specs.Number.{IsNumber};
 ghost use Rattle.buffa_wire.specs.Encoding.{records_encoding};
 ghost use Rattle.buffa_wire.specs.Passes.{IsSized, cap};
 ghost use Rattle.buffa_map.specs.Calls.{SizesMessages};
-ghost use Rattle.buffa_fields.specs.Layout.{IsCounted, Seen, visited};
-ghost use Rattle.buffa_fields.specs.facts.LayoutFacts.{comes_free};
-ghost use Rattle.buffa_recursive.specs.RecursiveLayout.{children_shape, maybe_shape};
-ghost use Rattle.buffa_recursive.specs.Fixpoint.{told};
+ghost use Rattle.buffa_fields.specs.Schema.{IsCounted, Seen, visited};
+ghost use Rattle.buffa_fields.specs.facts.SchemaFacts.{comes_free};
+ghost use Rattle.buffa_recursive.specs.RecursiveSchema.{children_shape, maybe_shape};
+ghost use Rattle.buffa_recursive.specs.Fixpoint.{semantics};
 ghost use Rattle.buffa_recursive.specs.InnerMessages.{encoding_by};
 
-use crate::fields::SelfFields;
-use crate::layout::Laid;
-use crate::listing::SelfListing;
 use crate::maps::map_counted;
 use crate::one_of::case_counted;
+use crate::recursive_fields::RecursiveFields;
+use crate::recursive_meaning::RecursiveMeaning;
+use crate::recursive_type::RecursiveType;
 use crate::sizes::{list_len, one_len};
-use crate::visitor::SelfVisitor;
-use buffa_fields::member::Member;
-use buffa_fields::one_of::OneOf;
-use buffa_fields::ordered_key::OrderedKey;
-use buffa_fields::sizer::{kept_counted, member_counted};
+use crate::visitor::RecursiveVisitor;
+use buffa_fields::members::member::Member;
+use buffa_fields::members::ordered_key::OrderedKey;
+use buffa_fields::oneofs::one_of::OneOf;
+use buffa_fields::passes::sizer::{kept_counted, member_counted};
 use buffa_map::map_codec::MapCodec;
 use buffa_wire::{EncodeError, SizeCache, UnknownFields};
 use std::collections::BTreeMap;
 
 // Adds the length of a list of messages to a sum.
-fn list_counted<M: Laid, F: Fn(&M, &mut SizeCache) -> Result<u32, EncodeError>>(
+fn list_counted<M: RecursiveType, F: Fn(&M, &mut SizeCache) -> Result<u32, EncodeError>>(
     total: u32,
     number: u32,
     list: &Vec<M>,
@@ -36,21 +36,21 @@ fn list_counted<M: Laid, F: Fn(&M, &mut SizeCache) -> Result<u32, EncodeError>>(
     size: F,
 ) -> Result<u32, EncodeError>
     requires number { IsNumber number }
-    requires may { (x : _) (c : _) → M.laying.height x.now ≤ M.laying.children_height (M.laying.of_list list.now.items) →
+    requires may { (x : _) (c : _) → M.schema.height x.now ≤ M.schema.children_height (M.schema.of_list list.now.items) →
         F.pre size x c }
-    requires keeps { let w = told M.COST M.laying M.sound in
-        SizesMessages (F.post size) (λ v. M.laying.height v ≤ M.laying.children_height (M.laying.of_list list.now.items))
+    requires keeps { let w = semantics M.COST M.schema M.sound in
+        SizesMessages (F.post size) (λ v. M.schema.height v ≤ M.schema.children_height (M.schema.of_list list.now.items))
         (λ m. m) (encoding_by w) w.slots }
-    ensures { let s = children_shape M.laying (told M.COST M.laying M.sound) in
+    ensures { let s = children_shape M.schema (semantics M.COST M.schema M.sound) in
         (name : ℕ) (z : Seen) → IsCounted name (Ok total) cache.old z →
-        IsCounted name result cache.new (visited s number (M.laying.of_list list.now.items) z) }
+        IsCounted name result cache.new (visited s number (M.schema.of_list list.now.items) z) }
 {
     let len = list_len(number, list.as_slice(), cache, size)?;
     Ok(total.saturating_add(len))
 }
 
 // Adds the length of a message, if it is there, to a sum.
-fn one_counted<M: Laid, F: Fn(&M, &mut SizeCache) -> Result<u32, EncodeError>>(
+fn one_counted<M: RecursiveType, F: Fn(&M, &mut SizeCache) -> Result<u32, EncodeError>>(
     total: u32,
     number: u32,
     one: &Option<Box<M>>,
@@ -59,15 +59,15 @@ fn one_counted<M: Laid, F: Fn(&M, &mut SizeCache) -> Result<u32, EncodeError>>(
 ) -> Result<u32, EncodeError>
     requires number { IsNumber number }
     requires may { (x : _) (c : _) →
-        M.laying.height x.now ≤ M.laying.maybe_height (M.laying.of_option (option_map (λ b. b.value) one.now)) →
+        M.schema.height x.now ≤ M.schema.maybe_height (M.schema.of_option (option_map (λ b. b.value) one.now)) →
         F.pre size x c }
-    requires keeps { let w = told M.COST M.laying M.sound in
+    requires keeps { let w = semantics M.COST M.schema M.sound in
         SizesMessages (F.post size)
-        (λ v. M.laying.height v ≤ M.laying.maybe_height (M.laying.of_option (option_map (λ b. b.value) one.now))) (λ m. m)
+        (λ v. M.schema.height v ≤ M.schema.maybe_height (M.schema.of_option (option_map (λ b. b.value) one.now))) (λ m. m)
         (encoding_by w) w.slots }
-    ensures { let s = maybe_shape M.laying (told M.COST M.laying M.sound) in
+    ensures { let s = maybe_shape M.schema (semantics M.COST M.schema M.sound) in
         (name : ℕ) (z : Seen) → IsCounted name (Ok total) cache.old z →
-        IsCounted name result cache.new (visited s number (M.laying.of_option (option_map (λ b. b.value) one.now)) z) }
+        IsCounted name result cache.new (visited s number (M.schema.of_option (option_map (λ b. b.value) one.now)) z) }
 {
     let len = one_len(number, one, cache, size)?;
     Ok(total.saturating_add(len))
@@ -115,7 +115,7 @@ impl<F: Drop> SizerBy<'_, F> {
     }
 }
 
-impl<M: SelfListing, F: Fn(&M, &mut SizeCache) -> Result<u32, EncodeError>> SelfVisitor<M>
+impl<M: RecursiveMeaning, F: Fn(&M, &mut SizeCache) -> Result<u32, EncodeError>> RecursiveVisitor<M>
     for SizerBy<'_, F> {
     ghost IsAt = { λ z s. IsCounted s.cache.ghost_name s.total s.cache.now z };
 
@@ -123,9 +123,9 @@ impl<M: SelfListing, F: Fn(&M, &mut SizeCache) -> Result<u32, EncodeError>> Self
 
     ghost begins = { λ ss rest s h. comes_free ss s };
 
-    ghost Reaches = { λ h s. let w = told M.Laid.COST M.laying M.sound in
-        ((x : _) (c : _) → M.laying.height x.now < h → F.pre s.size x c)
-        × SizesMessages (F.post s.size) (λ v. M.laying.height v < h) (λ m. m) (encoding_by w) w.slots };
+    ghost Reaches = { λ h s. let w = semantics M.RecursiveType.COST M.schema M.sound in
+        ((x : _) (c : _) → M.schema.height x.now < h → F.pre s.size x c)
+        × SizesMessages (F.post s.size) (λ v. M.schema.height v < h) (λ m. m) (encoding_by w) w.slots };
 
     #[inline(always)]
     fn visit<N: Member>(&mut self, number: u32, part: &N::Part) {
@@ -163,42 +163,42 @@ impl<M: SelfListing, F: Fn(&M, &mut SizeCache) -> Result<u32, EncodeError>> Self
     }
 
     #[inline(always)]
-    fn visit_kept(&mut self, fields: &UnknownFields) {
+    fn visit_unknown_fields(&mut self, fields: &UnknownFields) {
         self.total = kept_counted(self.total, fields);
     }
 }
 
 // Sizes all members.
 #[inline(always)]
-fn size_members<M: SelfFields, F: Fn(&M, &mut SizeCache) -> Result<u32, EncodeError>>(
+fn size_members<M: RecursiveFields, F: Fn(&M, &mut SizeCache) -> Result<u32, EncodeError>>(
     message: &M,
     sizer: &mut SizerBy<'_, F>,
 )
     requires none { sizer.old.total ≡ Ok 0 }
-    requires may { (x : _) (c : _) → M.laying.height x.now < M.laying.height message.now → F.pre sizer.old.size x c }
-    requires keeps { let w = told M.COST M.laying M.sound in
-        SizesMessages (F.post sizer.old.size) (λ v. M.laying.height v < M.laying.height message.now) (λ m. m)
+    requires may { (x : _) (c : _) → M.schema.height x.now < M.schema.height message.now → F.pre sizer.old.size x c }
+    requires keeps { let w = semantics M.COST M.schema M.sound in
+        SizesMessages (F.post sizer.old.size) (λ v. M.schema.height v < M.schema.height message.now) (λ m. m)
         (encoding_by w) w.slots }
     ensures same_reference { sizer.new.cache.ghost_name ≡ sizer.old.cache.ghost_name }
-    ensures sized { let w = told M.COST M.laying M.sound in
+    ensures sized { let w = semantics M.COST M.schema M.sound in
         IsSized (encoding_by w message.now) (w.slots message.now) sizer.old.cache.now sizer.new.total sizer.new.cache.now }
-    ensures always { (told M.COST M.laying M.sound).slots message.now ≡ [] → IsOk sizer.new.total }
+    ensures always { (semantics M.COST M.schema M.sound).slots message.now ≡ [] → IsOk sizer.new.total }
 {
     message.visit(sizer);
 }
 
 // The size pass of a message, by a function that sizes a message inside.
-fn size_by<M: SelfFields, F: Fn(&M, &mut SizeCache) -> Result<u32, EncodeError>>(
+fn size_by<M: RecursiveFields, F: Fn(&M, &mut SizeCache) -> Result<u32, EncodeError>>(
     message: &M,
     cache: &mut SizeCache,
     size: F,
 ) -> Result<u32, EncodeError>
-    requires may { (x : _) (c : _) → M.laying.height x.now < M.laying.height message.now → F.pre size x c }
-    requires keeps { let w = told M.COST M.laying M.sound in
-        SizesMessages (F.post size) (λ v. M.laying.height v < M.laying.height message.now) (λ m. m) (encoding_by w) w.slots }
-    ensures sized { let w = told M.COST M.laying M.sound in
+    requires may { (x : _) (c : _) → M.schema.height x.now < M.schema.height message.now → F.pre size x c }
+    requires keeps { let w = semantics M.COST M.schema M.sound in
+        SizesMessages (F.post size) (λ v. M.schema.height v < M.schema.height message.now) (λ m. m) (encoding_by w) w.slots }
+    ensures sized { let w = semantics M.COST M.schema M.sound in
         IsSized (encoding_by w message.now) (w.slots message.now) cache.old result cache.new }
-    ensures always { (told M.COST M.laying M.sound).slots message.now ≡ [] → IsOk result }
+    ensures always { (semantics M.COST M.schema M.sound).slots message.now ≡ [] → IsOk result }
 {
     let mut sizer = SizerBy::new(cache, size);
     size_members(message, &mut sizer);
@@ -206,20 +206,20 @@ fn size_by<M: SelfFields, F: Fn(&M, &mut SizeCache) -> Result<u32, EncodeError>>
 }
 
 // The size pass of a message: one that is inside another, or the outermost one.
-pub(crate) fn size_self<M: SelfFields>(
+pub(crate) fn size_self<M: RecursiveFields>(
     message: &M,
     cache: &mut SizeCache,
 ) -> Result<u32, EncodeError>
-    ensures sized { let w = told M.COST M.laying M.sound in
+    ensures sized { let w = semantics M.COST M.schema M.sound in
         IsSized (encoding_by w message.now) (w.slots message.now) cache.old result cache.new }
-    ensures always { (told M.COST M.laying M.sound).slots message.now ≡ [] → IsOk result }
+    ensures always { (semantics M.COST M.schema M.sound).slots message.now ≡ [] → IsOk result }
 {
     size_by(
         message,
         cache,
-        |kid: &M, cache: &mut SizeCache| -> Result<u32, EncodeError>
-            ensures { let w = told M.COST M.laying M.sound in
-                IsSized (encoding_by w kid.now) (w.slots kid.now) cache.old result cache.new }
-        { size_self(kid, cache) },
+        |child: &M, cache: &mut SizeCache| -> Result<u32, EncodeError>
+            ensures { let w = semantics M.COST M.schema M.sound in
+                IsSized (encoding_by w child.now) (w.slots child.now) cache.old result cache.new }
+        { size_self(child, cache) },
     )
 }

@@ -3,27 +3,27 @@
 ghost use Rattle.std.specs.Prelude.{◌≡◌, ◌++◌, ◌<◌, [], ℕ, List};
 ghost use Rattle.std.specs.Option.{option_map};
 ghost use Rattle.buffa_bytes.specs.Number.{IsNumber};
-ghost use Rattle.buffa_fields.specs.Aside.{ReadsBackBeside};
-ghost use Rattle.buffa_fields.specs.Layout.{Comes, ReadsBackTo, Seen, more, visited};
+ghost use Rattle.buffa_fields.specs.Unknowns.{ReadsBackWithUnknowns};
+ghost use Rattle.buffa_fields.specs.Schema.{Comes, ReadsBackTo, Seen, more, visited};
 ghost use Rattle.buffa_map.specs.Pairs.{means};
 ghost use Rattle.buffa_recursive.specs.MapKeys.{KeysReadBack};
-ghost use Rattle.buffa_recursive.specs.RecursiveLayout.{children_shape, map_shape, maybe_shape};
+ghost use Rattle.buffa_recursive.specs.RecursiveSchema.{children_shape, map_shape, maybe_shape};
 ghost use Rattle.buffa_fields.specs.OneOfParts.{case_means, case_seen, case_slots};
-ghost use Rattle.buffa_recursive.specs.PartsByMeaning.{meant_enum};
-ghost use Rattle.buffa_recursive.specs.Fixpoint.{told};
+ghost use Rattle.buffa_recursive.specs.PartsByMeaning.{enum_by_meaning};
+ghost use Rattle.buffa_recursive.specs.Fixpoint.{semantics};
 
 use crate::keyed::{ByKey, Keyed};
-use crate::listing::SelfListing;
-use buffa_fields::keeping::Keeping;
-use buffa_fields::member::Member;
-use buffa_fields::one_of::OneOf;
-use buffa_fields::ordered_key::OrderedKey;
+use crate::recursive_meaning::RecursiveMeaning;
+use buffa_fields::members::keeps_unknowns::KeepsUnknowns;
+use buffa_fields::members::member::Member;
+use buffa_fields::members::ordered_key::OrderedKey;
+use buffa_fields::oneofs::one_of::OneOf;
 use buffa_map::map_codec::MapCodec;
 use buffa_wire::UnknownFields;
 use std::collections::BTreeMap;
 
 /// What is done with each member: its length is added, or its encoding is written. M is the message's type.
-pub trait SelfVisitor<M: SelfListing> {
+pub trait RecursiveVisitor<M: RecursiveMeaning> {
     /// It has seen these records, and these sizes.
     ghost IsAt: { Seen → Self → Type 0 };
 
@@ -39,7 +39,7 @@ pub trait SelfVisitor<M: SelfListing> {
     /// The next member, which is of another type.
     ///
     /// ```ignore
-    /// visitor.visit::<Optional<Str>>(1, &self.title);
+    /// visitor.visit::<ExplicitField<Str>>(1, &self.title);
     /// ```
     fn visit<N: Member>(&mut self, number: u32, part: &N::Part)
         requires number { IsNumber number }
@@ -53,17 +53,17 @@ pub trait SelfVisitor<M: SelfListing> {
     /// The next member, which is of another type and puts aside what it doesn't understand.
     ///
     /// ```ignore
-    /// visitor.visit_keeping::<MapOf<Int32, ClosedEnum<OutlineMark>>>(6, &self.marks);
+    /// visitor.visit_with_unknowns::<MapField<Int32, ClosedEnum<OutlineMark>>>(6, &self.marks);
     /// ```
     #[inline(always)]
-    fn visit_keeping<N: Keeping>(&mut self, number: u32, part: &N::Part)
+    fn visit_with_unknowns<N: KeepsUnknowns>(&mut self, number: u32, part: &N::Part)
         requires number { IsNumber number }
         requires comes { Comes Waits (N.shape.slots (N.shape.meaning part.now)) self.old }
         ensures seen { (z : Seen) → IsAt z self.old → IsAt (visited N.shape number part.now z) self.new }
         ensures waits { (rest : List ℕ) → Waits (N.shape.slots (N.shape.meaning part.now) ++ rest) self.old →
             Waits rest self.new }
         ensures reaches { (h : ℕ) → Reaches h self.old → Reaches h self.new }
-        ensures back { ReadsBackBeside N.shape N.aside }
+        ensures back { ReadsBackWithUnknowns N.shape N.unknowns }
     {
         self.visit::<N>(number, part)
     }
@@ -76,7 +76,7 @@ pub trait SelfVisitor<M: SelfListing> {
     fn visit_one_of<E: OneOf>(&mut self, part: &Option<E>)
         requires { Comes Waits (case_slots E.cases part.now) self.old }
         ensures seen { (z : Seen) → IsAt z self.old →
-            IsAt (case_seen (meant_enum E.cases) (case_means E.cases part.now) z) self.new }
+            IsAt (case_seen (enum_by_meaning E.cases) (case_means E.cases part.now) z) self.new }
         ensures waits { (rest : List ℕ) → Waits (case_slots E.cases part.now ++ rest) self.old → Waits rest self.new }
         ensures reaches { (h : ℕ) → Reaches h self.old → Reaches h self.new }
         ensures back { E.cases.all.cases.Owes };
@@ -88,13 +88,13 @@ pub trait SelfVisitor<M: SelfListing> {
     /// ```
     fn visit_list(&mut self, number: u32, part: &Vec<M>)
         requires number { IsNumber number }
-        requires comes { let s = children_shape M.laying (told M.Laid.COST M.laying M.sound) in
-            Comes Waits (s.slots (M.laying.of_list part.now.items)) self.old }
-        requires low { (h : ℕ) × (M.laying.children_height (M.laying.of_list part.now.items) < h) × Reaches h self.old }
-        ensures seen { let s = children_shape M.laying (told M.Laid.COST M.laying M.sound) in
-            (z : Seen) → IsAt z self.old → IsAt (visited s number (M.laying.of_list part.now.items) z) self.new }
-        ensures waits { let s = children_shape M.laying (told M.Laid.COST M.laying M.sound) in
-            (rest : List ℕ) → Waits (s.slots (M.laying.of_list part.now.items) ++ rest) self.old → Waits rest self.new }
+        requires comes { let s = children_shape M.schema (semantics M.RecursiveType.COST M.schema M.sound) in
+            Comes Waits (s.slots (M.schema.of_list part.now.items)) self.old }
+        requires low { (h : ℕ) × (M.schema.children_height (M.schema.of_list part.now.items) < h) × Reaches h self.old }
+        ensures seen { let s = children_shape M.schema (semantics M.RecursiveType.COST M.schema M.sound) in
+            (z : Seen) → IsAt z self.old → IsAt (visited s number (M.schema.of_list part.now.items) z) self.new }
+        ensures waits { let s = children_shape M.schema (semantics M.RecursiveType.COST M.schema M.sound) in
+            (rest : List ℕ) → Waits (s.slots (M.schema.of_list part.now.items) ++ rest) self.old → Waits rest self.new }
         ensures reaches { (h : ℕ) → Reaches h self.old → Reaches h self.new };
 
     /// The next member, which may hold one message of the message's own type.
@@ -104,15 +104,15 @@ pub trait SelfVisitor<M: SelfListing> {
     /// ```
     fn visit_one(&mut self, number: u32, part: &Option<Box<M>>)
         requires number { IsNumber number }
-        requires comes { let s = maybe_shape M.laying (told M.Laid.COST M.laying M.sound) in
-            Comes Waits (s.slots (M.laying.of_option (option_map (λ b. b.value) part.now))) self.old }
-        requires low { (h : ℕ) × (M.laying.maybe_height (M.laying.of_option (option_map (λ b. b.value) part.now)) < h)
+        requires comes { let s = maybe_shape M.schema (semantics M.RecursiveType.COST M.schema M.sound) in
+            Comes Waits (s.slots (M.schema.of_option (option_map (λ b. b.value) part.now))) self.old }
+        requires low { (h : ℕ) × (M.schema.maybe_height (M.schema.of_option (option_map (λ b. b.value) part.now)) < h)
             × Reaches h self.old }
-        ensures seen { let s = maybe_shape M.laying (told M.Laid.COST M.laying M.sound) in
+        ensures seen { let s = maybe_shape M.schema (semantics M.RecursiveType.COST M.schema M.sound) in
             (z : Seen) → IsAt z self.old →
-            IsAt (visited s number (M.laying.of_option (option_map (λ b. b.value) part.now)) z) self.new }
-        ensures waits { let s = maybe_shape M.laying (told M.Laid.COST M.laying M.sound) in
-            (rest : List ℕ) → Waits (s.slots (M.laying.of_option (option_map (λ b. b.value) part.now)) ++ rest) self.old →
+            IsAt (visited s number (M.schema.of_option (option_map (λ b. b.value) part.now)) z) self.new }
+        ensures waits { let s = maybe_shape M.schema (semantics M.RecursiveType.COST M.schema M.sound) in
+            (rest : List ℕ) → Waits (s.slots (M.schema.of_option (option_map (λ b. b.value) part.now)) ++ rest) self.old →
             Waits rest self.new }
         ensures reaches { (h : ℕ) → Reaches h self.old → Reaches h self.new };
 
@@ -125,17 +125,17 @@ pub trait SelfVisitor<M: SelfListing> {
     where
         KC::Value: OrderedKey,
         requires number { IsNumber number }
-        requires comes { let s = map_shape M.laying ⟦<ByKey<KC> as Keyed>⟧.keys (told M.Laid.COST M.laying M.sound) in
-            Comes Waits (s.slots (M.laying.of_pairs (means KC.Value.meaning M.meaning part.now.entries))) self.old }
+        requires comes { let s = map_shape M.schema ⟦<ByKey<KC> as Keyed>⟧.keys (semantics M.RecursiveType.COST M.schema M.sound) in
+            Comes Waits (s.slots (M.schema.of_pairs (means KC.Value.meaning M.meaning part.now.entries))) self.old }
         requires low { (h : ℕ)
-            × (M.laying.pairs_height (M.laying.of_pairs (means KC.Value.meaning M.meaning part.now.entries)) < h)
+            × (M.schema.pairs_height (M.schema.of_pairs (means KC.Value.meaning M.meaning part.now.entries)) < h)
             × Reaches h self.old }
-        ensures seen { let s = map_shape M.laying ⟦<ByKey<KC> as Keyed>⟧.keys (told M.Laid.COST M.laying M.sound) in
+        ensures seen { let s = map_shape M.schema ⟦<ByKey<KC> as Keyed>⟧.keys (semantics M.RecursiveType.COST M.schema M.sound) in
             (z : Seen) → IsAt z self.old →
-            IsAt (visited s number (M.laying.of_pairs (means KC.Value.meaning M.meaning part.now.entries)) z) self.new }
-        ensures waits { let s = map_shape M.laying ⟦<ByKey<KC> as Keyed>⟧.keys (told M.Laid.COST M.laying M.sound) in
+            IsAt (visited s number (M.schema.of_pairs (means KC.Value.meaning M.meaning part.now.entries)) z) self.new }
+        ensures waits { let s = map_shape M.schema ⟦<ByKey<KC> as Keyed>⟧.keys (semantics M.RecursiveType.COST M.schema M.sound) in
             (rest : List ℕ) →
-            Waits (s.slots (M.laying.of_pairs (means KC.Value.meaning M.meaning part.now.entries)) ++ rest) self.old →
+            Waits (s.slots (M.schema.of_pairs (means KC.Value.meaning M.meaning part.now.entries)) ++ rest) self.old →
             Waits rest self.new }
         ensures reaches { (h : ℕ) → Reaches h self.old → Reaches h self.new }
         ensures back { KeysReadBack ⟦<ByKey<KC> as Keyed>⟧.keys };
@@ -143,9 +143,9 @@ pub trait SelfVisitor<M: SelfListing> {
     /// The fields that were kept.
     ///
     /// ```ignore
-    /// visitor.visit_kept(&self.rest);
+    /// visitor.visit_unknown_fields(&self.unknown_fields);
     /// ```
-    fn visit_kept(&mut self, fields: &UnknownFields)
+    fn visit_unknown_fields(&mut self, fields: &UnknownFields)
         ensures seen { (z : Seen) → IsAt z self.old → IsAt (more fields.now.records [] z) self.new }
         ensures waits { (rest : List ℕ) → Waits rest self.old → Waits rest self.new }
         ensures reaches { (h : ℕ) → Reaches h self.old → Reaches h self.new };

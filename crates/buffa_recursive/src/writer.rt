@@ -5,23 +5,23 @@ ghost use Rattle.std.specs.Option.{option_map};
 ghost use Rattle.buffa_bytes.specs.Number.{IsNumber};
 ghost use Rattle.buffa_wire.specs.Passes.{IsNext, IsWritten};
 ghost use Rattle.buffa_map.specs.Calls.{WritesMessages};
-ghost use Rattle.buffa_fields.specs.Layout.{Follow, IsPut, Seen, visited};
-ghost use Rattle.buffa_fields.specs.facts.LayoutFacts.{comes_front};
-ghost use Rattle.buffa_recursive.specs.RecursiveLayout.{children_shape, maybe_shape};
-ghost use Rattle.buffa_recursive.specs.Fixpoint.{told};
+ghost use Rattle.buffa_fields.specs.Schema.{Follow, IsPut, Seen, visited};
+ghost use Rattle.buffa_fields.specs.facts.SchemaFacts.{comes_front};
+ghost use Rattle.buffa_recursive.specs.RecursiveSchema.{children_shape, maybe_shape};
+ghost use Rattle.buffa_recursive.specs.Fixpoint.{semantics};
 ghost use Rattle.buffa_recursive.specs.InnerMessages.{encoding_by};
 
-use crate::fields::SelfFields;
-use crate::layout::Laid;
-use crate::listing::SelfListing;
 use crate::maps::map_put;
 use crate::one_of::case_put;
-use crate::visitor::SelfVisitor;
+use crate::recursive_fields::RecursiveFields;
+use crate::recursive_meaning::RecursiveMeaning;
+use crate::recursive_type::RecursiveType;
+use crate::visitor::RecursiveVisitor;
 use crate::writes::{write_list, write_one};
-use buffa_fields::member::Member;
-use buffa_fields::one_of::OneOf;
-use buffa_fields::ordered_key::OrderedKey;
-use buffa_fields::writer::{kept_put, member_put};
+use buffa_fields::members::member::Member;
+use buffa_fields::members::ordered_key::OrderedKey;
+use buffa_fields::oneofs::one_of::OneOf;
+use buffa_fields::passes::writer::{kept_put, member_put};
 use buffa_map::map_codec::MapCodec;
 use buffa_wire::{EncodeError, EncodeSink, SizeCache, UnknownFields};
 use std::collections::BTreeMap;
@@ -75,7 +75,11 @@ impl<S: EncodeSink, F: Drop> WriterBy<'_, S, F> {
 }
 
 // Writes a list of messages behind what was written.
-fn list_put<M: Laid, S: EncodeSink, F: Fn(&M, &mut SizeCache, &mut S) -> Result<(), EncodeError>>(
+fn list_put<
+    M: RecursiveType,
+    S: EncodeSink,
+    F: Fn(&M, &mut SizeCache, &mut S) -> Result<(), EncodeError>,
+>(
     number: u32,
     list: &Vec<M>,
     cache: &mut SizeCache,
@@ -83,26 +87,30 @@ fn list_put<M: Laid, S: EncodeSink, F: Fn(&M, &mut SizeCache, &mut S) -> Result<
     write: F,
 ) -> Result<(), EncodeError>
     requires number { IsNumber number }
-    requires next { let s = children_shape M.laying (told M.COST M.laying M.sound) in
-        IsNext (s.slots (M.laying.of_list list.now.items)) cache.old }
-    requires may { let w = told M.COST M.laying M.sound in
-        (x : _) (c : _) (s : _) → M.laying.height x.now ≤ M.laying.children_height (M.laying.of_list list.now.items) →
+    requires next { let s = children_shape M.schema (semantics M.COST M.schema M.sound) in
+        IsNext (s.slots (M.schema.of_list list.now.items)) cache.old }
+    requires may { let w = semantics M.COST M.schema M.sound in
+        (x : _) (c : _) (s : _) → M.schema.height x.now ≤ M.schema.children_height (M.schema.of_list list.now.items) →
         IsNext (w.slots x.now) c.now → F.pre write x c s }
-    requires keeps { let w = told M.COST M.laying M.sound in
-        WritesMessages (F.post write) (λ v. M.laying.height v ≤ M.laying.children_height (M.laying.of_list list.now.items))
+    requires keeps { let w = semantics M.COST M.schema M.sound in
+        WritesMessages (F.post write) (λ v. M.schema.height v ≤ M.schema.children_height (M.schema.of_list list.now.items))
         (λ m. m) (encoding_by w) w.slots S.written }
-    ensures seen { let s = children_shape M.laying (told M.COST M.laying M.sound) in
+    ensures seen { let s = children_shape M.schema (semantics M.COST M.schema M.sound) in
         (name of : ℕ) (z : Seen) → IsPut name of (S.written sink.old) cache.old (Ok tt) z →
-        IsPut name of (S.written sink.new) cache.new result (visited s number (M.laying.of_list list.now.items) z) }
-    ensures waits { let s = children_shape M.laying (told M.COST M.laying M.sound) in
-        (rest : List ℕ) → Follow (s.slots (M.laying.of_list list.now.items) ++ rest) (Ok tt) cache.old →
+        IsPut name of (S.written sink.new) cache.new result (visited s number (M.schema.of_list list.now.items) z) }
+    ensures waits { let s = children_shape M.schema (semantics M.COST M.schema M.sound) in
+        (rest : List ℕ) → Follow (s.slots (M.schema.of_list list.now.items) ++ rest) (Ok tt) cache.old →
         Follow rest result cache.new }
 {
     write_list(number, list.as_slice(), cache, sink, write)
 }
 
 // Writes a message, if it is there, behind what was written.
-fn one_put<M: Laid, S: EncodeSink, F: Fn(&M, &mut SizeCache, &mut S) -> Result<(), EncodeError>>(
+fn one_put<
+    M: RecursiveType,
+    S: EncodeSink,
+    F: Fn(&M, &mut SizeCache, &mut S) -> Result<(), EncodeError>,
+>(
     number: u32,
     one: &Option<Box<M>>,
     cache: &mut SizeCache,
@@ -110,42 +118,42 @@ fn one_put<M: Laid, S: EncodeSink, F: Fn(&M, &mut SizeCache, &mut S) -> Result<(
     write: F,
 ) -> Result<(), EncodeError>
     requires number { IsNumber number }
-    requires next { let s = maybe_shape M.laying (told M.COST M.laying M.sound) in
-        IsNext (s.slots (M.laying.of_option (option_map (λ b. b.value) one.now))) cache.old }
-    requires may { let w = told M.COST M.laying M.sound in
+    requires next { let s = maybe_shape M.schema (semantics M.COST M.schema M.sound) in
+        IsNext (s.slots (M.schema.of_option (option_map (λ b. b.value) one.now))) cache.old }
+    requires may { let w = semantics M.COST M.schema M.sound in
         (x : _) (c : _) (s : _) →
-        M.laying.height x.now ≤ M.laying.maybe_height (M.laying.of_option (option_map (λ b. b.value) one.now)) →
+        M.schema.height x.now ≤ M.schema.maybe_height (M.schema.of_option (option_map (λ b. b.value) one.now)) →
         IsNext (w.slots x.now) c.now → F.pre write x c s }
-    requires keeps { let w = told M.COST M.laying M.sound in
+    requires keeps { let w = semantics M.COST M.schema M.sound in
         WritesMessages (F.post write)
-        (λ v. M.laying.height v ≤ M.laying.maybe_height (M.laying.of_option (option_map (λ b. b.value) one.now))) (λ m. m)
+        (λ v. M.schema.height v ≤ M.schema.maybe_height (M.schema.of_option (option_map (λ b. b.value) one.now))) (λ m. m)
         (encoding_by w) w.slots S.written }
-    ensures seen { let s = maybe_shape M.laying (told M.COST M.laying M.sound) in
+    ensures seen { let s = maybe_shape M.schema (semantics M.COST M.schema M.sound) in
         (name of : ℕ) (z : Seen) → IsPut name of (S.written sink.old) cache.old (Ok tt) z →
         IsPut name of (S.written sink.new) cache.new result
-        (visited s number (M.laying.of_option (option_map (λ b. b.value) one.now)) z) }
-    ensures waits { let s = maybe_shape M.laying (told M.COST M.laying M.sound) in
+        (visited s number (M.schema.of_option (option_map (λ b. b.value) one.now)) z) }
+    ensures waits { let s = maybe_shape M.schema (semantics M.COST M.schema M.sound) in
         (rest : List ℕ) →
-        Follow (s.slots (M.laying.of_option (option_map (λ b. b.value) one.now)) ++ rest) (Ok tt) cache.old →
+        Follow (s.slots (M.schema.of_option (option_map (λ b. b.value) one.now)) ++ rest) (Ok tt) cache.old →
         Follow rest result cache.new }
 {
     write_one(number, one, cache, sink, write)
 }
 
 impl<
-    M: SelfListing,
+    M: RecursiveMeaning,
     S: EncodeSink,
     F: Fn(&M, &mut SizeCache, &mut S) -> Result<(), EncodeError>,
-> SelfVisitor<M> for WriterBy<'_, S, F> {
+> RecursiveVisitor<M> for WriterBy<'_, S, F> {
     ghost IsAt = { λ z w. IsPut w.sink.ghost_name w.cache.ghost_name (S.written w.sink.now) w.cache.now w.result z };
 
     ghost Waits = { λ ss w. Follow ss w.result w.cache.now };
 
     ghost begins = { comes_front (λ w. w.result) (λ w. w.cache.now) };
 
-    ghost Reaches = { λ h w. let t = told M.Laid.COST M.laying M.sound in
-        ((x : _) (c : _) (s : _) → M.laying.height x.now < h → IsNext (t.slots x.now) c.now → F.pre w.write x c s)
-        × WritesMessages (F.post w.write) (λ v. M.laying.height v < h) (λ m. m) (encoding_by t) t.slots S.written };
+    ghost Reaches = { λ h w. let t = semantics M.RecursiveType.COST M.schema M.sound in
+        ((x : _) (c : _) (s : _) → M.schema.height x.now < h → IsNext (t.slots x.now) c.now → F.pre w.write x c s)
+        × WritesMessages (F.post w.write) (λ v. M.schema.height v < h) (λ m. m) (encoding_by t) t.slots S.written };
 
     #[inline(always)]
     fn visit<N: Member>(&mut self, number: u32, part: &N::Part) {
@@ -183,7 +191,7 @@ impl<
     }
 
     #[inline(always)]
-    fn visit_kept(&mut self, fields: &UnknownFields) {
+    fn visit_unknown_fields(&mut self, fields: &UnknownFields) {
         self.result = kept_put(self.result, fields, self.sink);
     }
 }
@@ -191,21 +199,21 @@ impl<
 // Writes all members.
 #[inline(always)]
 fn write_members<
-    M: SelfFields,
+    M: RecursiveFields,
     S: EncodeSink,
     F: Fn(&M, &mut SizeCache, &mut S) -> Result<(), EncodeError>,
 >(message: &M, writer: &mut WriterBy<'_, S, F>)
     requires fresh { writer.old.result ≡ Ok tt }
-    requires next { IsNext ((told M.COST M.laying M.sound).slots message.now) writer.old.cache.now }
-    requires may { let w = told M.COST M.laying M.sound in
-        (x : _) (c : _) (s : _) → M.laying.height x.now < M.laying.height message.now → IsNext (w.slots x.now) c.now →
+    requires next { IsNext ((semantics M.COST M.schema M.sound).slots message.now) writer.old.cache.now }
+    requires may { let w = semantics M.COST M.schema M.sound in
+        (x : _) (c : _) (s : _) → M.schema.height x.now < M.schema.height message.now → IsNext (w.slots x.now) c.now →
         F.pre writer.old.write x c s }
-    requires keeps { let w = told M.COST M.laying M.sound in
-        WritesMessages (F.post writer.old.write) (λ v. M.laying.height v < M.laying.height message.now) (λ m. m)
+    requires keeps { let w = semantics M.COST M.schema M.sound in
+        WritesMessages (F.post writer.old.write) (λ v. M.schema.height v < M.schema.height message.now) (λ m. m)
         (encoding_by w) w.slots S.written }
     ensures same_sink { writer.new.sink.ghost_name ≡ writer.old.sink.ghost_name }
     ensures same_cache { writer.new.cache.ghost_name ≡ writer.old.cache.ghost_name }
-    ensures written { let w = told M.COST M.laying M.sound in
+    ensures written { let w = semantics M.COST M.schema M.sound in
         IsWritten (encoding_by w message.now) (w.slots message.now) writer.old.cache.now (S.written writer.old.sink.now)
         writer.new.result writer.new.cache.now (S.written writer.new.sink.now) }
 {
@@ -214,18 +222,18 @@ fn write_members<
 
 // The write pass of a message, by a function that writes a message inside.
 fn write_by<
-    M: SelfFields,
+    M: RecursiveFields,
     S: EncodeSink,
     F: Fn(&M, &mut SizeCache, &mut S) -> Result<(), EncodeError>,
 >(message: &M, cache: &mut SizeCache, sink: &mut S, write: F) -> Result<(), EncodeError>
-    requires next { IsNext ((told M.COST M.laying M.sound).slots message.now) cache.old }
-    requires may { let w = told M.COST M.laying M.sound in
-        (x : _) (c : _) (s : _) → M.laying.height x.now < M.laying.height message.now → IsNext (w.slots x.now) c.now →
+    requires next { IsNext ((semantics M.COST M.schema M.sound).slots message.now) cache.old }
+    requires may { let w = semantics M.COST M.schema M.sound in
+        (x : _) (c : _) (s : _) → M.schema.height x.now < M.schema.height message.now → IsNext (w.slots x.now) c.now →
         F.pre write x c s }
-    requires keeps { let w = told M.COST M.laying M.sound in
-        WritesMessages (F.post write) (λ v. M.laying.height v < M.laying.height message.now) (λ m. m) (encoding_by w)
+    requires keeps { let w = semantics M.COST M.schema M.sound in
+        WritesMessages (F.post write) (λ v. M.schema.height v < M.schema.height message.now) (λ m. m) (encoding_by w)
         w.slots S.written }
-    ensures { let w = told M.COST M.laying M.sound in
+    ensures { let w = semantics M.COST M.schema M.sound in
         IsWritten (encoding_by w message.now) (w.slots message.now) cache.old (S.written sink.old) result cache.new
         (S.written sink.new) }
 {
@@ -235,13 +243,13 @@ fn write_by<
 }
 
 // The write pass of a message: one that is inside another, or the outermost one.
-pub(crate) fn write_self<M: SelfFields, S: EncodeSink>(
+pub(crate) fn write_self<M: RecursiveFields, S: EncodeSink>(
     message: &M,
     cache: &mut SizeCache,
     sink: &mut S,
 ) -> Result<(), EncodeError>
-    requires { IsNext ((told M.COST M.laying M.sound).slots message.now) cache.old }
-    ensures { let w = told M.COST M.laying M.sound in
+    requires { IsNext ((semantics M.COST M.schema M.sound).slots message.now) cache.old }
+    ensures { let w = semantics M.COST M.schema M.sound in
         IsWritten (encoding_by w message.now) (w.slots message.now) cache.old (S.written sink.old) result cache.new
         (S.written sink.new) }
 {
@@ -249,11 +257,11 @@ pub(crate) fn write_self<M: SelfFields, S: EncodeSink>(
         message,
         cache,
         sink,
-        |kid: &M, cache: &mut SizeCache, sink: &mut S| -> Result<(), EncodeError>
-            requires { IsNext ((told M.COST M.laying M.sound).slots kid.now) cache.old }
-            ensures { let w = told M.COST M.laying M.sound in
-                IsWritten (encoding_by w kid.now) (w.slots kid.now) cache.old (S.written sink.old) result cache.new
+        |child: &M, cache: &mut SizeCache, sink: &mut S| -> Result<(), EncodeError>
+            requires { IsNext ((semantics M.COST M.schema M.sound).slots child.now) cache.old }
+            ensures { let w = semantics M.COST M.schema M.sound in
+                IsWritten (encoding_by w child.now) (w.slots child.now) cache.old (S.written sink.old) result cache.new
                 (S.written sink.new) }
-        { write_self(kid, cache, sink) },
+        { write_self(child, cache, sink) },
     )
 }

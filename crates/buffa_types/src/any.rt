@@ -1,7 +1,7 @@
 //! Messages of any type: an [`Any`] with the encoding of one, and the name of its type.
 
 ghost use Rattle.std.specs.Prelude.{◌≡◌, ◌≢◌, ◌^◌, ◌<◌, ◌≤◌, ◌↔◌, [], length, IfErr, IfOk, IfSome, IsSome, IsTrue, OnErr, OnOk, Some, string_bytes, vec_items};
-ghost use Rattle.buffa_fields.specs.Terms.{BeginsField, FullOnlyIf, Stands, defaults};
+ghost use Rattle.buffa_fields.specs.Terms.{BeginsField, FullOnlyIf, PartlyMerged, defaults};
 ghost use Rattle.buffa_bytes.specs.declared.error.EncodeError.TheVariants as error;
 ghost use Rattle.buffa_bytes.specs.declared.error.DecodeError.TheVariants.{OutOfMemory};
 ghost use Rattle.buffa_wire.specs.BudgetLeft.{Lacks};
@@ -25,7 +25,7 @@ impl Any {
     pub fn pack<M: Message>(alloc: Global, full_name: &str, message: &M) -> Result<Any, EncodeError>
         ensures url { IfOk result (λ any. string_bytes any.type_url ≡ url_of full_name.now) }
         ensures value { IfOk result (λ any. vec_items any.value ≡ M.encoding (M.meaning message.now)) }
-        ensures rest { IfOk result (λ any. any.rest.records ≡ []) }
+        ensures rest { IfOk result (λ any. any.unknown_fields.records ≡ []) }
         ensures short { OnOk result (length (M.encoding (M.meaning message.now)) < 2 ^ 31) }
         ensures err { IfErr result (λ e. e ≢ error.OutOfMemory → (e ≡ error.MessageTooLarge)
             × (2 ^ 31 ≤ length (M.encoding (M.meaning message.now)))) }
@@ -35,7 +35,7 @@ impl Any {
         Ok(Any {
             type_url,
             value,
-            rest: UnknownFields::new(alloc),
+            unknown_fields: UnknownFields::new(alloc),
         })
     }
 
@@ -86,7 +86,7 @@ impl Any {
             (vec_items self.now.value)) → ⊥) }
         ensures fault { IfErr result (λ e. e ≢ OutOfMemory → MergeFault (M.merged RECURSION_LIMIT M.blank_is
             (vec_items self.now.value)) (M.cost RECURSION_LIMIT (vec_items self.now.value)) defaults e) }
-        ensures which { IfErr result (λ e. (m : M.Meaning) × Stands M.merged M.cost M.Refused RECURSION_LIMIT
+        ensures which { IfErr result (λ e. (m : M.Meaning) × PartlyMerged M.merged M.cost M.Refused RECURSION_LIMIT
             M.blank_is (vec_items self.now.value) defaults e m) }
         ensures full { FullOnlyIf result (BeginsField (vec_items self.now.value)) }
     {

@@ -28,7 +28,7 @@ impl Duration {
     /// ```
     pub fn new(alloc: Global, seconds: i64, nanos: i32) -> Option<Duration>
         ensures there { IsSome result ↔ IsDuration seconds nanos }
-        ensures value { IfSome result (λ d. (d.seconds ≡ seconds) × (d.nanos ≡ nanos) × (d.rest.records ≡ [])) }
+        ensures value { IfSome result (λ d. (d.seconds ≡ seconds) × (d.nanos ≡ nanos) × (d.unknown_fields.records ≡ [])) }
     {
         if !is_in_range(seconds, nanos) {
             return None;
@@ -36,7 +36,7 @@ impl Duration {
         Some(Duration {
             seconds,
             nanos,
-            rest: UnknownFields::new(alloc),
+            unknown_fields: UnknownFields::new(alloc),
         })
     }
 
@@ -49,7 +49,7 @@ impl Duration {
         ensures there { IsSome result ↔ IsLength nanos }
         ensures value { IfSome result (λ d. nanoseconds d.seconds d.nanos ≡ nanos) }
         ensures valid { IfSome result (λ d. IsDuration d.seconds d.nanos) }
-        ensures rest { IfSome result (λ d. d.rest.records ≡ []) }
+        ensures rest { IfSome result (λ d. d.unknown_fields.records ≡ []) }
     {
         if nanos < -315_576_000_000_999_999_999 || nanos > 315_576_000_000_999_999_999 {
             return None;
@@ -57,18 +57,18 @@ impl Duration {
         let size = nanos.unsigned_abs();
         let seconds = (size / 1_000_000_000) as i64;
         let above = (size % 1_000_000_000) as i32;
-        let rest = UnknownFields::new(alloc);
+        let unknown_fields = UnknownFields::new(alloc);
         if nanos < 0 {
             Some(Duration {
                 seconds: -seconds,
                 nanos: -above,
-                rest,
+                unknown_fields,
             })
         } else {
             Some(Duration {
                 seconds,
                 nanos: above,
-                rest,
+                unknown_fields,
             })
         }
     }

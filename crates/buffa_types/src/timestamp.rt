@@ -24,7 +24,7 @@ impl Timestamp {
     /// ```
     pub fn new(alloc: Global, second: i64, nanosecond: i32) -> Option<Timestamp>
         ensures there { IsSome result ↔ IsTimestamp second nanosecond }
-        ensures value { IfSome result (λ t. (t.seconds ≡ second) × (t.nanos ≡ nanosecond) × (t.rest.records ≡ [])) }
+        ensures value { IfSome result (λ t. (t.seconds ≡ second) × (t.nanos ≡ nanosecond) × (t.unknown_fields.records ≡ [])) }
     {
         if !is_in_range(second, nanosecond) {
             return None;
@@ -32,7 +32,7 @@ impl Timestamp {
         Some(Timestamp {
             seconds: second,
             nanos: nanosecond,
-            rest: UnknownFields::new(alloc),
+            unknown_fields: UnknownFields::new(alloc),
         })
     }
 
@@ -45,7 +45,7 @@ impl Timestamp {
         ensures there { IsSome result ↔ IsInstant nanosecond }
         ensures value { IfSome result (λ t. nanoseconds t.seconds t.nanos ≡ nanosecond) }
         ensures valid { IfSome result (λ t. IsTimestamp t.seconds t.nanos) }
-        ensures rest { IfSome result (λ t. t.rest.records ≡ []) }
+        ensures rest { IfSome result (λ t. t.unknown_fields.records ≡ []) }
     {
         if nanosecond < -62_135_596_800_000_000_000 || nanosecond > 253_402_300_799_999_999_999 {
             return None;
@@ -55,7 +55,7 @@ impl Timestamp {
         Some(Timestamp {
             seconds: second as i64,
             nanos: rest as i32,
-            rest: UnknownFields::new(alloc),
+            unknown_fields: UnknownFields::new(alloc),
         })
     }
 

@@ -22,11 +22,11 @@ impl BoolValue {
     /// BoolValue::new(alloc, true)
     /// ```
     pub fn new(alloc: Global, value: bool) -> BoolValue
-        ensures { (result.value ≡ value) × (result.rest.records ≡ []) }
+        ensures { (result.value ≡ value) × (result.unknown_fields.records ≡ []) }
     {
         BoolValue {
             value,
-            rest: UnknownFields::new(alloc),
+            unknown_fields: UnknownFields::new(alloc),
         }
     }
 }
@@ -38,11 +38,11 @@ impl BytesValue {
     /// BytesValue::new(alloc, bytes)
     /// ```
     pub fn new(alloc: Global, value: Vec<u8>) -> BytesValue
-        ensures { (result.value ≡ value) × (result.rest.records ≡ []) }
+        ensures { (result.value ≡ value) × (result.unknown_fields.records ≡ []) }
     {
         BytesValue {
             value,
-            rest: UnknownFields::new(alloc),
+            unknown_fields: UnknownFields::new(alloc),
         }
     }
 }
@@ -54,11 +54,11 @@ impl DoubleValue {
     /// DoubleValue::new(alloc, DoubleBits::new(0.5))
     /// ```
     pub fn new(alloc: Global, value: DoubleBits) -> DoubleValue
-        ensures { (result.value ≡ value) × (result.rest.records ≡ []) }
+        ensures { (result.value ≡ value) × (result.unknown_fields.records ≡ []) }
     {
         DoubleValue {
             value,
-            rest: UnknownFields::new(alloc),
+            unknown_fields: UnknownFields::new(alloc),
         }
     }
 }
@@ -70,11 +70,11 @@ impl FloatValue {
     /// FloatValue::new(alloc, FloatBits::new(0.5))
     /// ```
     pub fn new(alloc: Global, value: FloatBits) -> FloatValue
-        ensures { (result.value ≡ value) × (result.rest.records ≡ []) }
+        ensures { (result.value ≡ value) × (result.unknown_fields.records ≡ []) }
     {
         FloatValue {
             value,
-            rest: UnknownFields::new(alloc),
+            unknown_fields: UnknownFields::new(alloc),
         }
     }
 }
@@ -86,11 +86,11 @@ impl Int32Value {
     /// Int32Value::new(alloc, -5)
     /// ```
     pub fn new(alloc: Global, value: i32) -> Int32Value
-        ensures { (result.value ≡ value) × (result.rest.records ≡ []) }
+        ensures { (result.value ≡ value) × (result.unknown_fields.records ≡ []) }
     {
         Int32Value {
             value,
-            rest: UnknownFields::new(alloc),
+            unknown_fields: UnknownFields::new(alloc),
         }
     }
 }
@@ -102,11 +102,11 @@ impl Int64Value {
     /// Int64Value::new(alloc, -5)
     /// ```
     pub fn new(alloc: Global, value: i64) -> Int64Value
-        ensures { (result.value ≡ value) × (result.rest.records ≡ []) }
+        ensures { (result.value ≡ value) × (result.unknown_fields.records ≡ []) }
     {
         Int64Value {
             value,
-            rest: UnknownFields::new(alloc),
+            unknown_fields: UnknownFields::new(alloc),
         }
     }
 }
@@ -118,11 +118,11 @@ impl StringValue {
     /// StringValue::new(alloc, text)
     /// ```
     pub fn new(alloc: Global, value: String) -> StringValue
-        ensures { (result.value ≡ value) × (result.rest.records ≡ []) }
+        ensures { (result.value ≡ value) × (result.unknown_fields.records ≡ []) }
     {
         StringValue {
             value,
-            rest: UnknownFields::new(alloc),
+            unknown_fields: UnknownFields::new(alloc),
         }
     }
 }
@@ -134,11 +134,11 @@ impl UInt32Value {
     /// UInt32Value::new(alloc, 5)
     /// ```
     pub fn new(alloc: Global, value: u32) -> UInt32Value
-        ensures { (result.value ≡ value) × (result.rest.records ≡ []) }
+        ensures { (result.value ≡ value) × (result.unknown_fields.records ≡ []) }
     {
         UInt32Value {
             value,
-            rest: UnknownFields::new(alloc),
+            unknown_fields: UnknownFields::new(alloc),
         }
     }
 }
@@ -150,11 +150,11 @@ impl UInt64Value {
     /// UInt64Value::new(alloc, 5)
     /// ```
     pub fn new(alloc: Global, value: u64) -> UInt64Value
-        ensures { (result.value ≡ value) × (result.rest.records ≡ []) }
+        ensures { (result.value ≡ value) × (result.unknown_fields.records ≡ []) }
     {
         UInt64Value {
             value,
-            rest: UnknownFields::new(alloc),
+            unknown_fields: UnknownFields::new(alloc),
         }
     }
 }

@@ -4,7 +4,7 @@ use Rattle.std.specs.Option.{option_and_then}
 use Rattle.buffa_bytes.specs.Field.{IsTag, Payload, SomeField}
 use Rattle.buffa_bytes.specs.Join.{Join}
 use Rattle.buffa_bytes.specs.Join.Join.{none, more}
-use Rattle.buffa_bytes.specs.Front.{tag_at, ◌>>=◌, Gives}
+use Rattle.buffa_bytes.specs.Readings.{tag_at, ◌>>=◌, Gives}
 use Rattle.buffa_wire.specs.BudgetLeft.{BudgetLeft, nothing}
 use Rattle.buffa_wire.specs.Message.{IsFieldMerged, IsJudged}
 use Rattle.buffa_bytes.specs.declared.wire_type.WireType.{WireType}

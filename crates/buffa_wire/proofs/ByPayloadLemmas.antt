@@ -7,27 +7,27 @@ use Rattle.buffa_bytes.specs.declared.error.DecodeError.TheVariants as error
 use Rattle.buffa_bytes.specs.Field.{IsTag, Payload, PayloadFault, SomeField}
 use Rattle.buffa_bytes.specs.Join.{Join}
 use Rattle.buffa_bytes.specs.Join.Join.{none, more}
-use Rattle.buffa_bytes.specs.Front.{skip_at, tag_at}
+use Rattle.buffa_bytes.specs.Readings.{skip_at, tag_at}
 use Rattle.buffa_bytes.proofs.StepLemmas.{agree_err, agree_ok}
 use Rattle.buffa_bytes.proofs.FieldLemmas.{payload_complete, payload_sound, tag_complete, tag_sound}
 use Rattle.buffa_wire.specs.BudgetLeft.{BudgetLeft, PaysAtMost, nothing, plus}
 use Rattle.buffa_wire.specs.Message.{IsFieldMerged, IsJudged, MergeFault}
-use Rattle.buffa_wire.specs.Takes.{IsTaken, Need, Stays, Taker, cost_of, merged_of}
+use Rattle.buffa_wire.specs.Takes.{IsTaken, Charge, Stays, Taker, cost_of, merged_of}
 use Rattle.buffa_wire.proofs.MessageLemmas.{tag_no_limit}
 use Rattle.buffa_wire.proofs.TakesLemmas.{cost_of_next, cost_of_no_payload, cost_of_none, merged_of_fields, merged_of_next, merged_of_none, taken_merges}
 
 -- what bytes make of a value, and what they cost, is what payloads do
-pub record ByPayload {X : Type 0} (takes : Taker X) (need : Need) (merged : ℕ → X → List ℕ → Option X) (cost : ℕ → List ℕ → BudgetLeft) : Type 0 where
-  pub stays : Stays need
+pub record ByPayload {X : Type 0} (takes : Taker X) (charge : Charge) (merged : ℕ → X → List ℕ → Option X) (cost : ℕ → List ℕ → BudgetLeft) : Type 0 where
+  pub stays : Stays charge
   pub merged_is : (d : ℕ) (v : X) (b : List ℕ) → merged d v b ≡ merged_of takes d v b
-  pub cost_is : (d : ℕ) (b : List ℕ) → cost d b ≡ cost_of need d b
+  pub cost_is : (d : ℕ) (b : List ℕ) → cost d b ≡ cost_of charge d b
 
-pub by_payload : {X : Type 0} {takes : Taker X} {need : Need} {merged : ℕ → X → List ℕ → Option X} {cost : ℕ → List ℕ → BudgetLeft} → Stays need →
-    ((d : ℕ) (v : X) (b : List ℕ) → merged d v b ≡ merged_of takes d v b) → ((d : ℕ) (b : List ℕ) → cost d b ≡ cost_of need d b) → ByPayload takes need merged cost
+pub by_payload : {X : Type 0} {takes : Taker X} {charge : Charge} {merged : ℕ → X → List ℕ → Option X} {cost : ℕ → List ℕ → BudgetLeft} → Stays charge →
+    ((d : ℕ) (v : X) (b : List ℕ) → merged d v b ≡ merged_of takes d v b) → ((d : ℕ) (b : List ℕ) → cost d b ≡ cost_of charge d b) → ByPayload takes charge merged cost
 by_payload stays merged_is cost_is = record { stays = stays; merged_is = merged_is; cost_is = cost_is }
 
-pub plainly : {X : Type 0} (takes : Taker X) (need : Need) → Stays need → ByPayload takes need (merged_of takes) (cost_of need)
-plainly takes need stays = record { stays = stays; merged_is = λ d v b. refl; cost_is = λ d b. refl }
+pub plainly : {X : Type 0} (takes : Taker X) (charge : Charge) → Stays charge → ByPayload takes charge (merged_of takes) (cost_of charge)
+plainly takes charge stays = record { stays = stays; merged_is = λ d v b. refl; cost_is = λ d b. refl }
 
 pub nothing_plus : (c : BudgetLeft) → plus nothing c ≡ c
 nothing_plus c =
@@ -51,13 +51,13 @@ tagged d bs f r e (n, w, (t, p, is_tag, payload, is)) split h =
     let q : tag_at bs ≡ Ok (n, w, p ++ r) = ap tag_at (split ∙ ap (λ z. z ++ r) is ∙ append_assoc t p r) ∙ tag_complete t n w (p ++ r) is_tag in
     let k = sym q ∙ h in cc
 
-module _ {X : Type 0} {takes : Taker X} {need : Need} {merged : ℕ → X → List ℕ → Option X} {cost : ℕ → List ℕ → BudgetLeft} (by : ByPayload takes need merged cost) where
+module _ {X : Type 0} {takes : Taker X} {charge : Charge} {merged : ℕ → X → List ℕ → Option X} {cost : ℕ → List ℕ → BudgetLeft} (by : ByPayload takes charge merged cost) where
   -- no bytes change nothing, and cost nothing
   pub merged_empty : (d : ℕ) (v : X) → merged d v [] ≡ Some v
   merged_empty d v = by.merged_is d v [] ∙ merged_of_none takes d v
 
   pub cost_empty : (d : ℕ) → cost d [] ≡ nothing
-  cost_empty d = by.cost_is d [] ∙ cost_of_none need d
+  cost_empty d = by.cost_is d [] ∙ cost_of_none charge d
 
   -- what is merged is a join of fields
   pub merged_fields : (d : ℕ) (v w : X) (b : List ℕ) → merged d v b ≡ Some w → Join (SomeField d) b
@@ -73,11 +73,11 @@ module _ {X : Type 0} {takes : Taker X} {need : Need} {merged : ℕ → X → Li
 
   -- costs add over fields
   pub cost_next : (d : ℕ) (f r : List ℕ) → SomeField d f → cost d (f ++ r) ≡ plus (cost d f) (cost d r)
-  cost_next d f r h = by.cost_is d (f ++ r) ∙ cost_of_next need by.stays d f r h ∙ (λ i. plus (sym (by.cost_is d f) i) (sym (by.cost_is d r) i))
+  cost_next d f r h = by.cost_is d (f ++ r) ∙ cost_of_next charge by.stays d f r h ∙ (λ i. plus (sym (by.cost_is d f) i) (sym (by.cost_is d r) i))
 
   -- what a tag begins, and is no field
-  pub costs_no_payload : (d n : ℕ) (w : WireType) (t bs : List ℕ) (e : DecodeError) → IsTag t n w → PayloadFault d n w bs e → cost d (t ++ bs) ≡ need d n w bs
-  costs_no_payload d n w t bs e tag h = by.cost_is d (t ++ bs) ∙ cost_of_no_payload need d t bs n w e tag h
+  pub costs_no_payload : (d n : ℕ) (w : WireType) (t bs : List ℕ) (e : DecodeError) → IsTag t n w → PayloadFault d n w bs e → cost d (t ++ bs) ≡ charge d n w bs
+  costs_no_payload d n w t bs e tag h = by.cost_is d (t ++ bs) ∙ cost_of_no_payload charge d t bs n w e tag h
 
   -- fields, and then what follows them
   pub merged_join : (d : ℕ) (f r : List ℕ) → Join (SomeField d) f → (v : X) → merged d v (f ++ r) ≡ option_and_then (λ w. merged d w r) (merged d v f)
@@ -99,11 +99,11 @@ module _ {X : Type 0} {takes : Taker X} {need : Need} {merged : ℕ → X → Li
 
   -- one field, taken by its payload
   pub merges_taken : (r : Result (Unit {0}) DecodeError) (d : ℕ) (old new : X) (n : ℕ) (w : WireType) (bs rest : List ℕ) (before after : BudgetLeft) →
-      IsTaken takes need d old n w bs before r new after rest → IsFieldMerged merged cost d old n w bs before r new after rest
+      IsTaken takes charge d old n w bs before r new after rest → IsFieldMerged merged cost d old n w bs before r new after rest
   merges_taken r d old new n w bs rest before after h =
       subst (λ z. IsFieldMerged z cost d old n w bs before r new after rest) (λ i d v b. sym (by.merged_is d v b) i)
       (subst (λ z. IsFieldMerged (merged_of takes) z d old n w bs before r new after rest) (λ i d b. sym (by.cost_is d b) i)
-      (taken_merges takes d need by.stays r old new n w bs rest before after h))
+      (taken_merges takes d charge by.stays r old new n w bs rest before after h))
 
   no_value : (d : ℕ) (v : X) (bs : List ℕ) (e : DecodeError) (o : Option X) → merged d v bs ≡ o → 0 < length bs → tag_at bs ≡ Err e → o ≡ None
   no_value d v bs e None is some h = refl

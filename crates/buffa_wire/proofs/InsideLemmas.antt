@@ -6,15 +6,15 @@ use Rattle.std.specs.Fn.{Called}
 use Rattle.std.specs.Prelude.{IfErr, OnErr, OnOk}
 use Rattle.buffa_bytes.specs.declared.error.DecodeError.{DecodeError}
 use Rattle.buffa_bytes.specs.declared.error.DecodeError.TheVariants as error
-use Rattle.buffa_bytes.specs.Front.{delimited_at, FullOnlyIf}
+use Rattle.buffa_bytes.specs.Readings.{delimited_at, FullOnlyIf}
 use Rattle.buffa_bytes.specs.Delimited.{Lends}
 use Rattle.buffa_bytes.proofs.LendLemmas.{lent_full}
 use Rattle.buffa_bytes.proofs.FieldLemmas.{tag_falls}
 use Rattle.buffa_wire.proofs.ByPayloadLemmas.{ByPayload, cost_empty, merged_empty}
 use Rattle.buffa_wire.proofs.SpentLemmas.{PaysAtMost_nothing}
 use Rattle.buffa_wire.specs.BudgetLeft.{BudgetLeft, Pays, PaysAtMost, nothing}
-use Rattle.buffa_wire.specs.Takes.{Need, Taker}
-use Rattle.buffa_wire.specs.Message.{BeginsField, FieldRefused, IsInside, IsMerged, MergeFault, MessageFault, Stands, StandsInside, cost_in, cost_of_payload, merged_in}
+use Rattle.buffa_wire.specs.Takes.{Charge, Taker}
+use Rattle.buffa_wire.specs.Message.{BeginsField, FieldRefused, IsInside, IsMerged, MergeFault, MessageFault, PartlyMerged, PartlyMergedInside, cost_in, cost_of_payload, merged_in}
 
 module _ {F X T : Type 0} (g : Mut F (Bor (List ℕ) × Unit {0}) (Result T DecodeError)) (merged : ℕ → X → List ℕ → Option X) (cost : ℕ → List ℕ → BudgetLeft) where
   -- a call of f merges the bytes that it is given, one level down
@@ -69,26 +69,26 @@ module _ {F X T : Type 0} (g : Mut F (Bor (List ℕ) × Unit {0}) (Result T Deco
 
   -- what stands of those bytes where a call is refused
   abbrev Leaves : FieldRefused X → ℕ → F → X → BudgetLeft → Result T DecodeError → F → X → Type 0
-  Leaves Refused d f old before r f' new = (p : Bor (List ℕ)) → Called g f (p, tt) r f' → IfErr r (λ e. Stands merged cost Refused (d - 1) old p.now before e new)
+  Leaves Refused d f old before r f' new = (p : Bor (List ℕ)) → Called g f (p, tt) r f' → IfErr r (λ e. PartlyMerged merged cost Refused (d - 1) old p.now before e new)
 
-  stands_by : (Refused : FieldRefused X) (d c : ℕ) (f f' : F) (old new : X) (b rest left : List ℕ) (before : BudgetLeft) (e : DecodeError) → d ≡ suc c → Lends g f (Ok (b, rest)) (Err e) f' left →
-      Leaves Refused d f old before (Err e) f' new → (f' ≡ f → new ≡ old) → Stands merged cost Refused c old b before e new ⊎ ((e ≡ error.OutOfMemory) × (new ≡ old))
-  stands_by Refused d c f f' old new b rest left before e level (inl l) leaves same = let k : d - 1 ≡ c = omega (arith, level) in inl (rw (k, l.0.shows) at (leaves l.0.shown l.0.called))
-  stands_by Refused d c f f' old new b rest left before e level (inr n) leaves same = inr (let q = n.0 in cc, same n.1)
+  partly_merged_by : (Refused : FieldRefused X) (d c : ℕ) (f f' : F) (old new : X) (b rest left : List ℕ) (before : BudgetLeft) (e : DecodeError) → d ≡ suc c → Lends g f (Ok (b, rest)) (Err e) f' left →
+      Leaves Refused d f old before (Err e) f' new → (f' ≡ f → new ≡ old) → PartlyMerged merged cost Refused c old b before e new ⊎ ((e ≡ error.OutOfMemory) × (new ≡ old))
+  partly_merged_by Refused d c f f' old new b rest left before e level (inl l) leaves same = let k : d - 1 ≡ c = omega (arith, level) in inl (rw (k, l.0.shows) at (leaves l.0.shown l.0.called))
+  partly_merged_by Refused d c f f' old new b rest left before e level (inr n) leaves same = inr (let q = n.0 in cc, same n.1)
 
   -- last is what the value is at the end: the one that the call left
-  pub inside_stands : (Refused : FieldRefused X) (d : ℕ) (f f' : F) (old new last : X) (bs left : List ℕ) (before : BudgetLeft) (r : Result T DecodeError) → Lends g f (delimited_at bs) r f' left →
-      Leaves Refused d f old before r f' new → (f' ≡ f → new ≡ old) → new ≡ last → IfErr r (λ e. StandsInside merged cost Refused d old bs before e last)
-  inside_stands Refused d f f' old new last bs left before (Ok x) h leaves same is = tt
-  inside_stands Refused d f f' old new last bs left before (Err e) h leaves same is =
+  pub inside_is_partly_merged : (Refused : FieldRefused X) (d : ℕ) (f f' : F) (old new last : X) (bs left : List ℕ) (before : BudgetLeft) (r : Result T DecodeError) → Lends g f (delimited_at bs) r f' left →
+      Leaves Refused d f old before r f' new → (f' ≡ f → new ≡ old) → new ≡ last → IfErr r (λ e. PartlyMergedInside merged cost Refused d old bs before e last)
+  inside_is_partly_merged Refused d f f' old new last bs left before (Ok x) h leaves same is = tt
+  inside_is_partly_merged Refused d f f' old new last bs left before (Err e) h leaves same is =
       λ c b rest level at.
-      subst (λ z. Stands merged cost Refused c old b before e z ⊎ ((e ≡ error.OutOfMemory) × (z ≡ old))) is
-      (stands_by Refused d c f f' old new b rest left before e level (subst (λ z. Lends g f z (Err e) f' left) at h) leaves same)
+      subst (λ z. PartlyMerged merged cost Refused c old b before e z ⊎ ((e ≡ error.OutOfMemory) × (z ≡ old))) is
+      (partly_merged_by Refused d c f f' old new b rest left before e level (subst (λ z. Lends g f z (Err e) f' left) at h) leaves same)
 
 -- what merging promises of a refusal
-pub merged_tells : {X T : Type 0} (meant : Option X) (need before after : BudgetLeft) (new : X) (r : Result T DecodeError) → IsMerged meant need before r new after → IfErr r (λ x. x ≢ error.OutOfMemory → MergeFault meant need before x)
-merged_tells meant need before after new (Ok x) h = tt
-merged_tells meant need before after new (Err x) h = h.1
+pub merged_tells : {X T : Type 0} (meant : Option X) (charge before after : BudgetLeft) (new : X) (r : Result T DecodeError) → IsMerged meant charge before r new after → IfErr r (λ x. x ≢ error.OutOfMemory → MergeFault meant charge before x)
+merged_tells meant charge before after new (Ok x) h = tt
+merged_tells meant charge before after new (Err x) h = h.1
 
 -- bytes that a field begins are some
 pub tag_has_byte : (bs : List ℕ) → BeginsField bs → bs ≢ []
@@ -96,16 +96,16 @@ tag_has_byte bs (n, w, rest, tag, other) none = omega (arith, tag_falls bs (n, w
 
 -- ---- a message of no bytes
 
-none_told : {X : Type 0} (d : ℕ) (v : X) (o : Option X) (need before : BudgetLeft) (e : DecodeError) → o ≡ Some v → need ≡ nothing →
-    (e ≢ error.OutOfMemory → MergeFault o need before e) → (e ≡ error.OutOfMemory → BeginsField []) → ⊥
-none_told d v o need before error.OutOfMemory is free why full = tag_has_byte [] (full refl) refl
-none_told d v o need before _ is free why full = elim (why (λ q. cc)) [
+none_reported : {X : Type 0} (d : ℕ) (v : X) (o : Option X) (charge before : BudgetLeft) (e : DecodeError) → o ≡ Some v → charge ≡ nothing →
+    (e ≢ error.OutOfMemory → MergeFault o charge before e) → (e ≡ error.OutOfMemory → BeginsField []) → ⊥
+none_reported d v o charge before error.OutOfMemory is free why full = tag_has_byte [] (full refl) refl
+none_reported d v o charge before _ is free why full = elim (why (λ q. cc)) [
   | inl few ↦ elim few [ inl k ↦ omega (arith, k, ap (λ z. z.unknown) free) | inr k ↦ omega (arith, k, ap (λ z. z.memory) free) ]
   | inr bad ↦ let k = sym is ∙ bad.0 in cc
 ]
 
-module _ {X T : Type 0} {takes : Taker X} {need : Need} {merged : ℕ → X → List ℕ → Option X} {cost : ℕ → List ℕ → BudgetLeft} (by : ByPayload takes need merged cost) where
+module _ {X T : Type 0} {takes : Taker X} {charge : Charge} {merged : ℕ → X → List ℕ → Option X} {cost : ℕ → List ℕ → BudgetLeft} (by : ByPayload takes charge merged cost) where
   pub none_merges : (d : ℕ) (old new : X) (b : List ℕ) (before after : BudgetLeft) (r : Result T DecodeError) → b ≡ [] → IsMerged (merged d old b) (cost d b) before r new after → FullOnlyIf r (BeginsField b) → IsOk r
   none_merges d old new b before after (Ok x) is h full = refl
   none_merges d old new b before after (Err e) is h full =
-      absurd (none_told d old (merged d old b) (cost d b) before e (ap (merged d old) is ∙ merged_empty by d old) (ap (cost d) is ∙ cost_empty by d) h.1 (λ q. subst BeginsField is (full q)))
+      absurd (none_reported d old (merged d old b) (cost d b) before e (ap (merged d old) is ∙ merged_empty by d old) (ap (cost d) is ∙ cost_empty by d) h.1 (λ q. subst BeginsField is (full q)))

@@ -3,8 +3,8 @@ use Rattle.std.proofs.Common.{◌≡◌, List, ℕ, Result, refl, sym, ap, subst
 use Rattle.buffa_bytes.specs.declared.wire_type.WireType.{WireType}
 use Rattle.buffa_bytes.specs.declared.wire_type.WireType.TheVariants.{Varint, LengthDelimited}
 use Rattle.buffa_bytes.specs.declared.error.DecodeError.{DecodeError}
-use Rattle.buffa_bytes.specs.Left.{LeavesUnlessFull, past_no_payload, past_no_delimited, past_no_varint}
-use Rattle.buffa_bytes.proofs.LeftLemmas.{left_read}
+use Rattle.buffa_bytes.specs.Unread.{LeavesUnlessFull, past_no_payload, past_no_delimited, past_no_varint}
+use Rattle.buffa_bytes.proofs.UnreadLemmas.{left_read}
 
 -- the rest of one wire type
 leaves_in : {X : Type 0} (r : Result X DecodeError) (w v : WireType) (bs rest new : List ℕ) → w ≡ v → past_no_payload v bs ≡ rest → LeavesUnlessFull r rest new → LeavesUnlessFull r (past_no_payload w bs) new

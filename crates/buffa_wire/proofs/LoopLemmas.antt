@@ -4,10 +4,10 @@ use Rattle.buffa_bytes.specs.declared.wire_type.WireType.{WireType}
 use Rattle.buffa_bytes.specs.declared.wire_type.WireType.TheVariants as wire
 use Rattle.buffa_bytes.specs.declared.error.DecodeError.{DecodeError}
 use Rattle.buffa_bytes.specs.declared.error.DecodeError.TheVariants.{RecursionLimitExceeded, UnknownFieldLimitExceeded, InvalidEndGroup}
-use Rattle.buffa_bytes.specs.Front.{tag_at, ◌>>=◌}
+use Rattle.buffa_bytes.specs.Readings.{tag_at, ◌>>=◌}
 use Rattle.buffa_bytes.specs.Scan.{step_then}
 use Rattle.buffa_bytes.proofs.StepLemmas.{Agrees, agree_ok, agree_bind}
-use Rattle.buffa_wire.specs.Records.{Datum, group, records_of}
+use Rattle.buffa_wire.specs.Records.{FieldData, group, records_of}
 use Rattle.buffa_wire.specs.Encoding.{wire_of}
 use Rattle.buffa_wire.specs.Parse.{Parse, GroupRecordsFault, TakesField, FieldFault, RecordsFault, field_count}
 use Rattle.buffa_wire.specs.RecordReading.{field_at, field_by, group_records_at, group_records_behind, list_at, payload_by, plain_at, record_next, record_step, records_at, records_behind, GroupReader}
@@ -21,7 +21,7 @@ use Rattle.buffa_wire.proofs.RecordLemmas.{list-records, records-list}
 pub field_is_read : (d s n : ℕ) (w : WireType) (bs : List ℕ) → Agrees (field_at d s n w bs) (λ v. TakesField d s n w bs v.0 v.1 v.2) (FieldFault d s n w bs)
 field_is_read d = field_sound d (group_records_at d) (GroupRecordsFault d) (group_sound d)
 
-pub field_falls : (d s n : ℕ) (w : WireType) (bs : List ℕ) (x : Datum × ℕ × List ℕ) → field_at d s n w bs ≡ Ok x → length x.2 ≤ length bs
+pub field_falls : (d s n : ℕ) (w : WireType) (bs : List ℕ) (x : FieldData × ℕ × List ℕ) → field_at d s n w bs ≡ Ok x → length x.2 ≤ length bs
 field_falls d s n w bs x e = let a = agree_ok (field_at d s n w bs) x (field_is_read d s n w bs) e in omega (arith, ap length a.4, length-append a.0 x.2)
 
 -- ---- the loop over the fields of a group
@@ -29,12 +29,12 @@ pub group_limit : (d s n : ℕ) (bs : List ℕ) → d ≡ 0 → group_records_at
 unfolding group_records_at
 group_limit d s n bs e = rw e refl
 
-pub group_begins : (d s left n : ℕ) (bs : List ℕ) (rs : List (ℕ × Datum)) → d ≢ 0 → rs ≡ [] → left ≡ s → group_records_behind (group_records_at (d - 1)) n (rs, left) bs ≡ group_records_at d s n bs
+pub group_begins : (d s left n : ℕ) (bs : List ℕ) (rs : List (ℕ × FieldData)) → d ≢ 0 → rs ≡ [] → left ≡ s → group_records_behind (group_records_at (d - 1)) n (rs, left) bs ≡ group_records_at d s n bs
 unfolding group_records_at
 group_begins zero s left n bs rs o e f = absurd (o refl)
 group_begins (suc d) s left n bs rs o e f = let k : suc d - 1 ≡ d = omega arith in rw (k, e, f) refl
 
-module _ (d s n : ℕ) (bs : List ℕ) (rs : List (ℕ × Datum)) (all : Result Group DecodeError) (read : group_records_behind (group_records_at d) n (rs, s) bs ≡ all) where
+module _ (d s n : ℕ) (bs : List ℕ) (rs : List (ℕ × FieldData)) (all : Result Group DecodeError) (read : group_records_behind (group_records_at d) n (rs, s) bs ≡ all) where
   turn : all ≡ step_then (group_records_behind (group_records_at d) n) (record_step (group_records_at d) n (rs, s) (tag_at bs))
   turn = sym read ∙ group_turn d (group_records_at d) (GroupRecordsFault d) n (group_sound d) (rs, s) bs
 
@@ -52,7 +52,7 @@ module _ (d s n : ℕ) (bs : List ℕ) (rs : List (ℕ × Datum)) (all : Result 
     pub group_field_err : t.1 ≢ wire.EndGroup → (e : DecodeError) → field_at d s t.0 t.1 t.2 ≡ Err e → all ≡ Err e
     group_field_err w e f = turn ∙ rw (tag, closes_no t.1 t.0 n (λ q. absurd (w q)), f) refl
 
-    pub group_next : t.1 ≢ wire.EndGroup → (x : Datum × ℕ × List ℕ) (m : ℕ) (next : List (ℕ × Datum)) → field_at d s t.0 t.1 t.2 ≡ Ok x → m ≡ t.0 → next ≡ rs ++ (m, x.0) ∷ [] →
+    pub group_next : t.1 ≢ wire.EndGroup → (x : FieldData × ℕ × List ℕ) (m : ℕ) (next : List (ℕ × FieldData)) → field_at d s t.0 t.1 t.2 ≡ Ok x → m ≡ t.0 → next ≡ rs ++ (m, x.0) ∷ [] →
         group_records_behind (group_records_at d) n (next, x.1) x.2 ≡ all
     group_next w x m next f k e =
         ap (λ z. group_records_behind (group_records_at d) n (z, x.1) x.2) (e ∙ ap (λ z. rs ++ (z, x.0) ∷ []) k)
@@ -85,7 +85,7 @@ payload_is_plain inner s n wire.LengthDelimited bs o = refl
 payload_is_plain inner s n wire.EndGroup bs o = refl
 payload_is_plain inner s n wire.Fixed32 bs o = refl
 
-pub field_plain_ok : (d s left n : ℕ) (w : WireType) (bs : List ℕ) (x : Datum × List ℕ) → w ≢ wire.EndGroup → w ≢ wire.StartGroup → left + 1 ≡ s → plain_at w bs ≡ Ok x → field_at d s n w bs ≡ Ok (x.0, left, x.1)
+pub field_plain_ok : (d s left n : ℕ) (w : WireType) (bs : List ℕ) (x : FieldData × List ℕ) → w ≢ wire.EndGroup → w ≢ wire.StartGroup → left + 1 ≡ s → plain_at w bs ≡ Ok x → field_at d s n w bs ≡ Ok (x.0, left, x.1)
 field_plain_ok d s left n w bs x o g e f = field_paid d s left n w bs o e ∙ payload_is_plain (group_records_at d) left n w bs g ∙ rw f refl
 
 pub field_plain_err : (d s left n : ℕ) (w : WireType) (bs : List ℕ) (e : DecodeError) → w ≢ wire.EndGroup → w ≢ wire.StartGroup → left + 1 ≡ s → plain_at w bs ≡ Err e → field_at d s n w bs ≡ Err e
@@ -95,14 +95,14 @@ field_plain_err d s left n w bs x o g e f = field_paid d s left n w bs o e ∙ p
 falls : (d : ℕ) → Falls (record_next (group_records_at d))
 falls d = next_falls d (group_records_at d) (GroupRecordsFault d) (group_sound d)
 
-pub list_begins : (d s left : ℕ) (bs : List ℕ) (rs : List (ℕ × Datum)) → rs ≡ [] → left ≡ s → records_behind (group_records_at d) (rs, left) bs ≡ records_at d s bs
+pub list_begins : (d s left : ℕ) (bs : List ℕ) (rs : List (ℕ × FieldData)) → rs ≡ [] → left ≡ s → records_behind (group_records_at d) (rs, left) bs ≡ records_at d s bs
 list_begins d s left bs rs e f = rw (e, f) refl
 
-pub list_ends : (d s left : ℕ) (all bs : List ℕ) (rs : List (ℕ × Datum)) → records_behind (group_records_at d) (rs, left) bs ≡ records_at d s all → length bs ≡ 0 → list_at d s all ≡ Ok rs
+pub list_ends : (d s left : ℕ) (all bs : List ℕ) (rs : List (ℕ × FieldData)) → records_behind (group_records_at d) (rs, left) bs ≡ records_at d s all → length bs ≡ 0 → list_at d s all ≡ Ok rs
 list_ends d s left all [] rs h e = rw (sym h, along_none (record_next (group_records_at d)) (falls d) (rs, left)) (ap (λ z. Ok z) (list-records rs))
 list_ends d s left all (b ∷ bs) rs h e = absurd (omega arith)
 
-module _ (d s left : ℕ) (all bs : List ℕ) (rs : List (ℕ × Datum)) (read : records_behind (group_records_at d) (rs, left) bs ≡ records_at d s all) (some : 0 < length bs) where
+module _ (d s left : ℕ) (all bs : List ℕ) (rs : List (ℕ × FieldData)) (read : records_behind (group_records_at d) (rs, left) bs ≡ records_at d s all) (some : 0 < length bs) where
   refused : (e : DecodeError) → record_next (group_records_at d) (rs, left) bs ≡ Err e → list_at d s all ≡ Err e
   refused e h = rw (sym read, along_err (record_next (group_records_at d)) (falls d) (rs, left) bs e some h) refl
 
@@ -112,7 +112,7 @@ module _ (d s left : ℕ) (all bs : List ℕ) (rs : List (ℕ × Datum)) (read :
   pub list_field_err : (t : ℕ × WireType × List ℕ) → tag_at bs ≡ Ok t → (e : DecodeError) → field_at d left t.0 t.1 t.2 ≡ Err e → list_at d s all ≡ Err e
   list_field_err t g e f = refused e (rw (g, f) refl)
 
-  pub list_next : (t : ℕ × WireType × List ℕ) → tag_at bs ≡ Ok t → (x : Datum × ℕ × List ℕ) (m : ℕ) (next : List (ℕ × Datum)) → field_at d left t.0 t.1 t.2 ≡ Ok x → m ≡ t.0 → next ≡ rs ++ (m, x.0) ∷ [] →
+  pub list_next : (t : ℕ × WireType × List ℕ) → tag_at bs ≡ Ok t → (x : FieldData × ℕ × List ℕ) (m : ℕ) (next : List (ℕ × FieldData)) → field_at d left t.0 t.1 t.2 ≡ Ok x → m ≡ t.0 → next ≡ rs ++ (m, x.0) ∷ [] →
       records_behind (group_records_at d) (next, x.1) x.2 ≡ records_at d s all
   list_next t g x m next f k e =
       let one : record_next (group_records_at d) (rs, left) bs ≡ Ok ((rs ++ (t.0, x.0) ∷ [], x.1), x.2) = rw (g, f) refl in
@@ -120,7 +120,7 @@ module _ (d s left : ℕ) (all bs : List ℕ) (rs : List (ℕ × Datum)) (read :
       ∙ rw (← along_ok (record_next (group_records_at d)) (falls d) (rs, left) (rs ++ (t.0, x.0) ∷ [], x.1) bs x.2 some one) read
 
 -- ---- what is read, and the grammar
-pub field_taken : (d s n : ℕ) (w : WireType) (bs : List ℕ) (x : Datum) (left : ℕ) (rest : List ℕ) → TakesField d s n w bs x left rest → field_at d s n w bs ≡ Ok (x, left, rest)
+pub field_taken : (d s n : ℕ) (w : WireType) (bs : List ℕ) (x : FieldData) (left : ℕ) (rest : List ℕ) → TakesField d s n w bs x left rest → field_at d s n w bs ≡ Ok (x, left, rest)
 field_taken d s n w bs x left rest (p, payload, same, e, is) =
     subst (λ v. field_at d s n v bs ≡ Ok (x, left, rest)) same
     (ap (field_at d s n (wire_of x)) is ∙ field_complete d (group_records_at d) (GroupRecordsFault d) (group_complete d) s n x left p rest payload e)
@@ -135,7 +135,7 @@ list_is_read d s bs = agree_bind (records_sound_in d (group_records_at d) (Group
     record { holds = (subst (λ z. Parse d bs z) (sym back) (subst (λ z. Parse d z v.0) is x.0.1), subst (λ z. field_count z ≤ s) (sym back) (omega (arith, x.0.2))) })
     (λ e x. x)
 
-pub list_taken : (d s : ℕ) (bs : List ℕ) (rs : List (ℕ × Datum)) → Parse d bs (records_of rs) → field_count (records_of rs) ≤ s → list_at d s bs ≡ Ok rs
+pub list_taken : (d s : ℕ) (bs : List ℕ) (rs : List (ℕ × FieldData)) → Parse d bs (records_of rs) → field_count (records_of rs) ≤ s → list_at d s bs ≡ Ok rs
 list_taken d s bs rs h l =
     rw (records_complete_in d (group_records_at d) (GroupRecordsFault d) (group_sound d) (group_complete d) (group_faulty d) s (s - field_count (records_of rs)) (records_of rs) bs h (omega arith)) (ap (λ z. Ok z) (list-records rs))
 

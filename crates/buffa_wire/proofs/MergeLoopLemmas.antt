@@ -8,9 +8,9 @@ use Rattle.buffa_bytes.proofs.FieldLemmas.{tag_complete, tag_falls, tag_some, ta
 use Rattle.buffa_bytes.proofs.StepLemmas.{agree_ok}
 use Rattle.buffa_bytes.proofs.TailLemmas.{tail_dropped}
 use Rattle.buffa_bytes.specs.Field.{Payload, SomeField, TakesTag}
-use Rattle.buffa_bytes.specs.Front.{tag_at}
+use Rattle.buffa_bytes.specs.Readings.{tag_at}
 use Rattle.buffa_bytes.specs.Join.{Join}
-use Rattle.buffa_bytes.specs.Left.{IsTailOf}
+use Rattle.buffa_bytes.specs.Unread.{IsTailOf}
 use Rattle.buffa_bytes.specs.Join.Join.{none, more}
 use Rattle.buffa_bytes.specs.declared.error.DecodeError.{DecodeError}
 use Rattle.buffa_bytes.specs.declared.error.DecodeError.TheVariants.{OutOfMemory}
@@ -19,8 +19,8 @@ use Rattle.buffa_bytes.specs.declared.wire_type.WireType.TheVariants.{EndGroup}
 use Rattle.buffa_wire.proofs.ByPayloadLemmas.{ByPayload, cost_empty, cost_join, judged_all, merged_empty, merged_join, untagged}
 use Rattle.buffa_wire.proofs.MessageLemmas.{join_more, loop_fault, reaches_tag}
 use Rattle.buffa_wire.specs.BudgetLeft.{BudgetLeft, Pays, PaysAtMost, plus}
-use Rattle.buffa_wire.specs.Message.{BeginsField, FieldRefused, IsFieldMerged, MergeFault, Stands}
-use Rattle.buffa_wire.specs.Takes.{Need, Taker}
+use Rattle.buffa_wire.specs.Message.{BeginsField, FieldRefused, IsFieldMerged, MergeFault, PartlyMerged}
+use Rattle.buffa_wire.specs.Takes.{Charge, Taker}
 use Rattle.buffa_wire.specs.Pinned.{done, refusal}
 
 -- the fields before what is left were merged, and exactly their cost was spent
@@ -42,7 +42,7 @@ begun_by d _ all rest (more f r (n, w, (t, p, tag, payload, is)) j) whole = inr 
   λ end. subst (λ v. Payload d n v p) end payload,
 )
 
-module _ {X : Type 0} {takes : Taker X} {need : Need} {merged : ℕ → X → List ℕ → Option X} {cost : ℕ → List ℕ → BudgetLeft} (by : ByPayload takes need merged cost) where
+module _ {X : Type 0} {takes : Taker X} {charge : Charge} {merged : ℕ → X → List ℕ → Option X} {cost : ℕ → List ℕ → BudgetLeft} (by : ByPayload takes charge merged cost) where
   pub begins : (d : ℕ) (v : X) (all : List ℕ) (left : BudgetLeft) → CameTo merged cost d v all left v all left
   begins d v all left = record {
     front = [];
@@ -89,11 +89,11 @@ module _ {X : Type 0} {takes : Taker X} {need : Need} {merged : ℕ → X → Li
 
     -- no tag is next
     pub no_tag : (e : DecodeError) → 0 < length rest → tag_at rest ≡ Err e → Refuses e left
-    no_tag e some untold = stopped e left ((omega arith, omega arith, omega arith, omega arith), λ ne. untagged by d now rest left e some untold)
+    no_tag e some no_semantics = stopped e left ((omega arith, omega arith, omega arith, omega arith), λ ne. untagged by d now rest left e some no_semantics)
 
     -- what stands then
-    pub stands_untagged : (Refused : FieldRefused X) (e : DecodeError) → 0 < length rest → tag_at rest ≡ Err e → Stands merged cost Refused d old all first e now
-    stands_untagged Refused e some untold = record { front = came.front; rest = rest; split = came.split; some = some; mid = now; means = came.means; left = left; pays = came.pays; next = inl (untold, refl) }
+    pub partly_merged_untagged : (Refused : FieldRefused X) (e : DecodeError) → 0 < length rest → tag_at rest ≡ Err e → PartlyMerged merged cost Refused d old all first e now
+    partly_merged_untagged Refused e some no_semantics = record { front = came.front; rest = rest; split = came.split; some = some; mid = now; means = came.means; left = left; pays = came.pays; next = inl (no_semantics, refl) }
 
     module _ (n : ℕ) (w : WireType) (bs : List ℕ) (tag : tag_at rest ≡ Ok (n, w, bs)) where
       took : TakesTag rest n w bs
@@ -124,8 +124,8 @@ module _ {X : Type 0} {takes : Taker X} {need : Need} {merged : ℕ → X → Li
           (judged_all by d now n w bs left over e why took.0 took.1))
 
       -- what stands then
-      pub stands_refused : (Refused : FieldRefused X) (e : DecodeError) (new : X) (x : List ℕ) (over : BudgetLeft) → IsFieldMerged merged cost d now n w bs left (refusal e) new over x → Refused d now n w bs left e new → (e ≡ OutOfMemory → w ≢ EndGroup) → Stands merged cost Refused d old all first e new
-      stands_refused Refused e new x over why leaves other = record {
+      pub partly_merged_refused : (Refused : FieldRefused X) (e : DecodeError) (new : X) (x : List ℕ) (over : BudgetLeft) → IsFieldMerged merged cost d now n w bs left (refusal e) new over x → Refused d now n w bs left e new → (e ≡ OutOfMemory → w ≢ EndGroup) → PartlyMerged merged cost Refused d old all first e new
+      partly_merged_refused Refused e new x over why leaves other = record {
         front = came.front;
         rest = rest;
         split = came.split;

@@ -8,7 +8,7 @@ use Rattle.buffa_bytes.specs.Varint.{VarintFault}
 use Rattle.buffa_bytes.specs.Field.{LengthFault, Payload, PayloadFault, SomeField, TagFault}
 use Rattle.buffa_bytes.specs.Join.{Join}
 use Rattle.buffa_bytes.specs.Join.Join.{none, more}
-use Rattle.buffa_bytes.specs.Front.{tag_at}
+use Rattle.buffa_bytes.specs.Readings.{tag_at}
 use Rattle.buffa_bytes.proofs.FaultLemmas.{IsOfBytes, length_fault, payload_fault, tag_fault, varint_fault}
 use Rattle.buffa_bytes.proofs.FieldLemmas.{tag_complete}
 use Rattle.buffa_wire.specs.BudgetLeft.{BudgetLeft, Lacks, PaysAtMost, IsLimit}

@@ -7,10 +7,10 @@ use Rattle.buffa_bytes.specs.Varint.{base128, Continue, IsVarint, varint_encodin
 use Rattle.buffa_bytes.specs.Values.{tag_encoding}
 use Rattle.buffa_bytes.specs.Number.{IsNumber, wire_number}
 use Rattle.buffa_bytes.proofs.VarintLemmas.{IsVarint-varint_encoding, Spells, varint_encoding-spells}
-use Rattle.buffa_wire.specs.Records.{Datum, varint, fixed32, fixed64, bytes, group, Records, no_records, one, records_height, datum_height}
+use Rattle.buffa_wire.specs.Records.{FieldData, varint, fixed32, fixed64, bytes, group, Records, no_records, one, records_height, field_data_height}
 use Rattle.buffa_wire.specs.Encoding.{wire_of, payload_encoding, fields_encoding, tagged_encoding}
-use Rattle.buffa_wire.specs.Parse.{Parse, IsPayload, Fits, FitsDatum, InRange, DatumInRange}
-use Rattle.buffa_wire.specs.ReadableFacts.{Readable, ReadableDatum}
+use Rattle.buffa_wire.specs.Parse.{Parse, IsPayload, Fits, FitsFieldData, InRange, FieldDataInRange}
+use Rattle.buffa_wire.specs.ReadableFacts.{Readable, ReadableFieldData}
 use Rattle.buffa_bytes.proofs.FieldLemmas.{is_tag, onward}
 
 -- ---- more depth changes nothing
@@ -20,7 +20,7 @@ mutual
   Parse-deeper (one n x rs) c d b h (f, r, (t, q, tag, payload, is), more, all) =
       (f, r, (t, q, tag, payload-deeper x c d n q h payload, is), Parse-deeper rs c d r h more, all)
 
-  payload-deeper : (x : Datum) (c d n : ℕ) (p : List ℕ) → c ≤ d → IsPayload c n x p → IsPayload d n x p
+  payload-deeper : (x : FieldData) (c d n : ℕ) (p : List ℕ) → c ≤ d → IsPayload c n x p → IsPayload d n x p
   payload-deeper (varint v) c d n p h a = a
   payload-deeper (fixed32 v) c d n p h a = a
   payload-deeper (fixed64 v) c d n p h a = a
@@ -34,7 +34,7 @@ mutual
   encoding_parses (one n x rs) d h k =
       (tagged_encoding n x, fields_encoding rs, (tag_encoding n (wire_of x), payload_encoding n x, is_tag n (wire_of x) h.0, payload_parses x d n h.0 h.1 (omega arith), refl), encoding_parses rs d h.2 (omega arith), refl)
 
-  payload_parses : (x : Datum) (d n : ℕ) → IsNumber n → ReadableDatum x → datum_height x ≤ d → IsPayload d n x (payload_encoding n x)
+  payload_parses : (x : FieldData) (d n : ℕ) → IsNumber n → ReadableFieldData x → field_data_height x ≤ d → IsPayload d n x (payload_encoding n x)
   payload_parses (varint v) d n i h k = IsVarint-varint_encoding v h
   payload_parses (fixed32 v) d n i h k = (refl, sym (from_le_bytes-to_le_bytes_4 v h))
   payload_parses (fixed64 v) d n i h k = (refl, sym (from_le_bytes-to_le_bytes_8 v h))
@@ -48,14 +48,14 @@ mutual
   short_fits (one n x rs) h =
       let both = length-append (tagged_encoding n x) (fields_encoding rs) in
       let parts = length-append (tag_encoding n (wire_of x)) (payload_encoding n x) in
-      (short_datum x n (omega (arith, h, both, parts)), short_fits rs (omega (arith, h, both)))
+      (short_field_data x n (omega (arith, h, both, parts)), short_fits rs (omega (arith, h, both)))
 
-  short_datum : (x : Datum) (n : ℕ) → length (payload_encoding n x) < 2 ^ 64 → FitsDatum x
-  short_datum (varint v) n h = tt
-  short_datum (fixed32 v) n h = tt
-  short_datum (fixed64 v) n h = tt
-  short_datum (bytes v) n h = omega (arith, h, length-append (varint_encoding (length v)) v)
-  short_datum (group rs) n h = short_fits rs (omega (arith, h, length-append (fields_encoding rs) (tag_encoding n wire.EndGroup)))
+  short_field_data : (x : FieldData) (n : ℕ) → length (payload_encoding n x) < 2 ^ 64 → FitsFieldData x
+  short_field_data (varint v) n h = tt
+  short_field_data (fixed32 v) n h = tt
+  short_field_data (fixed64 v) n h = tt
+  short_field_data (bytes v) n h = omega (arith, h, length-append (varint_encoding (length v)) v)
+  short_field_data (group rs) n h = short_fits rs (omega (arith, h, length-append (fields_encoding rs) (tag_encoding n wire.EndGroup)))
 
 -- ---- an encoding has one reading
 spelled : (p : List ℕ) (n : ℕ) → IsVarint p n → Spells p n
@@ -85,7 +85,7 @@ abbrev mutual
   Loose b no_records = b ≡ []
   Loose b (one n x rs) = (t : List ℕ) × (p : List ℕ) × (r : List ℕ) × Spells t (8 * n + wire_number (wire_of x)) × LoosePayload n x p × Loose r rs × (b ≡ t ++ (p ++ r))
 
-  LoosePayload : ℕ → Datum → List ℕ → Type 0
+  LoosePayload : ℕ → FieldData → List ℕ → Type 0
   LoosePayload n (varint v) p = Spells p v
   LoosePayload n (fixed32 v) p = (length p ≡ 4) × (v ≡ from_le_bytes w32 p)
   LoosePayload n (fixed64 v) p = (length p ≡ 8) × (v ≡ from_le_bytes w64 p)
@@ -100,7 +100,7 @@ mutual
   parse_loose no_records d b p = p
   parse_loose (one n x rs) d b (f, r, (t, q, tag, payload, is), more, all) = (t, q, r, spelled t _ tag.1, payload_loose x d n q payload, parse_loose rs d r more, split_field b f r t q all is)
 
-  payload_loose : (x : Datum) (d n : ℕ) (p : List ℕ) → IsPayload d n x p → LoosePayload n x p
+  payload_loose : (x : FieldData) (d n : ℕ) (p : List ℕ) → IsPayload d n x p → LoosePayload n x p
   payload_loose (varint v) d n p h = spelled p v h
   payload_loose (fixed32 v) d n p h = h
   payload_loose (fixed64 v) d n p h = h
@@ -112,7 +112,7 @@ mutual
   encoding_loose no_records h = refl
   encoding_loose (one n x rs) h = (tag_encoding n (wire_of x), payload_encoding n x, fields_encoding rs, varint_encoding-spells _, payload_encoding_loose x n h.0, encoding_loose rs h.1, append_assoc (tag_encoding n (wire_of x)) (payload_encoding n x) (fields_encoding rs))
 
-  payload_encoding_loose : (x : Datum) (n : ℕ) → DatumInRange x → LoosePayload n x (payload_encoding n x)
+  payload_encoding_loose : (x : FieldData) (n : ℕ) → FieldDataInRange x → LoosePayload n x (payload_encoding n x)
   payload_encoding_loose (varint v) n h = varint_encoding-spells v
   payload_encoding_loose (fixed32 v) n h = (refl, sym (from_le_bytes-to_le_bytes_4 v h))
   payload_encoding_loose (fixed64 v) n h = (refl, sym (from_le_bytes-to_le_bytes_8 v h))
@@ -128,14 +128,14 @@ split_eq (c ∷ a) (d ∷ b) x y n e =
     let h = split_eq a b x y (omega arith) t in
     let f : c ∷ a ≡ d ∷ b = cc in (f, h.1)
 
-wire_small : (x : Datum) → wire_number (wire_of x) < 8
+wire_small : (x : FieldData) → wire_number (wire_of x) < 8
 wire_small (varint v) = omega arith
 wire_small (fixed32 v) = omega arith
 wire_small (fixed64 v) = omega arith
 wire_small (bytes v) = omega arith
 wire_small (group rs) = omega arith
 
-wire_not_end : (x : Datum) → wire_number (wire_of x) ≡ 4 → ⊥
+wire_not_end : (x : FieldData) → wire_number (wire_of x) ≡ 4 → ⊥
 wire_not_end (varint v) e = absurd (omega arith)
 wire_not_end (fixed32 v) e = absurd (omega arith)
 wire_not_end (fixed64 v) e = absurd (omega arith)
@@ -144,7 +144,7 @@ wire_not_end (group rs) e = absurd (omega arith)
 
 -- no field begins here
 abbrev ParseStops : List ℕ → Type 0
-ParseStops u = (t rest : List ℕ) (n : ℕ) (x : Datum) → Spells t (8 * n + wire_number (wire_of x)) → t ++ rest ≡ u → ⊥
+ParseStops u = (t rest : List ℕ) (n : ℕ) (x : FieldData) → Spells t (8 * n + wire_number (wire_of x)) → t ++ rest ≡ u → ⊥
 
 stops_end : (e r : List ℕ) (n : ℕ) → Spells e (8 * n + 4) → ParseStops (e ++ r)
 stops_end e r n v t rest m x w h =
@@ -172,7 +172,7 @@ mutual
       let o = same_records rs qs r r2 u v p q i j g.1 in
       (λ z. one (k z) (g.0 z) (o.0 z), o.1)
 
-  same_payload : (x y : Datum) (n m : ℕ) (p q r s : List ℕ) → wire_number (wire_of x) ≡ wire_number (wire_of y) → LoosePayload n x p → LoosePayload m y q → p ++ r ≡ q ++ s → (x ≡ y) × (r ≡ s)
+  same_payload : (x y : FieldData) (n m : ℕ) (p q r s : List ℕ) → wire_number (wire_of x) ≡ wire_number (wire_of y) → LoosePayload n x p → LoosePayload m y q → p ++ r ≡ q ++ s → (x ≡ y) × (r ≡ s)
   same_payload (varint v) (varint w) n m p q r s k a b e = let h = Spells-one p q r s v w a b e in (ap varint h.1, h.2)
   same_payload (fixed32 v) (fixed32 w) n m p q r s k a b e = let h = split_eq p q r s (a.0 ∙ sym b.0) e in (ap fixed32 (a.1 ∙ ap (from_le_bytes w32) h.0 ∙ sym b.1), h.1)
   same_payload (fixed64 v) (fixed64 w) n m p q r s k a b e = let h = split_eq p q r s (a.0 ∙ sym b.0) e in (ap fixed64 (a.1 ∙ ap (from_le_bytes w64) h.0 ∙ sym b.1), h.1)

@@ -7,8 +7,8 @@ use Rattle.buffa_bytes.specs.declared.wire_type.WireType.TheVariants as wire
 use Rattle.buffa_bytes.specs.declared.error.DecodeError.{DecodeError}
 use Rattle.buffa_bytes.specs.declared.error.DecodeError.TheVariants.{UnexpectedEof}
 use Rattle.buffa_bytes.specs.Field.{IsTag, TakesTag}
-use Rattle.buffa_bytes.specs.Content.{ContentFault}
-use Rattle.buffa_bytes.specs.Front.{same_wire, tag_at, ◌>>=◌}
+use Rattle.buffa_bytes.specs.PayloadValue.{PayloadValueFault}
+use Rattle.buffa_bytes.specs.Readings.{same_wire, tag_at, ◌>>=◌}
 use Rattle.buffa_bytes.specs.Scan.{parsed, scan, step_then, ParsesEach, ParsesTo, join}
 use Rattle.buffa_bytes.specs.Scan.Scanned.{ends, goes}
 use Rattle.buffa_bytes.proofs.StepLemmas.{Agrees, agree_bind, agree_err, agree_if, agree_ok, agree_weaker}
@@ -16,7 +16,7 @@ use Rattle.buffa_bytes.proofs.ListLemmas.{cut_twice}
 use Rattle.buffa_bytes.proofs.VarintLemmas.{varint_sound, varint_complete, varint_faulty}
 use Rattle.buffa_bytes.proofs.DelimitedLemmas.{taken_sound, taken_complete, taken_faulty, delimited_sound, delimited_complete, delimited_faulty}
 use Rattle.buffa_bytes.proofs.FieldLemmas.{tag_sound, tag_complete, tag_faulty, tag_read, tag_some, takes_tag_as, same_false, same_differs, same_true}
-use Rattle.buffa_wire.specs.Records.{Datum, varint, fixed32, fixed64, bytes, group, Records, no_records, one, list_of, records_of}
+use Rattle.buffa_wire.specs.Records.{FieldData, varint, fixed32, fixed64, bytes, group, Records, no_records, one, list_of, records_of}
 use Rattle.buffa_wire.specs.Encoding.{wire_of}
 use Rattle.buffa_wire.specs.Parse.{FieldOf, Parse, IsPayload, field_count, fields_inside, TakesField, TakesRecords, InsideFault, FieldFaultOf, NextFault, GroupRecordsFault}
 use Rattle.buffa_wire.specs.RecordReading.{GroupReader, HaveRead, field_by, group_records_at, group_records_behind, payload_by, plain_at, record_next, record_step, record_then, records_behind}
@@ -25,7 +25,7 @@ use Rattle.buffa_wire.proofs.RecordLemmas.{records-list}
 use Rattle.buffa_bytes.proofs.SequenceLemmas.{Answers, Ends, Falls, Meets, UpTo, along_complete, along_faulty, along_sound, answer, has_byte, if_meets, not_nil, parsed_meets, upto_agrees, upto_complete, upto_sound, upto_turn}
 
 -- ---- wire types
-pub payload_no_end : (x : Datum) → wire_of x ≢ wire.EndGroup
+pub payload_no_end : (x : FieldData) → wire_of x ≢ wire.EndGroup
 payload_no_end (varint v) e = cc
 payload_no_end (fixed32 v) e = cc
 payload_no_end (fixed64 v) e = cc
@@ -60,7 +60,7 @@ abbrev pub Group : Type 0
 Group = Records × ℕ × List ℕ
 
 -- a payload, with the unknown fields that are left
-abbrev with_left : ℕ → Result (Datum × List ℕ) DecodeError → Result (Datum × ℕ × List ℕ) DecodeError
+abbrev with_left : ℕ → Result (FieldData × List ℕ) DecodeError → Result (FieldData × ℕ × List ℕ) DecodeError
 with_left s r = r >>= (λ v. Ok (v.0, s, v.1))
 
 module _ (d : ℕ) (inner : GroupReader) (F : ℕ → ℕ → List ℕ → DecodeError → Type 0) where
@@ -79,10 +79,10 @@ module _ (d : ℕ) (inner : GroupReader) (F : ℕ → ℕ → List ℕ → Decod
   Faults = (s n : ℕ) (bs : List ℕ) (e : DecodeError) → F s n bs e → inner s n bs ≡ Err e
 
   -- ---- payloads
-  abbrev TakesPlain : ℕ → WireType → List ℕ → Datum × List ℕ → Type 0
+  abbrev TakesPlain : ℕ → WireType → List ℕ → FieldData × List ℕ → Type 0
   TakesPlain n w bs v = (p : List ℕ) × IsPayload d n v.0 p × (wire_of v.0 ≡ w) × (fields_inside v.0 ≡ 0) × (bs ≡ p ++ v.1)
 
-  plain_sound : (n : ℕ) (w : WireType) (bs : List ℕ) → Agrees (plain_at w bs) (λ v. TakesPlain n w bs v) (ContentFault w bs)
+  plain_sound : (n : ℕ) (w : WireType) (bs : List ℕ) → Agrees (plain_at w bs) (λ v. TakesPlain n w bs v) (PayloadValueFault w bs)
   plain_sound n wire.Varint bs = agree_bind (varint_sound bs) (λ v a. record { holds = (a.0, a.1, refl, refl, a.2) }) (λ e f. f)
   plain_sound n wire.Fixed64 bs = agree_bind (agree_bind (taken_sound 8 bs) (λ v a. record { holds = (v.0, a.0, refl, a.1) }) (λ e f. f))
       (λ v (a : (p : List ℕ) × (length p ≡ 8) × (v.0 ≡ from_le_bytes w64 p) × (bs ≡ p ++ v.1)). record { holds = (a.0, (a.1, a.2), refl, refl, a.3) }) (λ e f. f)
@@ -93,10 +93,10 @@ module _ (d : ℕ) (inner : GroupReader) (F : ℕ → ℕ → List ℕ → Decod
   plain_sound n wire.Fixed32 bs = agree_bind (agree_bind (taken_sound 4 bs) (λ v a. record { holds = (v.0, a.0, refl, a.1) }) (λ e f. f))
       (λ v (a : (p : List ℕ) × (length p ≡ 4) × (v.0 ≡ from_le_bytes w32 p) × (bs ≡ p ++ v.1)). record { holds = (a.0, (a.1, a.2), refl, refl, a.3) }) (λ e f. f)
 
-  abbrev TakesPayload : ℕ → ℕ → WireType → List ℕ → Datum × ℕ × List ℕ → Type 0
+  abbrev TakesPayload : ℕ → ℕ → WireType → List ℕ → FieldData × ℕ × List ℕ → Type 0
   TakesPayload s n w bs v = (p : List ℕ) × IsPayload d n v.0 p × (wire_of v.0 ≡ w) × (fields_inside v.0 + v.1 ≡ s) × (bs ≡ p ++ v.2)
 
-  plain_after : (s n : ℕ) (w : WireType) (bs : List ℕ) → Agrees (plain_at w bs >>= (λ v. Ok (v.0, s, v.1))) (λ v. TakesPayload s n w bs v) (ContentFault w bs)
+  plain_after : (s n : ℕ) (w : WireType) (bs : List ℕ) → Agrees (plain_at w bs >>= (λ v. Ok (v.0, s, v.1))) (λ v. TakesPayload s n w bs v) (PayloadValueFault w bs)
   plain_after s n w bs = agree_bind (plain_sound n w bs) (λ v a. record { holds = (a.0, a.1, a.2, omega (arith, a.3), a.4) }) (λ e f. f)
 
   payload_sound : Sound → (s n : ℕ) (w : WireType) (bs : List ℕ) → Agrees (payload_by inner s n w bs) (λ v. TakesPayload s n w bs v) (InsideFault F s n w bs)
@@ -107,21 +107,21 @@ module _ (d : ℕ) (inner : GroupReader) (F : ℕ → ℕ → List ℕ → Decod
   payload_sound h s n wire.EndGroup bs = plain_after s n wire.EndGroup bs
   payload_sound h s n wire.Fixed32 bs = plain_after s n wire.Fixed32 bs
 
-  plain_complete : (n : ℕ) (x : Datum) (p rest : List ℕ) → wire_of x ≢ wire.StartGroup → IsPayload d n x p → plain_at (wire_of x) (p ++ rest) ≡ Ok (x, rest)
+  plain_complete : (n : ℕ) (x : FieldData) (p rest : List ℕ) → wire_of x ≢ wire.StartGroup → IsPayload d n x p → plain_at (wire_of x) (p ++ rest) ≡ Ok (x, rest)
   plain_complete n (varint v) p rest o h = rw (varint_complete p v rest h) refl
   plain_complete n (fixed32 v) p rest o h = rw (taken_complete 4 p rest h.0) (ap (λ z. Ok (fixed32 z, rest)) (sym h.1))
   plain_complete n (fixed64 v) p rest o h = rw (taken_complete 8 p rest h.0) (ap (λ z. Ok (fixed64 z, rest)) (sym h.1))
   plain_complete n (bytes v) p rest o (t, h, e) = rw (e, append_assoc t v rest, delimited_complete t v rest h) refl
   plain_complete n (group v) p rest o h = absurd (o refl)
 
-  payload_complete : Complete → (s n : ℕ) (x : Datum) (left : ℕ) (p rest : List ℕ) → IsPayload d n x p → fields_inside x + left ≡ s → payload_by inner s n (wire_of x) (p ++ rest) ≡ Ok (x, left, rest)
+  payload_complete : Complete → (s n : ℕ) (x : FieldData) (left : ℕ) (p rest : List ℕ) → IsPayload d n x p → fields_inside x + left ≡ s → payload_by inner s n (wire_of x) (p ++ rest) ≡ Ok (x, left, rest)
   payload_complete c s n (varint v) left p rest h e = let k : s ≡ left = omega arith in rw (plain_complete n (varint v) p rest (λ w. cc) h, k) refl
   payload_complete c s n (fixed32 v) left p rest h e = let k : s ≡ left = omega arith in rw (plain_complete n (fixed32 v) p rest (λ w. cc) h, k) refl
   payload_complete c s n (fixed64 v) left p rest h e = let k : s ≡ left = omega arith in rw (plain_complete n (fixed64 v) p rest (λ w. cc) h, k) refl
   payload_complete c s n (bytes v) left p rest h e = let k : s ≡ left = omega arith in rw (plain_complete n (bytes v) p rest (λ w. cc) h, k) refl
   payload_complete c s n (group v) left p rest h e = rw (c s n v left p rest h e) refl
 
-  plain_faulty : (s : ℕ) (w : WireType) (bs : List ℕ) (e : DecodeError) → ContentFault w bs e → with_left s (plain_at w bs) ≡ Err e
+  plain_faulty : (s : ℕ) (w : WireType) (bs : List ℕ) (e : DecodeError) → PayloadValueFault w bs e → with_left s (plain_at w bs) ≡ Err e
   plain_faulty s wire.Varint bs e h = rw (varint_faulty bs e h) refl
   plain_faulty s wire.Fixed64 bs e h = rw (taken_faulty 8 bs h.0) (ap (λ x. Err x) (sym h.1))
   plain_faulty s wire.LengthDelimited bs e h = rw (delimited_faulty bs e h) refl
@@ -148,7 +148,7 @@ module _ (d : ℕ) (inner : GroupReader) (F : ℕ → ℕ → List ℕ → Decod
       (λ v a. (a.0, a.1, a.2, omega (arith, a.3, k), a.4))
       (λ x f. inr (inr (same_differs wire.EndGroup w e, omega arith, f)))))
 
-  pub field_complete : Complete → (s n : ℕ) (x : Datum) (left : ℕ) (p rest : List ℕ) → IsPayload d n x p → 1 + fields_inside x + left ≡ s → field_by inner s n (wire_of x) (p ++ rest) ≡ Ok (x, left, rest)
+  pub field_complete : Complete → (s n : ℕ) (x : FieldData) (left : ℕ) (p rest : List ℕ) → IsPayload d n x p → 1 + fields_inside x + left ≡ s → field_by inner s n (wire_of x) (p ++ rest) ≡ Ok (x, left, rest)
   unfolding field_by
   field_complete c s n x left p rest h e =
       rw (same_false wire.EndGroup (wire_of x) (payload_no_end x), ne_eqb s 0 (λ z. absurd (omega arith))) (payload_complete c (s - 1) n x left p rest h (omega arith))
@@ -162,7 +162,7 @@ module _ (d : ℕ) (inner : GroupReader) (F : ℕ → ℕ → List ℕ → Decod
   -- ---- fields, one after another
   -- a field, whose record is put behind the others
   abbrev Step : HaveRead → List ℕ → HaveRead → Type 0
-  Step s p t = (n : ℕ) × (x : Datum) × FieldOf (IsPayload d n x) n (wire_of x) p × (t.0 ≡ s.0 ++ (n, x) ∷ []) × (1 + fields_inside x + t.1 ≡ s.1)
+  Step s p t = (n : ℕ) × (x : FieldData) × FieldOf (IsPayload d n x) n (wire_of x) p × (t.0 ≡ s.0 ++ (n, x) ∷ []) × (1 + fields_inside x + t.1 ≡ s.1)
 
   some : (s t : HaveRead) (p : List ℕ) → Step s p t → 0 < length p
   some s t p (n, x, (g, q, tag, payload, is), e, left) = omega (arith, tag_some g n (wire_of x) tag, ap length is, length-append g q)
@@ -197,7 +197,7 @@ module _ (d : ℕ) (inner : GroupReader) (F : ℕ → ℕ → List ℕ → Decod
   then_sound h s bs t u = agree_bind (field_sound h s.1 t.0 t.1 t.2)
       (λ x a. record { holds = (u.0 ++ a.0, (t.0, x.0, (u.0, a.0, subst (λ v. IsTag u.0 t.0 v) (sym a.2) u.1, a.1, refl), refl, a.3), cut_twice bs u.0 a.0 t.2 x.2 u.2 a.4) }) (λ e f. f)
 
-  then_complete : Complete → (s t : HaveRead) (n : ℕ) (x : Datum) (q rest : List ℕ) → IsPayload d n x q → t.0 ≡ s.0 ++ (n, x) ∷ [] → 1 + fields_inside x + t.1 ≡ s.1 → record_then inner s (n, wire_of x, q ++ rest) ≡ Ok (t, rest)
+  then_complete : Complete → (s t : HaveRead) (n : ℕ) (x : FieldData) (q rest : List ℕ) → IsPayload d n x q → t.0 ≡ s.0 ++ (n, x) ∷ [] → 1 + fields_inside x + t.1 ≡ s.1 → record_then inner s (n, wire_of x, q ++ rest) ≡ Ok (t, rest)
   then_complete c s t n x q rest payload e left = rw (field_complete c s.1 n x t.1 q rest payload left) (ap (λ z. Ok ((z, t.1), rest)) (sym e))
 
   then_faulty : Faults → (s : HaveRead) (n : ℕ) (w : WireType) (rest : List ℕ) (e : DecodeError) → FieldFaultOf F s.1 n w rest e → record_then inner s (n, w, rest) ≡ Err e
@@ -224,15 +224,15 @@ module _ (d : ℕ) (inner : GroupReader) (F : ℕ → ℕ → List ℕ → Decod
       unfolding group_records_behind
       group_turn s bs = upto_turn Step (Ends GroupEnds GroupStops) some (λ t rest. record_step inner n t (tag_at rest)) (Err UnexpectedEof) (λ t rest. meets t rest (tag_at rest) refl) s bs
 
-      group_told : (s : HaveRead) (bs : List ℕ) → Agrees (group_records_behind inner n s bs) (UpTo Step GroupEnds s bs) (UpTo Step GroupStops s bs)
+      group_reported : (s : HaveRead) (bs : List ℕ) → Agrees (group_records_behind inner n s bs) (UpTo Step GroupEnds s bs) (UpTo Step GroupStops s bs)
       unfolding group_records_behind
-      group_told s bs =
+      group_reported s bs =
           let all = upto_sound Step (Ends GroupEnds GroupStops) some (λ t rest. record_step inner n t (tag_at rest)) (Err UnexpectedEof) (λ t rest. meets t rest (tag_at rest) refl) s bs in
           upto_agrees Step GroupEnds GroupStops (scan (λ t rest. record_step inner n t (tag_at rest)) (Err UnexpectedEof) s bs) s bs all
 
       group_read : (s : ℕ) (bs : List ℕ) → Agrees (group_records_behind inner n ([], s) bs) (λ v. (mid : List ℕ) × TakesRecords d s bs v.0 v.1 mid × TakesTag mid n wire.EndGroup v.2)
           (λ e. (rs : Records) × (left : ℕ) × (rest : List ℕ) × TakesRecords d s bs rs left rest × NextFault (λ m. m ≡ n) F left rest e)
-      group_read s bs = agree_weaker (group_told ([], s) bs)
+      group_read s bs = agree_weaker (group_reported ([], s) bs)
           (λ v (t, mid, w, (a, b, u)). (mid, subst (λ z. TakesRecords d s bs z v.1 mid) (sym a) (subst (λ z. TakesRecords d s bs (records_of t.0) z mid) (sym b) (reached s bs mid t w)), u))
           (λ e (t, rest, w, f). (records_of t.0, t.1, rest, reached s bs rest t w, f))
 
@@ -273,22 +273,22 @@ module _ (d : ℕ) (inner : GroupReader) (F : ℕ → ℕ → List ℕ → Decod
   next_falls h s bs x e = let u = agree_ok (record_next inner s bs) x (next_sound h s bs) e in omega (arith, some s x.0 u.0 u.1, ap length u.2, length-append u.0 x.1)
 
   module _ (h : Sound) (c : Complete) (k : Faults) where
-    told : (s : HaveRead) (bs : List ℕ) (e : DecodeError) → Stops s bs e → Answers (Unit {0}) (record_next inner s bs) e
-    told s bs e f = answer (next_faulty k s bs e f)
+    reported : (s : HaveRead) (bs : List ℕ) (e : DecodeError) → Stops s bs e → Answers (Unit {0}) (record_next inner s bs) e
+    reported s bs e f = answer (next_faulty k s bs e f)
 
     pub records_sound_in : (s : ℕ) (bs : List ℕ) → Agrees (records_behind inner ([], s) bs) (λ v. TakesRecords d s bs v.0 v.1 v.2 × (v.2 ≡ []))
         (λ e. (rs : Records) × (left : ℕ) × (rest : List ℕ) × TakesRecords d s bs rs left rest × (0 < length rest) × NextFault (λ m. ⊥) F left rest e)
-    records_sound_in s bs = agree_bind (along_sound Step (record_next inner) Stops (next_sound h) (next_complete c) (Unit {0}) told some ([], s) bs)
+    records_sound_in s bs = agree_bind (along_sound Step (record_next inner) Stops (next_sound h) (next_complete c) (Unit {0}) reported some ([], s) bs)
         (λ t w. record { holds = (reached s bs [] t w, refl) }) (λ e (t, rest, w, o, f). (records_of t.0, t.1, rest, reached s bs rest t w, has_byte rest o, f))
 
     pub records_complete_in : (s left : ℕ) (rs : Records) (bs : List ℕ) → Parse d bs rs → field_count rs + left ≡ s → records_behind inner ([], s) bs ≡ Ok (rs, left, [])
     records_complete_in s left rs bs x q =
-        rw (along_complete Step (record_next inner) Stops (next_sound h) (next_complete c) (Unit {0}) told some ([], s) (list_of rs, left) bs (reaches s left bs [] rs (bs, x, q, sym (append-nil bs))))
+        rw (along_complete Step (record_next inner) Stops (next_sound h) (next_complete c) (Unit {0}) reported some ([], s) (list_of rs, left) bs (reaches s left bs [] rs (bs, x, q, sym (append-nil bs))))
         (ap (λ z. Ok (z, left, [])) (records-list rs))
 
     pub records_faulty_in : (s left : ℕ) (rs : Records) (bs rest : List ℕ) (e : DecodeError) → TakesRecords d s bs rs left rest → 0 < length rest → NextFault (λ m. ⊥) F left rest e → records_behind inner ([], s) bs ≡ Err e
     records_faulty_in s left rs bs rest e t o x =
-        let q = along_faulty Step (record_next inner) Stops (next_sound h) (next_complete c) (Unit {0}) told some ([], s) bs e ((list_of rs, left), rest, reaches s left bs rest rs t, not_nil rest o, x) in
+        let q = along_faulty Step (record_next inner) Stops (next_sound h) (next_complete c) (Unit {0}) reported some ([], s) bs e ((list_of rs, left), rest, reaches s left bs rest rs t, not_nil rest o, x) in
         rw q.1 (ap (λ z. Err z) (sym (q.2 tt)))
 
 -- ---- groups nested at most d deep

@@ -4,16 +4,16 @@ use Rattle.std.specs.List.{filter, items_where_true}
 use Rattle.std.specs.List.Retain.{IsFiltered, ReturnsInTurn}
 use Rattle.std.proofs.lemmas.Bool.{false_from_ne_true}
 use Rattle.std.proofs.lemmas.List.{take_all}
-use Rattle.buffa_wire.specs.Records.{Datum, Records, one, no_records, records_of, list_of, Held}
+use Rattle.buffa_wire.specs.Records.{FieldData, Records, one, no_records, records_of, list_of, Held}
 use Rattle.buffa_wire.specs.Equal.{held_eq, records_eq-Decides, field_eq, field_eq-Decides}
 use Rattle.buffa_wire.specs.View.{CalledAtRecord, record_of, records_in}
 use Rattle.buffa_wire.specs.declared.unknown_fields.UnknownField.{UnknownField}
 
-pub list-records : (rs : List (ℕ × Datum)) → list_of (records_of rs) ≡ rs
+pub list-records : (rs : List (ℕ × FieldData)) → list_of (records_of rs) ≡ rs
 list-records [] = refl
 list-records (r ∷ rs) = ap (λ q. r ∷ q) (list-records rs)
 
-pub empty_records : (rs : List (ℕ × Datum)) → records_of rs ≡ no_records → rs ≡ []
+pub empty_records : (rs : List (ℕ × FieldData)) → records_of rs ≡ no_records → rs ≡ []
 empty_records rs e = sym (list-records rs) ∙ ap list_of e
 
 pub records-list : (rs : Records) → records_of (list_of rs) ≡ rs
@@ -24,11 +24,11 @@ pub length-records_in : (fs : List UnknownField) → length (records_in fs) ≡ 
 length-records_in [] = refl
 length-records_in (f ∷ fs) = ap (λ n. suc n) (length-records_in fs)
 
-step : (b : Bool) (f : UnknownField) (fs : List UnknownField) {q : List (ℕ × Datum)} → records_in fs ≡ q → records_in (cond b (f ∷ fs) fs) ≡ cond b (record_of f ∷ q) q
+step : (b : Bool) (f : UnknownField) (fs : List UnknownField) {q : List (ℕ × FieldData)} → records_in fs ≡ q → records_in (cond b (f ∷ fs) fs) ≡ cond b (record_of f ∷ q) q
 step true f fs e = ap (λ l. record_of f ∷ l) e
 step false f fs e = e
 
-pub filter-records_in : (p : ℕ × Datum → Bool) (fs : List UnknownField) → records_in (filter (λ f. p (record_of f)) fs) ≡ filter p (records_in fs)
+pub filter-records_in : (p : ℕ × FieldData → Bool) (fs : List UnknownField) → records_in (filter (λ f. p (record_of f)) fs) ≡ filter p (records_in fs)
 filter-records_in p [] = refl
 filter-records_in p (f ∷ fs) = step (p (record_of f)) f _ (filter-records_in p fs)
 

@@ -5,9 +5,9 @@ use Rattle.buffa_bytes.specs.declared.wire_type.WireType.{WireType}
 use Rattle.buffa_bytes.specs.declared.wire_type.WireType.TheVariants as wire
 use Rattle.buffa_bytes.specs.declared.error.DecodeError.{DecodeError}
 use Rattle.buffa_wire.specs.RecordReading.{GroupRecordsTakeMemory, ListTakesMemory, PayloadTakesMemory, RecordTakesMemory, field_at}
-use Rattle.buffa_wire.specs.Records.{Datum}
-use Rattle.buffa_bytes.specs.Front.{delimited_at, tag_at}
-use Rattle.buffa_bytes.specs.Left.{IsTailOf, bytes_read}
+use Rattle.buffa_wire.specs.Records.{FieldData}
+use Rattle.buffa_bytes.specs.Readings.{delimited_at, tag_at}
+use Rattle.buffa_bytes.specs.Unread.{IsTailOf, bytes_read}
 use Rattle.buffa_bytes.proofs.TailLemmas.{tail_shorter}
 use Rattle.buffa_wire.specs.BudgetLeft.{BudgetLeft, Lacks, Pays, PaysAtMost, UnknownsSpent, nothing}
 
@@ -16,19 +16,19 @@ pub same_left : (a b : BudgetLeft) → a.unknown ≡ b.unknown → a.memory ≡ 
 same_left a b u m i = record { unknown = u i; memory = m i }
 
 -- what pays a need leaves one budget
-pub one_left : (left need a b : BudgetLeft) → Pays left need a → Pays left need b → a ≡ b
-one_left left need a b (u, m) (v, n) = same_left a b (omega (arith, u, v)) (omega (arith, m, n))
+pub one_left : (left charge a b : BudgetLeft) → Pays left charge a → Pays left charge b → a ≡ b
+one_left left charge a b (u, m) (v, n) = same_left a b (omega (arith, u, v)) (omega (arith, m, n))
 
-pub Pays_nothing : (left over need : BudgetLeft) → need ≡ nothing → over ≡ left → Pays left need over
-Pays_nothing left over need h k = rw (h, k) (omega arith, omega arith)
+pub Pays_nothing : (left over charge : BudgetLeft) → charge ≡ nothing → over ≡ left → Pays left charge over
+Pays_nothing left over charge h k = rw (h, k) (omega arith, omega arith)
 
-pub PaysAtMost_nothing : (left over need : BudgetLeft) → over ≡ left → PaysAtMost left need over
-PaysAtMost_nothing left over need k = rw k (omega arith, omega arith, omega arith, omega arith)
+pub PaysAtMost_nothing : (left over charge : BudgetLeft) → over ≡ left → PaysAtMost left charge over
+PaysAtMost_nothing left over charge k = rw k (omega arith, omega arith, omega arith, omega arith)
 
 -- what was paid was there
-pub not_lacked : (left need over : BudgetLeft) → Pays left need over → Lacks left need → ⊥
-not_lacked left need over (u, m) (inl few) = omega (arith, u, few)
-not_lacked left need over (u, m) (inr few) = omega (arith, m, few)
+pub not_lacked : (left charge over : BudgetLeft) → Pays left charge over → Lacks left charge → ⊥
+not_lacked left charge over (u, m) (inl few) = omega (arith, u, few)
+not_lacked left charge over (u, m) (inr few) = omega (arith, m, few)
 
 -- ---- unknown fields left
 pub none_spent : (n s t : ℕ) → t ≡ s → UnknownsSpent n s t
@@ -94,7 +94,7 @@ module _ (d s left : ℕ) (all now : List ℕ) (begun : IsBegun d s all left now
   pub begins_taking : RecordTakesMemory d left t.1 t.2 → ListTakesMemory d s all
   begins_taking h = begins begun (inr h)
 
-  pub begins_reading : (x : Datum × ℕ × List ℕ) → field_at d left t.0 t.1 t.2 ≡ Ok x → ListTakesMemory d s all
+  pub begins_reading : (x : FieldData × ℕ × List ℕ) → field_at d left t.0 t.1 t.2 ≡ Ok x → ListTakesMemory d s all
   begins_reading x h = begins begun (inl (is_there (field_at d left t.0 t.1 t.2) x h))
 
 -- the fields of a group

@@ -14,11 +14,11 @@ use Rattle.buffa_wire.specs.BudgetLeft.{BudgetLeft, nothing, plus}
 use Rattle.buffa_bytes.specs.Field.{IsTag, Payload, PayloadFault, SomeField}
 use Rattle.buffa_bytes.specs.Join.{Join}
 use Rattle.buffa_wire.specs.Message.{IsFieldMerged}
-use Rattle.buffa_bytes.specs.Front.{skip_at, tag_at, FullOnlyIf, Gives}
+use Rattle.buffa_bytes.specs.Readings.{skip_at, tag_at, FullOnlyIf, Gives}
 use Rattle.buffa_wire.proofs.CostLemmas.{IsPaid, cost_empty, cost_free, cost_next as costs_next, cost_no_payload, cost_no_tag, field_alone, paid}
 use Rattle.buffa_wire.proofs.ByFieldLemmas.{IsSame, IsSound, Same, empty, fields, merged_alike, next, read, read_last, refused}
-use Rattle.buffa_wire.specs.ByField.{FieldNeed, FieldReader, cost_by, merged_by, value_of}
-use Rattle.buffa_wire.specs.Takes.{IsTaken, Leads, Need, Piece, ReadsBack, Stays, Taker, Untaken, answer, cost_of, costs_nothing, framed, front_of, joined_fields, merged_of, taken_by}
+use Rattle.buffa_wire.specs.ByField.{FieldCharge, FieldReader, cost_by, merged_by, value_of}
+use Rattle.buffa_wire.specs.Takes.{IsTaken, Leads, Charge, Piece, ReadsBack, Stays, Taker, Untaken, answer, cost_of, costs_nothing, framed, front_of, joined_fields, merged_of, taken_by}
 
 -- ---- the payload is cut
 front_is : (p x : List ℕ) → front_of (p ++ x) x ≡ p
@@ -80,9 +80,9 @@ module _ {X : Type 0} (takes : Taker X) (d : ℕ) where
       let u = agree_ok (skip_at d n w bs) rest (payload_sound d n w bs) is in
       (UnexpectedEof, ap (framed takes d v n w) u.2 ∙ framed_at v n w u.0 rest u.1 ∙ ap (answer rest) (h u.0 rest u.1 u.2), k)
 
-  module _ (need : Need) (stays : Stays need) where
+  module _ (charge : Charge) (stays : Stays charge) where
     paid_of : (r : Result (Unit {0}) DecodeError) (old new : X) (n : ℕ) (w : WireType) (bs rest : List ℕ) (before after : BudgetLeft) →
-        IsTaken takes need d old n w bs before r new after rest → IsPaid (need d) d (stays d) (framed takes d) framed_sound framed_same r old new n w bs rest before after
+        IsTaken takes charge d old n w bs before r new after rest → IsPaid (charge d) d (stays d) (framed takes d) framed_sound framed_same r old new n w bs rest before after
     paid_of (Ok x) old new n w bs rest before after (p, h, e, t, k) = (ap (framed takes d old n w) e ∙ framed_at old n w p rest h ∙ ap (answer rest) t, k)
     paid_of (Err e) old new n w bs rest before after (k, h, full) = (
       k,
@@ -93,35 +93,35 @@ module _ {X : Type 0} (takes : Taker X) (d : ℕ) where
     )
 
     pub taken_merges : (r : Result (Unit {0}) DecodeError) (old new : X) (n : ℕ) (w : WireType) (bs rest : List ℕ) (before after : BudgetLeft) →
-        IsTaken takes need d old n w bs before r new after rest → IsFieldMerged (merged_of takes) (cost_of need) d old n w bs before r new after rest
+        IsTaken takes charge d old n w bs before r new after rest → IsFieldMerged (merged_of takes) (cost_of charge) d old n w bs before r new after rest
     unfolding merged_of cost_of
     taken_merges r old new n w bs rest before after h =
-        paid (need d) d (stays d) (framed takes d) framed_sound framed_same r old new n w bs rest before after (paid_of r old new n w bs rest before after h)
+        paid (charge d) d (stays d) (framed takes d) framed_sound framed_same r old new n w bs rest before after (paid_of r old new n w bs rest before after h)
 
-pub cost_of_none : (need : Need) (d : ℕ) → cost_of need d [] ≡ nothing
+pub cost_of_none : (charge : Charge) (d : ℕ) → cost_of charge d [] ≡ nothing
 unfolding cost_of
-cost_of_none need d = cost_empty (need d) d
+cost_of_none charge d = cost_empty (charge d) d
 
-pub cost_of_no_tag : (need : Need) (d : ℕ) (bs : List ℕ) (e : DecodeError) → tag_at bs ≡ Err e → cost_of need d bs ≡ nothing
+pub cost_of_no_tag : (charge : Charge) (d : ℕ) (bs : List ℕ) (e : DecodeError) → tag_at bs ≡ Err e → cost_of charge d bs ≡ nothing
 unfolding cost_of
-cost_of_no_tag need d bs e h = cost_no_tag (need d) d bs e h
+cost_of_no_tag charge d bs e h = cost_no_tag (charge d) d bs e h
 
-pub cost_of_no_payload : (need : Need) (d : ℕ) (t bs : List ℕ) (n : ℕ) (w : WireType) (e : DecodeError) → IsTag t n w → PayloadFault d n w bs e → cost_of need d (t ++ bs) ≡ need d n w bs
+pub cost_of_no_payload : (charge : Charge) (d : ℕ) (t bs : List ℕ) (n : ℕ) (w : WireType) (e : DecodeError) → IsTag t n w → PayloadFault d n w bs e → cost_of charge d (t ++ bs) ≡ charge d n w bs
 unfolding cost_of
-cost_of_no_payload need d t bs n w e tag h = cost_no_payload (need d) d t bs n w e tag h
+cost_of_no_payload charge d t bs n w e tag h = cost_no_payload (charge d) d t bs n w e tag h
 
-pub cost_of_next : (need : Need) → Stays need → (d : ℕ) (f r : List ℕ) → SomeField d f → cost_of need d (f ++ r) ≡ plus (cost_of need d f) (cost_of need d r)
+pub cost_of_next : (charge : Charge) → Stays charge → (d : ℕ) (f r : List ℕ) → SomeField d f → cost_of charge d (f ++ r) ≡ plus (cost_of charge d f) (cost_of charge d r)
 unfolding cost_of
-cost_of_next need stays d f r h = costs_next (need d) d (stays d) f r h
+cost_of_next charge stays d f r h = costs_next (charge d) d (stays d) f r h
 
-pub cost_of_one : (need : Need) → Stays need → (d n : ℕ) (w : WireType) (t p : List ℕ) → IsTag t n w → Payload d n w p → cost_of need d (t ++ p) ≡ need d n w p
+pub cost_of_one : (charge : Charge) → Stays charge → (d n : ℕ) (w : WireType) (t p : List ℕ) → IsTag t n w → Payload d n w p → cost_of charge d (t ++ p) ≡ charge d n w p
 unfolding cost_of
-cost_of_one need stays d n w t p tag h = field_alone (need d) d (stays d) t p n w tag h
+cost_of_one charge stays d n w t p tag h = field_alone (charge d) d (stays d) t p n w tag h
 
 -- fields that cost nothing each cost nothing together
-pub cost_of_free : (need : Need) (d : ℕ) → ((n : ℕ) (w : WireType) (bs : List ℕ) → need d n w bs ≡ nothing) → (bs : List ℕ) → cost_of need d bs ≡ nothing
+pub cost_of_free : (charge : Charge) (d : ℕ) → ((n : ℕ) (w : WireType) (bs : List ℕ) → charge d n w bs ≡ nothing) → (bs : List ℕ) → cost_of charge d bs ≡ nothing
 unfolding cost_of
-cost_of_free need d free bs = ap (λ (f : FieldNeed). cost_by f d bs) (λ i n w b. free n w b i) ∙ cost_free d bs
+cost_of_free charge d free bs = ap (λ (f : FieldCharge). cost_by f d bs) (λ i n w b. free n w b i) ∙ cost_free d bs
 
 -- ---- fields that are passed over
 pub skipped : {X : Type 0} (takes : Taker X) (d : ℕ) (v : X) (n : ℕ) (w : WireType) (bs rest : List ℕ) (before : BudgetLeft) (r : Result (Unit {0}) DecodeError) →
@@ -139,10 +139,10 @@ skipped takes d v n w bs rest before (Err e) all h = (
 )
 
 -- an end tag takes no memory
-pub taken_full : {X : Type 0} (takes : Taker X) (need : Need) (d : ℕ) (old new : X) (n : ℕ) (w : WireType) (bs rest : List ℕ) (before after : BudgetLeft) (r : Result (Unit {0}) DecodeError) →
-    IsTaken takes need d old n w bs before r new after rest → FullOnlyIf r (w ≢ EndGroup)
-taken_full takes need d old new n w bs rest before after (Ok _) h = tt
-taken_full takes need d old new n w bs rest before after (Err e) h = h.2
+pub taken_full : {X : Type 0} (takes : Taker X) (charge : Charge) (d : ℕ) (old new : X) (n : ℕ) (w : WireType) (bs rest : List ℕ) (before after : BudgetLeft) (r : Result (Unit {0}) DecodeError) →
+    IsTaken takes charge d old n w bs before r new after rest → FullOnlyIf r (w ≢ EndGroup)
+taken_full takes charge d old new n w bs rest before after (Ok _) h = tt
+taken_full takes charge d old new n w bs rest before after (Err e) h = h.2
 
 -- memory that runs out only where P holds runs out only where Q does, if P says so
 pub full_weaker : {T : Type 0} (P Q : Type 0) (r : Result T DecodeError) → FullOnlyIf r P → (P → Q) → FullOnlyIf r Q
@@ -202,9 +202,9 @@ module _ {X : Type 0} (field : ℕ → FieldReader X) (sound : (d : ℕ) → IsS
       (λ v n w bs. field_alike d v n w bs (skip_at d n w bs) refl) v b
 
 -- ---- what fields cost, as payloads
-pub cost_by_is : (need : Need) (d : ℕ) (b : List ℕ) → cost_by (need d) d b ≡ cost_of need d b
+pub cost_by_is : (charge : Charge) (d : ℕ) (b : List ℕ) → cost_by (charge d) d b ≡ cost_of charge d b
 unfolding cost_of
-cost_by_is need d b = refl
+cost_by_is charge d b = refl
 
 pub nothing_is : (d : ℕ) (b : List ℕ) → nothing ≡ cost_of costs_nothing d b
 unfolding cost_of

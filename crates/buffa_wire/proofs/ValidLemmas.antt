@@ -3,8 +3,8 @@ use Rattle.std.proofs.Common.{◌≡◌, ℕ, ◌-◌, ◌^◌, ◌<◌, List, [
 use Rattle.std.specs.Int.{from_le_bytes, w32, w64}
 use Rattle.std.specs.List.{AllByRecursion}
 use Rattle.buffa_bytes.specs.Varint.{IsByte}
-use Rattle.buffa_wire.specs.Parse.{AreValid, IsPayload, IsValidDatum, Parse}
-use Rattle.buffa_wire.specs.Records.{Datum, Records, bytes, fixed32, fixed64, group, no_records, one, varint}
+use Rattle.buffa_wire.specs.Parse.{AreValid, IsPayload, IsValidFieldData, Parse}
+use Rattle.buffa_wire.specs.Records.{FieldData, Records, bytes, fixed32, fixed64, group, no_records, one, varint}
 
 -- ---- what holds of a list holds of its parts
 pub all_before : {A : Type 0} (P : A → Type 0) (xs ys : List A) → AllByRecursion P (xs ++ ys) → AllByRecursion P xs
@@ -39,7 +39,7 @@ mutual
       let field = as_bytes f (t ++ p) is (all_before IsByte f r whole) in
       (tag.0, payload_valid x d n p (all_behind IsByte t p field) payload, parsed_valid rs d r (all_behind IsByte f r whole) next)
 
-  pub payload_valid : (x : Datum) (d n : ℕ) (p : List ℕ) → AreBytes p → IsPayload d n x p → IsValidDatum x
+  pub payload_valid : (x : FieldData) (d n : ℕ) (p : List ℕ) → AreBytes p → IsPayload d n x p → IsValidFieldData x
   payload_valid (varint v) d n p k h = h.fits
   payload_valid (fixed32 v) d n p k h = subst (λ z. z < 2 ^ 32) (sym h.1) (four_fit p h.0 k)
   payload_valid (fixed64 v) d n p k h = subst (λ z. z < 2 ^ 64) (sym h.1) (eight_fit p h.0 k)

@@ -36,14 +36,14 @@ abbrev pub minus : BudgetLeft → BudgetLeft → BudgetLeft
 minus b c = record { unknown = b.unknown - c.unknown; memory = b.memory - c.memory }
 
 -- what is needed by what was read, if it was read
-abbrev pub need_by : {A : Type 0} → Result A DecodeError → (A → BudgetLeft) → BudgetLeft
-need_by (Ok x) f = f x
-need_by (Err e) f = nothing
+abbrev pub charge_by : {A : Type 0} → Result A DecodeError → (A → BudgetLeft) → BudgetLeft
+charge_by (Ok x) f = f x
+charge_by (Err e) f = nothing
 
 -- what the piece at the front costs, a malformed one too, and then what those behind it cost
 abbrev pub costs : {S : Type 0} → BudgetLeft → Result (S × List ℕ) DecodeError → Scanned S BudgetLeft
-costs need (Ok x) = goes x.0 x.1 (plus need)
-costs need (Err e) = ends need
+costs charge (Ok x) = goes x.0 x.1 (plus charge)
+costs charge (Err e) = ends charge
 
 -- one budget has room for what another is
 abbrev pub Covers : BudgetLeft → BudgetLeft → Type 0
@@ -51,17 +51,17 @@ Covers b c = (c.unknown ≤ b.unknown) × (c.memory ≤ b.memory)
 
 -- of left, need can't be spent
 abbrev pub Lacks : BudgetLeft → BudgetLeft → Type 0
-Lacks left need = (left.unknown < need.unknown) ⊎ (left.memory < need.memory)
+Lacks left charge = (left.unknown < charge.unknown) ⊎ (left.memory < charge.memory)
 
 -- of before, need is spent, and after is left
 abbrev pub Pays : BudgetLeft → BudgetLeft → BudgetLeft → Type 0
-Pays before need after = (after.unknown + need.unknown ≡ before.unknown) × (after.memory + need.memory ≡ before.memory)
+Pays before charge after = (after.unknown + charge.unknown ≡ before.unknown) × (after.memory + charge.memory ≡ before.memory)
 
 -- of before, at most need is spent, and after is left
 abbrev pub PaysAtMost : BudgetLeft → BudgetLeft → BudgetLeft → Type 0
-PaysAtMost before need after =
-    (after.unknown ≤ before.unknown) × (before.unknown ≤ after.unknown + need.unknown)
-    × (after.memory ≤ before.memory) × (before.memory ≤ after.memory + need.memory)
+PaysAtMost before charge after =
+    (after.unknown ≤ before.unknown) × (before.unknown ≤ after.unknown + charge.unknown)
+    × (after.memory ≤ before.memory) × (before.memory ≤ after.memory + charge.memory)
 
 -- of before unknown fields left, at most n were spent, and after are left
 abbrev pub UnknownsSpent : ℕ → ℕ → ℕ → Type 0

@@ -1,7 +1,7 @@
 -- A message field by field: what a type says of one field decides what all bytes mean to it.
 -- Source: the protobuf encoding guide, "Message Structure".
 use Rattle.std.specs.Prelude.{ℕ, List, Option, Some, None, Result, Ok, Err}
-use Rattle.buffa_bytes.specs.Front.{tag_at, skip_at, ◌>>=◌}
+use Rattle.buffa_bytes.specs.Readings.{tag_at, skip_at, ◌>>=◌}
 use Rattle.buffa_bytes.specs.Scan.{Scanned, scan, parse_all}
 use Rattle.buffa_bytes.specs.Scan.Scanned.{ends}
 use Rattle.buffa_bytes.specs.declared.wire_type.WireType.{WireType}
@@ -26,18 +26,18 @@ abbrev pub merged_by : {X : Type 0} → FieldReader X → X → List ℕ → Opt
 merged_by field v bs = value_of (parse_all (next_at field) v bs)
 
 -- What the field whose tag, of a number and a wire type, was read costs, a malformed one too.
-abbrev pub FieldNeed : Type 0
-FieldNeed = ℕ → WireType → List ℕ → BudgetLeft
+abbrev pub FieldCharge : Type 0
+FieldCharge = ℕ → WireType → List ℕ → BudgetLeft
 
 -- a reading that carries no state
 abbrev pub stateless : Result (List ℕ) DecodeError → Result (Unit {0} × List ℕ) DecodeError
 stateless r = r >>= (λ rest. Ok (tt, rest))
 
 -- what the field at the front costs, and then those behind it; nothing where no tag was read
-abbrev pub field_costs : FieldNeed → ℕ → Result (ℕ × WireType × List ℕ) DecodeError → Scanned (Unit {0}) BudgetLeft
-field_costs need d (Ok t) = costs (need t.0 t.1 t.2) (stateless (skip_at d t.0 t.1 t.2))
-field_costs need d (Err e) = ends nothing
+abbrev pub field_costs : FieldCharge → ℕ → Result (ℕ × WireType × List ℕ) DecodeError → Scanned (Unit {0}) BudgetLeft
+field_costs charge d (Ok t) = costs (charge t.0 t.1 t.2) (stateless (skip_at d t.0 t.1 t.2))
+field_costs charge d (Err e) = ends nothing
 
 -- what fields cost, to the end of the bytes or to what is no field, which counts too
-unfoldable pub cost_by : FieldNeed → ℕ → List ℕ → BudgetLeft
-cost_by need d bs = scan (λ _ rest. field_costs need d (tag_at rest)) nothing tt bs
+unfoldable pub cost_by : FieldCharge → ℕ → List ℕ → BudgetLeft
+cost_by charge d bs = scan (λ _ rest. field_costs charge d (tag_at rest)) nothing tt bs

@@ -2,26 +2,26 @@
 use Rattle.std.specs.Prelude.{◌≡◌, ℕ, ◌≤◌, max, List, [], ◌∷◌, refl}
 use Rattle.std.proofs.Common.{arith, ap}
 use denote.Param.Weighed.{most}
-use Rattle.buffa_wire.specs.Records.{Datum, records_of, height, records_height, datum_height}
-use Rattle.buffa_wire.specs.View.{datum_of, records_in}
+use Rattle.buffa_wire.specs.Records.{FieldData, records_of, height, records_height, field_data_height}
+use Rattle.buffa_wire.specs.View.{field_data_of, records_in}
 use Rattle.buffa_wire.specs.declared.unknown_fields.UnknownField.{UnknownField}
 use Rattle.buffa_wire.specs.declared.unknown_fields.UnknownFieldData.{UnknownFieldData}
 use Rattle.buffa_wire.specs.declared.unknown_fields.UnknownFieldData.TheVariants.{Varint, Fixed32, Fixed64, LengthDelimited, Group}
 use Rattle.buffa_wire.specs.declared.unknown_fields.UnknownFields.TheDeep.{deep-UnknownField, deep-UnknownFieldData}
 
-pub height-records : (rs : List (ℕ × Datum)) → records_height (records_of rs) ≡ height rs
+pub height-records : (rs : List (ℕ × FieldData)) → records_height (records_of rs) ≡ height rs
 height-records [] = refl
-height-records (r ∷ rs) = ap (λ n. max (datum_height r.1) n) (height-records rs)
+height-records (r ∷ rs) = ap (λ n. max (field_data_height r.1) n) (height-records rs)
 
-pub deep_datum : (p : UnknownFieldData) → deep-UnknownFieldData p ≤ datum_height (datum_of p)
-deep_datum (Varint v) = omega arith
-deep_datum (Fixed32 v) = omega arith
-deep_datum (Fixed64 v) = omega arith
-deep_datum (LengthDelimited bs) = omega arith
-deep_datum (Group fs) = omega (arith, height-records fs.records)
+pub deep_field_data : (p : UnknownFieldData) → deep-UnknownFieldData p ≤ field_data_height (field_data_of p)
+deep_field_data (Varint v) = omega arith
+deep_field_data (Fixed32 v) = omega arith
+deep_field_data (Fixed64 v) = omega arith
+deep_field_data (LengthDelimited bs) = omega arith
+deep_field_data (Group fs) = omega (arith, height-records fs.records)
 
-pub deep_field : (f : UnknownField) → deep-UnknownField f ≤ datum_height (datum_of f.payload)
-deep_field f = omega (arith, deep_datum f.payload)
+pub deep_field : (f : UnknownField) → deep-UnknownField f ≤ field_data_height (field_data_of f.payload)
+deep_field f = omega (arith, deep_field_data f.payload)
 
 pub deep_fields : (fs : List UnknownField) → most deep-UnknownField fs ≤ height (records_in fs)
 deep_fields [] = omega arith

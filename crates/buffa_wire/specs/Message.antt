@@ -5,21 +5,21 @@ use Rattle.buffa_bytes.specs.declared.error.DecodeError.TheVariants.{OutOfMemory
 use Rattle.buffa_bytes.specs.declared.wire_type.WireType.{WireType}
 use Rattle.buffa_bytes.specs.declared.wire_type.WireType.TheVariants.{EndGroup}
 use Rattle.buffa_bytes.specs.Field.{IsTag, Payload, TakesPayload}
-use Rattle.buffa_bytes.specs.Front.{delimited_at, tag_at}
+use Rattle.buffa_bytes.specs.Readings.{delimited_at, tag_at}
 use Rattle.buffa_wire.specs.declared.context.DecodeContext.{DecodeContext}
 use Rattle.buffa_wire.specs.BudgetLeft.{BudgetLeft, IsLimit, Lacks, Pays, PaysAtMost, defaults, nothing}
 
 -- why bytes aren't merged that mean so and need so much, where left is left: that isn't left, and then any error may
 -- be told; or they mean no value, and then any but a limit's
 abbrev pub MergeFault : {X : Type 0} → Option X → BudgetLeft → BudgetLeft → DecodeError → Type 0
-MergeFault meant need left e = Lacks left need ⊎ ((meant ≡ None) × (IsLimit e → ⊥))
+MergeFault meant charge left e = Lacks left charge ⊎ ((meant ≡ None) × (IsLimit e → ⊥))
 
 -- merging bytes that mean so and need so much leaves new: exactly the need is spent, and on a refusal at most that
 abbrev pub IsMerged : {X T : Type 0} → Option X → BudgetLeft → BudgetLeft → Result T DecodeError → X → BudgetLeft → Type 0
-IsMerged meant need before r new after =
+IsMerged meant charge before r new after =
     MatchResult r
-    (λ _. (meant ≡ Some new) × Pays before need after)
-    (λ e. PaysAtMost before need after × (e ≢ OutOfMemory → MergeFault meant need before e))
+    (λ _. (meant ≡ Some new) × Pays before charge after)
+    (λ e. PaysAtMost before charge after × (e ≢ OutOfMemory → MergeFault meant charge before e))
 
 -- a tag begins the bytes, and it is no end tag: where merging them may take memory
 abbrev pub BeginsField : List ℕ → Type 0
@@ -31,10 +31,10 @@ MergesBytes merged cost d old bs before r new after = IsMerged (merged d old bs)
 
 -- the same from the default budget: what bytes mean is left where their need is there, and else it tells why not
 abbrev pub IsMergedAlone : {X T : Type 0} → Option X → BudgetLeft → Result T DecodeError → X → Type 0
-IsMergedAlone meant need r new =
+IsMergedAlone meant charge r new =
     MatchResult r
-    (λ _. (meant ≡ Some new) × (Lacks defaults need → ⊥))
-    (λ e. e ≢ OutOfMemory → MergeFault meant need defaults e)
+    (λ _. (meant ≡ Some new) × (Lacks defaults charge → ⊥))
+    (λ e. e ≢ OutOfMemory → MergeFault meant charge defaults e)
 
 -- What a refusal speaks of, where bs follows the tag of a field: a whole payload of the field at the front; or, where
 -- none begins bs, all of them.
@@ -70,7 +70,7 @@ Unchanged d old n w bs before e new = new ≡ old
 -- What stands where merging bytes was refused by an error: fields at the front were merged, and paid for; what follows
 -- them begins with no tag, and the value is what they made; or with the tag of a field that is refused by this very
 -- error, no end tag where memory ran out, and there stands what that field leaves of it.
-pub record Stands {X : Type 0} (merged : ℕ → X → List ℕ → Option X) (cost : ℕ → List ℕ → BudgetLeft) (Refused : FieldRefused X) (d : ℕ) (old : X) (bytes : List ℕ) (before : BudgetLeft) (e : DecodeError) (new : X) : Type 0 where
+pub record PartlyMerged {X : Type 0} (merged : ℕ → X → List ℕ → Option X) (cost : ℕ → List ℕ → BudgetLeft) (Refused : FieldRefused X) (d : ℕ) (old : X) (bytes : List ℕ) (before : BudgetLeft) (e : DecodeError) (new : X) : Type 0 where
   pub front : List ℕ
   pub rest : List ℕ
   pub split : bytes ≡ front ++ rest
@@ -86,10 +86,10 @@ pub record Stands {X : Type 0} (merged : ℕ → X → List ℕ → Option X) (c
 
 -- The same of a message inside a field, one level down, where its length and so many bytes are there; or memory ran out
 -- before any of it was merged.
-abbrev pub StandsInside : {X : Type 0} → (ℕ → X → List ℕ → Option X) → (ℕ → List ℕ → BudgetLeft) → FieldRefused X → ℕ → X → List ℕ → BudgetLeft → DecodeError → X → Type 0
-StandsInside merged cost Refused d old bs before e new =
+abbrev pub PartlyMergedInside : {X : Type 0} → (ℕ → X → List ℕ → Option X) → (ℕ → List ℕ → BudgetLeft) → FieldRefused X → ℕ → X → List ℕ → BudgetLeft → DecodeError → X → Type 0
+PartlyMergedInside merged cost Refused d old bs before e new =
     (c : ℕ) (b rest : List ℕ) → d ≡ suc c → delimited_at bs ≡ Ok (b, rest) →
-    Stands merged cost Refused c old b before e new ⊎ ((e ≡ OutOfMemory) × (new ≡ old))
+    PartlyMerged merged cost Refused c old b before e new ⊎ ((e ≡ OutOfMemory) × (new ≡ old))
 
 -- What a type says, besides, of the field that was merged, at a depth: of the message that stood, the number, the wire type,
 -- the bytes and the budget; and of the answer, the message, the budget and the bytes that it left.

@@ -9,8 +9,8 @@ use Rattle.buffa_bytes.specs.declared.error.DecodeError.TheVariants.{RecursionLi
 use Rattle.buffa_bytes.specs.Number.{IsNumber}
 use Rattle.buffa_bytes.specs.Field.{IsTag, TagFault, TakesTag}
 use Rattle.buffa_bytes.specs.Varint.{IsVarint}
-use Rattle.buffa_bytes.specs.Content.{ContentFault}
-use Rattle.buffa_wire.specs.Records.{Datum, varint, fixed32, fixed64, bytes, group, Records, no_records, one}
+use Rattle.buffa_bytes.specs.PayloadValue.{PayloadValueFault}
+use Rattle.buffa_wire.specs.Records.{FieldData, varint, fixed32, fixed64, bytes, group, Records, no_records, one}
 use Rattle.buffa_wire.specs.Encoding.{wire_of}
 
 -- f is a tag of number n and wire type w, and a payload of P
@@ -25,7 +25,7 @@ abbrev mutual
 
   -- p is a payload, in a field of number n, that holds x: a varint its value, four or eight bytes the number that they
   -- spell, lowest byte first, a length and so many bytes these bytes, fields and an end tag of number n a group's records
-  pub IsPayload : ℕ → ℕ → Datum → List ℕ → Type 0
+  pub IsPayload : ℕ → ℕ → FieldData → List ℕ → Type 0
   IsPayload d n (varint v) p = IsVarint p v
   IsPayload d n (fixed32 v) p = (length p ≡ 4) × (v ≡ from_le_bytes w32 p)
   IsPayload d n (fixed64 v) p = (length p ≡ 8) × (v ≡ from_le_bytes w64 p)
@@ -36,40 +36,40 @@ abbrev mutual
 abbrev mutual
   pub Fits : Records → Type 0
   Fits no_records = Unit {0}
-  Fits (one n x rs) = FitsDatum x × Fits rs
+  Fits (one n x rs) = FitsFieldData x × Fits rs
 
-  pub FitsDatum : Datum → Type 0
-  FitsDatum (varint v) = Unit {0}
-  FitsDatum (fixed32 v) = Unit {0}
-  FitsDatum (fixed64 v) = Unit {0}
-  FitsDatum (bytes v) = length v < 2 ^ 64
-  FitsDatum (group rs) = Fits rs
+  pub FitsFieldData : FieldData → Type 0
+  FitsFieldData (varint v) = Unit {0}
+  FitsFieldData (fixed32 v) = Unit {0}
+  FitsFieldData (fixed64 v) = Unit {0}
+  FitsFieldData (bytes v) = length v < 2 ^ 64
+  FitsFieldData (group rs) = Fits rs
 
 -- records of numbers that a field may have, nested ones too, with data in range
 abbrev mutual
   pub AreValid : Records → Type 0
   AreValid no_records = Unit {0}
-  AreValid (one n x rs) = IsNumber n × IsValidDatum x × AreValid rs
+  AreValid (one n x rs) = IsNumber n × IsValidFieldData x × AreValid rs
 
-  pub IsValidDatum : Datum → Type 0
-  IsValidDatum (varint v) = v < 2 ^ 64
-  IsValidDatum (fixed32 v) = v < 2 ^ 32
-  IsValidDatum (fixed64 v) = v < 2 ^ 64
-  IsValidDatum (bytes v) = Unit {0}
-  IsValidDatum (group rs) = AreValid rs
+  pub IsValidFieldData : FieldData → Type 0
+  IsValidFieldData (varint v) = v < 2 ^ 64
+  IsValidFieldData (fixed32 v) = v < 2 ^ 32
+  IsValidFieldData (fixed64 v) = v < 2 ^ 64
+  IsValidFieldData (bytes v) = Unit {0}
+  IsValidFieldData (group rs) = AreValid rs
 
 -- records whose data are in range
 abbrev mutual
   pub InRange : Records → Type 0
   InRange no_records = Unit {0}
-  InRange (one n x rs) = DatumInRange x × InRange rs
+  InRange (one n x rs) = FieldDataInRange x × InRange rs
 
-  pub DatumInRange : Datum → Type 0
-  DatumInRange (varint v) = v < 2 ^ 64
-  DatumInRange (fixed32 v) = v < 2 ^ 32
-  DatumInRange (fixed64 v) = v < 2 ^ 64
-  DatumInRange (bytes v) = Unit {0}
-  DatumInRange (group rs) = InRange rs
+  pub FieldDataInRange : FieldData → Type 0
+  FieldDataInRange (varint v) = v < 2 ^ 64
+  FieldDataInRange (fixed32 v) = v < 2 ^ 32
+  FieldDataInRange (fixed64 v) = v < 2 ^ 64
+  FieldDataInRange (bytes v) = Unit {0}
+  FieldDataInRange (group rs) = InRange rs
 
 -- what records take of the unknown fields left: one for each record, nested ones too
 abbrev mutual
@@ -77,7 +77,7 @@ abbrev mutual
   field_count no_records = 0
   field_count (one n x rs) = 1 + fields_inside x + field_count rs
 
-  pub fields_inside : Datum → ℕ
+  pub fields_inside : FieldData → ℕ
   fields_inside (varint v) = 0
   fields_inside (fixed32 v) = 0
   fields_inside (fixed64 v) = 0
@@ -86,7 +86,7 @@ abbrev mutual
 
 -- a payload that holds x begins old, new is what follows it, and of s unknown fields left one is spent for the field,
 -- and one for each record inside
-abbrev pub TakesField : ℕ → ℕ → ℕ → WireType → List ℕ → Datum → ℕ → List ℕ → Type 0
+abbrev pub TakesField : ℕ → ℕ → ℕ → WireType → List ℕ → FieldData → ℕ → List ℕ → Type 0
 TakesField d s n w old x left new = (p : List ℕ) × IsPayload d n x p × (wire_of x ≡ w) × (1 + fields_inside x + left ≡ s) × (old ≡ p ++ new)
 
 -- fields that are the records rs begin old, new is what follows them, and of s unknown fields left one is spent for
@@ -98,7 +98,7 @@ TakesRecords d s old rs left new = (b : List ℕ) × Parse d b rs × (field_coun
 -- payload's fault. G says why no group is read.
 abbrev pub InsideFault : (ℕ → ℕ → List ℕ → DecodeError → Type 0) → ℕ → ℕ → WireType → List ℕ → DecodeError → Type 0
 InsideFault G s n wire.StartGroup bs e = G s n bs e
-InsideFault G s n w bs e = ContentFault w bs e
+InsideFault G s n w bs e = PayloadValueFault w bs e
 
 abbrev pub FieldFaultOf : (ℕ → ℕ → List ℕ → DecodeError → Type 0) → ℕ → ℕ → WireType → List ℕ → DecodeError → Type 0
 FieldFaultOf G s n w bs e =

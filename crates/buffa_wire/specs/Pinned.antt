@@ -5,13 +5,13 @@ use Rattle.buffa_bytes.specs.declared.error.DecodeError.{DecodeError}
 use Rattle.buffa_bytes.specs.declared.error.DecodeError.TheVariants.{OutOfMemory}
 use Rattle.buffa_bytes.specs.declared.error.EncodeError.{EncodeError}
 use Rattle.buffa_bytes.specs.Field.{IsTag}
-use Rattle.buffa_bytes.specs.Left.{LeavesUnlessFull, past_no_payload, past_no_delimited}
+use Rattle.buffa_bytes.specs.Unread.{LeavesUnlessFull, past_no_payload, past_no_delimited}
 use Rattle.buffa_wire.specs.BudgetLeft.{BudgetLeft, Lacks, Pays, UnknownTaken}
 use Rattle.buffa_wire.specs.Cache.{Cache}
 use Rattle.buffa_wire.specs.Message.{IsFieldMerged, IsMerged, IsMergedAlone, IsInside, MessageFault}
 use Rattle.buffa_wire.specs.Parse.{FieldFault, Parse, RecordsFault, TakesField, field_count}
 use Rattle.buffa_wire.specs.Passes.{Consumes, IsSized, IsSmall, IsWritten}
-use Rattle.buffa_wire.specs.Records.{Datum, records_of}
+use Rattle.buffa_wire.specs.Records.{FieldData, records_of}
 
 abbrev pub done : {E : Type 0} → Result (Unit {0}) E
 done = Ok tt
@@ -27,13 +27,13 @@ abbrev pub LeavesPayload : Result (Unit {0}) DecodeError → WireType → List �
 LeavesPayload r w bs left = LeavesUnlessFull r (past_no_payload w bs) left
 
 -- Whole bytes are merged in one way only, and what is merged can't have been refused, memory aside.
-pub record MergeIsPinned {X : Type 0} (meant : Option X) (need before : BudgetLeft) : Type 0 where
-  pub merged : (a b : X) (x y : BudgetLeft) → IsMerged meant need before done a x → IsMerged meant need before done b y → (a ≡ b) × (x ≡ y)
+pub record MergeIsPinned {X : Type 0} (meant : Option X) (charge before : BudgetLeft) : Type 0 where
+  pub merged : (a b : X) (x y : BudgetLeft) → IsMerged meant charge before done a x → IsMerged meant charge before done b y → (a ≡ b) × (x ≡ y)
   pub refused : (a b : X) (x y : BudgetLeft) (f : DecodeError) →
-      IsMerged meant need before done a x → IsMerged meant need before (refusal f) b y → (f ≢ OutOfMemory) → ⊥
+      IsMerged meant charge before done a x → IsMerged meant charge before (refusal f) b y → (f ≢ OutOfMemory) → ⊥
   -- from a default budget of their own
-  pub alone : (a b : X) → IsMergedAlone meant need done a → IsMergedAlone meant need done b → a ≡ b
-  pub not_alone : (a b : X) (f : DecodeError) → IsMergedAlone meant need done a → IsMergedAlone meant need (refusal f) b → (f ≢ OutOfMemory) → ⊥
+  pub alone : (a b : X) → IsMergedAlone meant charge done a → IsMergedAlone meant charge done b → a ≡ b
+  pub not_alone : (a b : X) (f : DecodeError) → IsMergedAlone meant charge done a → IsMergedAlone meant charge (refusal f) b → (f ≢ OutOfMemory) → ⊥
 
 -- The same of the field whose tag t was read, and of what follows it.
 pub record FieldMergeIsPinned {X : Type 0} (merged : ℕ → X → List ℕ → Option X) (cost : ℕ → List ℕ → BudgetLeft) (d n : ℕ) (w : WireType) (t : List ℕ) (tag : IsTag t n w) (old : X) (bs : List ℕ) (before : BudgetLeft) : Type 0 where
@@ -65,8 +65,8 @@ pub record PassesArePinned (encoding slots : List ℕ) (old : Cache) : Type 0 wh
 -- A field is read as one record, and of the unknown fields left one number is spent; what is read has no fault, and
 -- what has a fault one.
 pub record FieldIsPinned (d s n : ℕ) (w : WireType) (bs : List ℕ) : Type 0 where
-  pub taken : (x y : Datum) (k m : ℕ) (r q : List ℕ) → TakesField d s n w bs x k r → TakesField d s n w bs y m q → (x ≡ y) × (k ≡ m) × (r ≡ q)
-  pub refused : (x : Datum) (k : ℕ) (r : List ℕ) (e : DecodeError) → TakesField d s n w bs x k r → FieldFault d s n w bs e → ⊥
+  pub taken : (x y : FieldData) (k m : ℕ) (r q : List ℕ) → TakesField d s n w bs x k r → TakesField d s n w bs y m q → (x ≡ y) × (k ≡ m) × (r ≡ q)
+  pub refused : (x : FieldData) (k : ℕ) (r : List ℕ) (e : DecodeError) → TakesField d s n w bs x k r → FieldFault d s n w bs e → ⊥
   pub fault : (e f : DecodeError) → FieldFault d s n w bs e → FieldFault d s n w bs f → e ≡ f
   -- of a field that is no group, what is left of the bytes after a refusal, and how many unknown fields are left
   pub left : (e : DecodeError) (r q : List ℕ) → e ≢ OutOfMemory → LeavesPayload (refusal e) w bs r → LeavesPayload (refusal e) w bs q → r ≡ q
@@ -74,15 +74,15 @@ pub record FieldIsPinned (d s n : ℕ) (w : WireType) (bs : List ℕ) : Type 0 w
 
 -- The same of whole bytes.
 pub record RecordsArePinned (d s : ℕ) (bs : List ℕ) : Type 0 where
-  pub taken : (rs qs : List (ℕ × Datum)) → Parse d bs (records_of rs) → Parse d bs (records_of qs) → rs ≡ qs
-  pub refused : (rs : List (ℕ × Datum)) (e : DecodeError) → Parse d bs (records_of rs) → field_count (records_of rs) ≤ s → RecordsFault d s bs e → ⊥
+  pub taken : (rs qs : List (ℕ × FieldData)) → Parse d bs (records_of rs) → Parse d bs (records_of qs) → rs ≡ qs
+  pub refused : (rs : List (ℕ × FieldData)) (e : DecodeError) → Parse d bs (records_of rs) → field_count (records_of rs) ≤ s → RecordsFault d s bs e → ⊥
   pub fault : (e f : DecodeError) → RecordsFault d s bs e → RecordsFault d s bs f → e ≡ f
 
 -- What is spent of a budget leaves one budget, and only where it is there.
-pub record BudgetIsPinned (left need : BudgetLeft) : Type 0 where
-  pub paid : (a b : BudgetLeft) → Pays left need a → Pays left need b → a ≡ b
-  pub lacked : (a : BudgetLeft) → Pays left need a → Lacks left need → ⊥
-  pub either : ((a : BudgetLeft) × Pays left need a) ⊎ Lacks left need
+pub record BudgetIsPinned (left charge : BudgetLeft) : Type 0 where
+  pub paid : (a b : BudgetLeft) → Pays left charge a → Pays left charge b → a ≡ b
+  pub lacked : (a : BudgetLeft) → Pays left charge a → Lacks left charge → ⊥
+  pub either : ((a : BudgetLeft) × Pays left charge a) ⊎ Lacks left charge
 
 -- the encoding of a scalar's value is how its number is spelled
 abbrev pub IsSpelled : {V : Type 0} → (V → ℕ) → (ℕ → List ℕ) → (V → List ℕ) → Type 0
@@ -93,5 +93,5 @@ abbrev pub SpellsBelow : (ℕ → List ℕ) → (ℕ → Type 0) → (ℕ → Li
 SpellsBelow spelling Spells wanted limit = (n : ℕ) → (spelling n ≡ wanted n) × (Spells n ↔ (n < limit))
 
 -- the record of a number holds this, and it is found in one so
-abbrev pub IsRecordedAs : (ℕ → Datum) → (Datum → Option ℕ) → (ℕ → Datum) → (Datum → Option ℕ) → Type 0
-IsRecordedAs datum found wanted found_so = ((n : ℕ) → datum n ≡ wanted n) × (found ≡ found_so)
+abbrev pub IsRecordedAs : (ℕ → FieldData) → (FieldData → Option ℕ) → (ℕ → FieldData) → (FieldData → Option ℕ) → Type 0
+IsRecordedAs field_data found wanted found_so = ((n : ℕ) → field_data n ≡ wanted n) × (found ≡ found_so)

@@ -5,19 +5,19 @@ use Rattle.buffa_bytes.specs.declared.wire_type.WireType.{WireType}
 use Rattle.buffa_bytes.specs.declared.wire_type.WireType.TheVariants as wire
 use Rattle.buffa_bytes.specs.declared.error.DecodeError.{DecodeError}
 use Rattle.buffa_bytes.specs.declared.error.DecodeError.TheVariants.{UnexpectedEof, InvalidWireType, RecursionLimitExceeded, UnknownFieldLimitExceeded, InvalidEndGroup}
-use Rattle.buffa_bytes.specs.Front.{varint_at, delimited_at, same_wire, tag_at, ◌>>=◌}
+use Rattle.buffa_bytes.specs.Readings.{varint_at, delimited_at, same_wire, tag_at, ◌>>=◌}
 use Rattle.buffa_bytes.specs.Scan.{Scanned, parsed, scan, parse_all}
 use Rattle.buffa_bytes.specs.Scan.Scanned.{ends}
 use Rattle.buffa_bytes.specs.Scalars.{fixed32_at, fixed64_at}
 use Rattle.buffa_wire.specs.declared.context.DecodeContext.{DecodeContext}
-use Rattle.buffa_wire.specs.Records.{Datum, varint, fixed32, fixed64, bytes, group, Records, list_of, records_of}
+use Rattle.buffa_wire.specs.Records.{FieldData, varint, fixed32, fixed64, bytes, group, Records, list_of, records_of}
 
 -- what reads the rest of a group: of the unknown fields that are left, the group's number, and the bytes
 abbrev pub GroupReader : Type 0
 GroupReader = ℕ → ℕ → List ℕ → Result (Records × ℕ × List ℕ) DecodeError
 
 -- the payload of a field that is no group; the two wire types that have none are named
-abbrev pub plain_at : WireType → List ℕ → Result (Datum × List ℕ) DecodeError
+abbrev pub plain_at : WireType → List ℕ → Result (FieldData × List ℕ) DecodeError
 plain_at wire.Varint bs = varint_at bs >>= (λ v. Ok (varint v.0, v.1))
 plain_at wire.Fixed64 bs = fixed64_at bs >>= (λ v. Ok (fixed64 v.0, v.1))
 plain_at wire.LengthDelimited bs = delimited_at bs >>= (λ v. Ok (bytes v.0, v.1))
@@ -26,20 +26,20 @@ plain_at wire.EndGroup bs = Err (InvalidWireType 4)
 plain_at wire.Fixed32 bs = fixed32_at bs >>= (λ v. Ok (fixed32 v.0, v.1))
 
 -- the payload of a field for which one of the unknown fields left is spent
-abbrev pub payload_by : GroupReader → ℕ → ℕ → WireType → List ℕ → Result (Datum × ℕ × List ℕ) DecodeError
+abbrev pub payload_by : GroupReader → ℕ → ℕ → WireType → List ℕ → Result (FieldData × ℕ × List ℕ) DecodeError
 payload_by inner s n wire.StartGroup bs = inner s n bs >>= (λ v. Ok (group v.0, v.1, v.2))
 payload_by inner s n w bs = plain_at w bs >>= (λ v. Ok (v.0, s, v.1))
 
 -- the field after its tag: an end tag is none, then one of the unknown fields left is spent, then the payload
 -- is read
-unfoldable pub field_by : GroupReader → ℕ → ℕ → WireType → List ℕ → Result (Datum × ℕ × List ℕ) DecodeError
+unfoldable pub field_by : GroupReader → ℕ → ℕ → WireType → List ℕ → Result (FieldData × ℕ × List ℕ) DecodeError
 field_by inner s n w bs =
     if same_wire wire.EndGroup w then Err (InvalidEndGroup n) else
     if s == 0 then Err UnknownFieldLimitExceeded else payload_by inner (s - 1) n w bs
 
 -- records that were read, and the unknown fields that are left
 abbrev pub HaveRead : Type 0
-HaveRead = List (ℕ × Datum) × ℕ
+HaveRead = List (ℕ × FieldData) × ℕ
 
 -- the record of the field after its tag is put behind those that were read
 abbrev pub record_then : GroupReader → HaveRead → ℕ × WireType × List ℕ → Result (HaveRead × List ℕ) DecodeError
@@ -60,11 +60,11 @@ group_records_at zero s n bs = Err RecursionLimitExceeded
 group_records_at (suc d) s n bs = group_records_behind (group_records_at d) n ([], s) bs
 
 -- the field after a tag of number n and wire type w
-abbrev pub field_at : ℕ → ℕ → ℕ → WireType → List ℕ → Result (Datum × ℕ × List ℕ) DecodeError
+abbrev pub field_at : ℕ → ℕ → ℕ → WireType → List ℕ → Result (FieldData × ℕ × List ℕ) DecodeError
 field_at d = field_by (group_records_at d)
 
 -- both in a context, of its depth and its unknown fields left
-abbrev pub field_in : DecodeContext → ℕ → WireType → List ℕ → Result (Datum × ℕ × List ℕ) DecodeError
+abbrev pub field_in : DecodeContext → ℕ → WireType → List ℕ → Result (FieldData × ℕ × List ℕ) DecodeError
 field_in ctx = field_at ctx.depth ctx.budget.now.unknown
 
 abbrev pub group_in : DecodeContext → ℕ → List ℕ → Result (Records × ℕ × List ℕ) DecodeError
@@ -82,7 +82,7 @@ abbrev pub records_at : ℕ → ℕ → List ℕ → Result (Records × ℕ × L
 records_at d s bs = records_behind (group_records_at d) ([], s) bs
 
 -- the records alone
-abbrev pub list_at : ℕ → ℕ → List ℕ → Result (List (ℕ × Datum)) DecodeError
+abbrev pub list_at : ℕ → ℕ → List ℕ → Result (List (ℕ × FieldData)) DecodeError
 list_at d s bs = records_at d s bs >>= (λ v. Ok (list_of v.0))
 
 -- ---- where reading takes memory

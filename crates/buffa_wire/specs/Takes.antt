@@ -3,7 +3,7 @@
 use Rattle.std.specs.Prelude.{◌≡◌, ◌≢◌, ℕ, ◌-◌, ◌⊎◌, Bool, true, List, [], ◌∷◌, ◌++◌, length, take, Option, Some, None, Result, Ok, Err, MatchResult}
 use Rattle.std.specs.Option.{option_map}
 use Rattle.buffa_bytes.specs.Field.{IsTag, Payload}
-use Rattle.buffa_bytes.specs.Front.{skip_at, ◌>>=◌}
+use Rattle.buffa_bytes.specs.Readings.{skip_at, ◌>>=◌}
 use Rattle.buffa_bytes.specs.declared.wire_type.WireType.{WireType}
 use Rattle.buffa_bytes.specs.declared.wire_type.WireType.TheVariants.{EndGroup}
 use Rattle.buffa_bytes.specs.declared.error.DecodeError.{DecodeError}
@@ -16,14 +16,14 @@ abbrev pub Taker : Type 0 → Type 0
 Taker X = ℕ → X → ℕ → WireType → List ℕ → Option X
 
 -- At a depth, what a field costs, where these bytes follow its tag, a malformed one too.
-abbrev pub Need : Type 0
-Need = ℕ → ℕ → WireType → List ℕ → BudgetLeft
+abbrev pub Charge : Type 0
+Charge = ℕ → ℕ → WireType → List ℕ → BudgetLeft
 
 -- what a field costs is known by its payload
-abbrev pub Stays : Need → Type 0
-Stays need = (d n : ℕ) (w : WireType) (p x : List ℕ) → Payload d n w p → need d n w (p ++ x) ≡ need d n w p
+abbrev pub Stays : Charge → Type 0
+Stays charge = (d n : ℕ) (w : WireType) (p x : List ℕ) → Payload d n w p → charge d n w (p ++ x) ≡ charge d n w p
 
-abbrev pub costs_nothing : Need
+abbrev pub costs_nothing : Charge
 costs_nothing d n w bs = nothing
 
 -- At a depth, where a field of a number and a wire type may ask for memory, if these bytes follow its tag.
@@ -48,8 +48,8 @@ framed takes d v n w bs = skip_at d n w bs >>= (λ rest. answer rest (takes d v 
 unfoldable pub merged_of : {X : Type 0} → Taker X → ℕ → X → List ℕ → Option X
 merged_of takes d v bs = merged_by (framed takes d) v bs
 
-unfoldable pub cost_of : Need → ℕ → List ℕ → BudgetLeft
-cost_of need d bs = cost_by (need d) d bs
+unfoldable pub cost_of : Charge → ℕ → List ℕ → BudgetLeft
+cost_of charge d bs = cost_by (charge d) d bs
 
 -- what a reader of fields makes of a value by a payload
 abbrev pub taken_by : {X : Type 0} → FieldReader X → X → ℕ → WireType → List ℕ → Option X
@@ -63,12 +63,12 @@ Untaken takes d v n w bs = (p rest : List ℕ) → Payload d n w p → bs ≡ p 
 
 -- Accepted: a payload at the front makes new of old, exactly its need is spent, and rest follows. Refused: at most its need is spent;
 -- and memory ran out, not at an end tag; or the need isn't left; or no payload at the front is taken, and the error is none of a budget's.
-abbrev pub IsTaken : {X T : Type 0} → Taker X → Need → ℕ → X → ℕ → WireType → List ℕ → BudgetLeft → Result T DecodeError → X → BudgetLeft → List ℕ → Type 0
-IsTaken takes need d old n w bs before r new after rest =
+abbrev pub IsTaken : {X T : Type 0} → Taker X → Charge → ℕ → X → ℕ → WireType → List ℕ → BudgetLeft → Result T DecodeError → X → BudgetLeft → List ℕ → Type 0
+IsTaken takes charge d old n w bs before r new after rest =
     MatchResult r
-    (λ _. (p : List ℕ) × Payload d n w p × (bs ≡ p ++ rest) × (takes d old n w p ≡ Some new) × Pays before (need d n w bs) after)
-    (λ e. PaysAtMost before (need d n w bs) after
-    × (e ≢ OutOfMemory → Lacks before (need d n w bs) ⊎ (Untaken takes d old n w bs × (IsLimit e → ⊥)))
+    (λ _. (p : List ℕ) × Payload d n w p × (bs ≡ p ++ rest) × (takes d old n w p ≡ Some new) × Pays before (charge d n w bs) after)
+    (λ e. PaysAtMost before (charge d n w bs) after
+    × (e ≢ OutOfMemory → Lacks before (charge d n w bs) ⊎ (Untaken takes d old n w bs × (IsLimit e → ⊥)))
     × (e ≡ OutOfMemory → w ≢ EndGroup))
 
 -- ---- encodings that read back

@@ -1,14 +1,15 @@
 //! Calls that make a message of bytes.
 
 ghost use Rattle.std.specs.Prelude.{◌≡◌, ◌≢◌, ◌⊎◌, IfErr, IfOk, IsSome, OnOk, Some};
-ghost use Rattle.buffa_bytes.specs.Front.{FullOnlyIf};
+ghost use Rattle.buffa_bytes.specs.Readings.{FullOnlyIf};
 ghost use Rattle.buffa_bytes.specs.declared.error.DecodeError.TheVariants.{OutOfMemory};
 ghost use Rattle.buffa_wire.specs.BudgetLeft.{Lacks, defaults};
 ghost use Rattle.buffa_wire.specs.Canonical.{IsCanonical, canonical_error_text};
-ghost use Rattle.buffa_wire.specs.Message.{BeginsField, MergeFault, Stands};
+ghost use Rattle.buffa_wire.specs.Message.{BeginsField, MergeFault, PartlyMerged};
 ghost use Rattle.buffa_wire.specs.declared.decode.CanonicalError.TheVariants.{Malformed, NotCanonical};
 
 use crate::budget::Budget;
+use crate::compared::{Comparison, compare};
 use crate::context::{DecodeContext, RECURSION_LIMIT};
 use crate::message::{MAX_MESSAGE_BYTES, Message};
 use buffa_bytes::{DecodeError, EncodeError};
@@ -63,7 +64,7 @@ pub trait Decode: Message + Drop {
         ensures left { OnOk result (Lacks defaults (Self.cost RECURSION_LIMIT bytes.now) → ⊥) }
         ensures fault { IfErr result (λ e. e ≢ OutOfMemory → MergeFault (Self.merged RECURSION_LIMIT Self.blank_is bytes.now)
             (Self.cost RECURSION_LIMIT bytes.now) defaults e) }
-        ensures which { IfErr result (λ e. (m : Self.Meaning) × Stands Self.merged Self.cost Self.Refused RECURSION_LIMIT
+        ensures which { IfErr result (λ e. (m : Self.Meaning) × PartlyMerged Self.merged Self.cost Self.Refused RECURSION_LIMIT
             Self.blank_is bytes.now defaults e m) }
         ensures full { FullOnlyIf result (BeginsField bytes.now) }
     {
@@ -93,7 +94,7 @@ pub trait Decode: Message + Drop {
         ensures left { OnOk result (Lacks limits (Self.cost depth bytes.now) → ⊥) }
         ensures fault { IfErr result (λ e. e ≢ OutOfMemory → MergeFault (Self.merged depth Self.blank_is bytes.now)
             (Self.cost depth bytes.now) limits e) }
-        ensures which { IfErr result (λ e. (m : Self.Meaning) × Stands Self.merged Self.cost Self.Refused depth
+        ensures which { IfErr result (λ e. (m : Self.Meaning) × PartlyMerged Self.merged Self.cost Self.Refused depth
             Self.blank_is bytes.now limits e m) }
         ensures full { FullOnlyIf result (BeginsField bytes.now) }
     {
@@ -106,6 +107,9 @@ pub trait Decode: Message + Drop {
 
     /// The message whose encoding the bytes are, each of them, as [`Message::try_encode_to_vec`] writes it. It is read at
     /// most [`RECURSION_LIMIT`] deep, under a default budget.
+    ///
+    /// The encoding is compared as it is written, in no buffer. Only where it has the length of the bytes, and wasn't written
+    /// to its end so, is it written into a buffer, to see whether it is another or memory had run out.
     ///
     /// So of the spellings of a message, with other orders, longer varints or fields twice, it takes one. A message whose
     /// maps are in the order of arrival has an encoding for each order, and all of them are taken; with maps that are
@@ -140,6 +144,11 @@ pub trait Decode: Message + Drop {
         let mut message = Self::blank(alloc);
         if let Err(fault) = message.merge_from_slice(alloc, bytes) {
             return Err(CanonicalError::Malformed(fault));
+        }
+        match compare(alloc, &message, bytes) {
+            Comparison::Same => return Ok(message),
+            Comparison::Differs => return Err(CanonicalError::NotCanonical),
+            Comparison::Unknown => {}
         }
         match message.try_encode_to_vec(alloc) {
             Ok(encoding) => {

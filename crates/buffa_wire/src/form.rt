@@ -2,14 +2,14 @@
 
 ghost use Rattle.std.specs.Prelude.{◌≡◌, ◌<◌, ◌^◌, ℕ, List, IfOk, IfSome, None, OnErr, Option, Some, length};
 ghost use Rattle.std.specs.Prelude.{refl};
-ghost use Rattle.buffa_wire.specs.Records.{Datum, bytes, fixed32, fixed64, varint};
-ghost use Rattle.buffa_wire.specs.View.{datum_of};
+ghost use Rattle.buffa_wire.specs.Records.{FieldData, bytes, fixed32, fixed64, varint};
+ghost use Rattle.buffa_wire.specs.View.{field_data_of};
 ghost use Rattle.buffa_wire.specs.Found.{fixed32_in, fixed32_only, fixed64_in, fixed64_only, varint_in, varint_only};
 ghost use Rattle.buffa_bytes.specs.declared.wire_type.WireType.{WireType};
-ghost use Rattle.buffa_bytes.specs.Content.{HasContent, content_at};
-ghost use Rattle.buffa_bytes.specs.Content.Content.{number};
-ghost use Rattle.buffa_bytes.specs.Front.{Gives};
-ghost use Rattle.buffa_bytes.specs.Left.{past_no_payload, IsTailOf};
+ghost use Rattle.buffa_bytes.specs.PayloadValue.{HasPayloadValue, payload_value_at};
+ghost use Rattle.buffa_bytes.specs.PayloadValue.PayloadValue.{number};
+ghost use Rattle.buffa_bytes.specs.Readings.{Gives};
+ghost use Rattle.buffa_bytes.specs.Unread.{past_no_payload, IsTailOf};
 ghost use Rattle.buffa_bytes.specs.Written.{UsesRoom, Writes};
 
 use crate::sealed::Sealed;
@@ -42,7 +42,7 @@ pub trait Form: Sealed {
     /// [`DecodeError::UnexpectedEof`], and of varints [`DecodeError::VarintTooLong`]. What follows the tenth byte of a
     /// varint stays unread then, and all of other bytes.
     fn read<B: Buf>(buf: &mut B) -> Result<u64, DecodeError>
-        ensures reads { Gives (λ n. (number n, B.unread buf.new)) result (content_at WIRE_TYPE (B.unread buf.old)) }
+        ensures reads { Gives (λ n. (number n, B.unread buf.new)) result (payload_value_at WIRE_TYPE (B.unread buf.old)) }
         ensures spelled { IfOk result spells }
         ensures kept { B.beyond buf.new ≡ B.beyond buf.old }
         ensures left { OnErr result (B.unread buf.new ≡ past_no_payload WIRE_TYPE (B.unread buf.old)) }
@@ -63,29 +63,29 @@ pub trait Form: Sealed {
         ensures room { UsesRoom result (S.room sink.old) (encoding n) (S.room sink.new) };
 
     /// The record data of a number.
-    ghost datum: { ℕ → Datum };
+    ghost field_data: { ℕ → FieldData };
 
     /// The number of record data of this form.
-    ghost found: { Datum → Option ℕ };
+    ghost found: { FieldData → Option ℕ };
 
     /// The number in a record of this form.
     fn in_record(held: &UnknownFieldData) -> Option<u64>
-        ensures found { result ≡ found (datum_of held.now) }
+        ensures found { result ≡ found (field_data_of held.now) }
         ensures spelled { IfSome result spells };
 
     /// The record data of a number.
     fn record_of(n: u64) -> UnknownFieldData
         requires { spells n }
-        ensures { datum_of result ≡ datum n };
+        ensures { field_data_of result ≡ field_data n };
 
     /// The encoding of a number holds it.
-    ghost reads_back: { (n : ℕ) → spells n → HasContent WIRE_TYPE (encoding n) (number n) };
+    ghost reads_back: { (n : ℕ) → spells n → HasPayloadValue WIRE_TYPE (encoding n) (number n) };
 
     /// The record of a number has it.
-    ghost kept: { (n : ℕ) → found (datum n) ≡ Some n };
+    ghost kept: { (n : ℕ) → found (field_data n) ≡ Some n };
 
     /// No other record has it.
-    ghost only: { (d : Datum) (n : ℕ) → found d ≡ Some n → d ≡ datum n };
+    ghost only: { (d : FieldData) (n : ℕ) → found d ≡ Some n → d ≡ field_data n };
 
     /// A record of bytes has no number.
     ghost bytes_other: { (bs : List ℕ) → found (bytes bs) ≡ None };
@@ -112,11 +112,11 @@ impl Form for Varint {
 
     ghost encoding = { varint_encoding };
 
-    ghost datum = { varint };
+    ghost field_data = { varint };
 
     ghost found = { varint_in };
 
-    #[tactic(auto, unfolding(buffa_bytes::specs::Left::past_no_payload))]
+    #[tactic(auto, unfolding(buffa_bytes::specs::Unread::past_no_payload))]
     fn read<B: Buf>(buf: &mut B) -> Result<u64, DecodeError> {
         read_varint(buf)
     }
@@ -172,11 +172,11 @@ impl Form for FourBytes {
 
     ghost encoding = { to_le_bytes w32 };
 
-    ghost datum = { fixed32 };
+    ghost field_data = { fixed32 };
 
     ghost found = { fixed32_in };
 
-    #[tactic(auto, unfolding(buffa_bytes::specs::Left::past_no_payload))]
+    #[tactic(auto, unfolding(buffa_bytes::specs::Unread::past_no_payload))]
     fn read<B: Buf>(buf: &mut B) -> Result<u64, DecodeError> {
         Ok(u64::from(decode_fixed32(buf)?))
     }
@@ -231,11 +231,11 @@ impl Form for EightBytes {
 
     ghost encoding = { to_le_bytes w64 };
 
-    ghost datum = { fixed64 };
+    ghost field_data = { fixed64 };
 
     ghost found = { fixed64_in };
 
-    #[tactic(auto, unfolding(buffa_bytes::specs::Left::past_no_payload))]
+    #[tactic(auto, unfolding(buffa_bytes::specs::Unread::past_no_payload))]
     fn read<B: Buf>(buf: &mut B) -> Result<u64, DecodeError> {
         decode_fixed64(buf)
     }

@@ -21,12 +21,13 @@
 
 pub mod budget;
 pub mod cache;
+pub(crate) mod compared;
 pub mod context;
 pub mod decode;
 pub mod enumeration;
 pub mod form;
-pub mod formed;
 pub mod message;
+pub mod message_impl;
 pub mod reals;
 pub mod scalar;
 pub mod scalars;
@@ -49,8 +50,8 @@ pub use context::{DecodeContext, RECURSION_LIMIT};
 pub use decode::{CanonicalError, Decode};
 pub use enumeration::{EnumValue, Enumeration};
 pub use form::Form;
-pub use formed::{Formed, MessageForm, MessageMeaning};
 pub use message::{Message, MessageSpec, capped};
+pub use message_impl::{MessageImpl, MessageMeaning, MessageMethods};
 pub use reals::{DoubleBits, FloatBits};
 pub use scalar::Scalar;
 pub use unknown_fields::read::decode_unknown_field;

@@ -3,17 +3,17 @@
 ghost use Rattle.std.specs.Prelude.{◌≡◌, ◌≢◌, ◌<◌, ◌≤◌, ◌^◌, ℕ, List, [], length, Option, Some, IfErr, IfOk};
 ghost use Rattle.std.specs.Prelude.{IsOk, Ok, OnErr, OnOk};
 ghost use Rattle.buffa_bytes.specs.declared.error.DecodeError.TheVariants.{OutOfMemory};
-ghost use Rattle.buffa_bytes.specs.Left.{LeavesUnlessFull, past_no_delimited, IsTailOf};
-ghost use Rattle.buffa_bytes.specs.Front.{delimited_at, FullOnlyIf};
+ghost use Rattle.buffa_bytes.specs.Unread.{LeavesUnlessFull, past_no_delimited, IsTailOf};
+ghost use Rattle.buffa_bytes.specs.Readings.{delimited_at, FullOnlyIf};
 ghost use Rattle.buffa_wire.specs.BudgetLeft.{BudgetLeft, PaysAtMost, budget_left, defaults};
 ghost use Rattle.buffa_bytes.specs.declared.error.EncodeError.TheVariants as error;
 ghost use Rattle.buffa_wire.specs.Parse.{AreValid, Fits};
 ghost use Rattle.buffa_wire.specs.Passes.{IsNext, IsSized, IsWritten, cap};
-ghost use Rattle.buffa_wire.specs.Records.{Datum, records_of};
+ghost use Rattle.buffa_wire.specs.Records.{FieldData, records_of};
 ghost use Rattle.buffa_wire.specs.Encoding.{records_encoding};
 ghost use Rattle.buffa_wire.specs.Message.{BeginsField, FieldRefused, IsMergedAlone, MergesBytes, MergesField, MergesInside};
-ghost use Rattle.buffa_wire.specs.Message.{MessageFault, Stands, StandsInside, cost_of_payload};
-ghost use Rattle.buffa_wire.specs.Takes.{Need, Stays, Taker, cost_of, merged_of};
+ghost use Rattle.buffa_wire.specs.Message.{MessageFault, PartlyMerged, PartlyMergedInside, cost_of_payload};
+ghost use Rattle.buffa_wire.specs.Takes.{Charge, Stays, Taker, cost_of, merged_of};
 
 use crate::budget::{Budget, DEFAULT_UNKNOWN_FIELD_LIMIT};
 use crate::cache::SizeCache;
@@ -61,7 +61,7 @@ pub trait MessageSpec: Blank {
     ghost takes: { Taker Self.Meaning };
 
     /// At a depth, the unknown fields and the units of element memory that a field costs, a malformed one too.
-    ghost need: { Need };
+    ghost charge: { Charge };
 
     /// At a depth, what merging bytes makes of a value, or none.
     ghost merged: { ℕ → Self.Meaning → List ℕ → Option Self.Meaning };
@@ -77,7 +77,7 @@ pub trait MessageSpec: Blank {
     ghost encoding: { Self.Meaning → List ℕ };
 
     /// The records whose encoding it is.
-    ghost records: { Self.Meaning → List (ℕ × Datum) };
+    ghost records: { Self.Meaning → List (ℕ × FieldData) };
 
     /// The sizes of the messages in it, in the order in which its passes reserve and consume them.
     ghost slots: { Self.Meaning → List ℕ };
@@ -102,13 +102,13 @@ pub trait MessageSpec: Blank {
     ghost positive: { 0 < COST };
 
     /// What a field costs is known by its payload.
-    ghost stays: { Stays need };
+    ghost stays: { Stays charge };
 
     /// Bytes make of a value what their payloads do, one after the other.
     ghost merged_is: { (d : ℕ) (v : Self.Meaning) (b : List ℕ) → merged d v b ≡ merged_of takes d v b };
 
     /// They cost what their fields do.
-    ghost cost_is: { (d : ℕ) (b : List ℕ) → cost d b ≡ cost_of need d b };
+    ghost cost_is: { (d : ℕ) (b : List ℕ) → cost d b ≡ cost_of charge d b };
 }
 
 /// A message, which bytes can be merged into, and which is written in two passes.
@@ -232,7 +232,7 @@ pub trait Message: MessageSpec {
         ensures merged { MergesBytes Self.merged Self.cost ctx.entry.depth (Self.meaning self.old) buf.old.now
             ctx.entry.budget.now result (Self.meaning self.new) (budget_left ctx.exit) }
         // Refused: the fields before the refused one are merged, and its type says of that one what it leaves.
-        ensures stands { IfErr result (λ e. Stands Self.merged Self.cost Self.Refused ctx.entry.depth
+        ensures partly { IfErr result (λ e. PartlyMerged Self.merged Self.cost Self.Refused ctx.entry.depth
             (Self.meaning self.old) buf.old.now ctx.entry.budget.now e (Self.meaning self.new)) }
         // Memory runs out only where a field begins the bytes.
         ensures full { FullOnlyIf result (BeginsField buf.old.now) }
@@ -267,7 +267,7 @@ pub trait Message: MessageSpec {
     fn merge_from_slice(&mut self, alloc: Global, bytes: &[u8]) -> Result<(), DecodeError>
         ensures merged { IsMergedAlone (Self.merged RECURSION_LIMIT (Self.meaning self.old) bytes.now)
             (Self.cost RECURSION_LIMIT bytes.now) result (Self.meaning self.new) }
-        ensures stands { IfErr result (λ e. Stands Self.merged Self.cost Self.Refused RECURSION_LIMIT
+        ensures partly { IfErr result (λ e. PartlyMerged Self.merged Self.cost Self.Refused RECURSION_LIMIT
             (Self.meaning self.old) bytes.now defaults e (Self.meaning self.new)) }
         ensures full { FullOnlyIf result (BeginsField bytes.now) }
     {
@@ -304,7 +304,7 @@ pub trait Message: MessageSpec {
         ensures fault { IfErr result (λ e. e ≢ OutOfMemory →
             MessageFault Self.merged Self.cost ctx.entry.depth (Self.meaning self.old) (B.unread buf.old)
             ctx.entry.budget.now e) }
-        ensures stands { IfErr result (λ e. StandsInside Self.merged Self.cost Self.Refused ctx.entry.depth
+        ensures partly { IfErr result (λ e. PartlyMergedInside Self.merged Self.cost Self.Refused ctx.entry.depth
             (Self.meaning self.old) (B.unread buf.old) ctx.entry.budget.now e (Self.meaning self.new)) }
         ensures spent { OnErr result (PaysAtMost ctx.entry.budget.now
             (cost_of_payload Self.cost ctx.entry.depth (delimited_at (B.unread buf.old))) (budget_left ctx.exit)) }
@@ -329,7 +329,7 @@ pub trait Message: MessageSpec {
             &mut |payload: &[u8]|
                 ensures merged { MergesBytes Self.merged Self.cost inside (Self.meaning self.entry.now) payload.now
                     budget.entry.now result (Self.meaning self.exit.now) budget.exit.now }
-                ensures stands { IfErr result (λ e. Stands Self.merged Self.cost Self.Refused inside
+                ensures partly { IfErr result (λ e. PartlyMerged Self.merged Self.cost Self.Refused inside
                     (Self.meaning self.entry.now) payload.now budget.entry.now e (Self.meaning self.exit.now)) }
                 ensures full { FullOnlyIf result (BeginsField payload.now) }
             {

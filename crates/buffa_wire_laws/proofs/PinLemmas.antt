@@ -4,7 +4,7 @@ use Rattle.buffa_bytes.proofs.FieldLemmas.{payload_complete}
 use Rattle.buffa_bytes.specs.declared.wire_type.WireType.{WireType}
 use Rattle.buffa_bytes.specs.declared.error.DecodeError.{DecodeError}
 use Rattle.buffa_bytes.specs.Field.{IsTag, Payload}
-use Rattle.buffa_bytes.specs.Front.{skip_at}
+use Rattle.buffa_bytes.specs.Readings.{skip_at}
 use Rattle.buffa_wire.specs.BudgetLeft.{BudgetLeft, Lacks, Pays}
 use Rattle.buffa_wire.specs.Cache.{Cache, advanced}
 use Rattle.buffa_wire.specs.Enums.{open_number}
@@ -25,23 +25,23 @@ use Rattle.std.proofs.lemmas.Bool.{cases_lt}
 use Rattle.std.proofs.lemmas.Option.{same_Some}
 
 -- ---- budgets
-paid_or_not : (left need : BudgetLeft) → ((a : BudgetLeft) × Pays left need a) ⊎ Lacks left need
-paid_or_not left need = elim (cases_lt left.unknown need.unknown) [
+paid_or_not : (left charge : BudgetLeft) → ((a : BudgetLeft) × Pays left charge a) ⊎ Lacks left charge
+paid_or_not left charge = elim (cases_lt left.unknown charge.unknown) [
   | inl few ↦ inr (inl few)
-  | inr some ↦ elim (cases_lt left.memory need.memory) [
+  | inr some ↦ elim (cases_lt left.memory charge.memory) [
     | inl few ↦ inr (inr few)
-    | inr more ↦ inl (record { unknown = left.unknown - need.unknown; memory = left.memory - need.memory }, (omega (arith, some), omega (arith, more)))
+    | inr more ↦ inl (record { unknown = left.unknown - charge.unknown; memory = left.memory - charge.memory }, (omega (arith, some), omega (arith, more)))
   ]
 ]
 
-pub budget_is_pinned : (left need : BudgetLeft) → BudgetIsPinned left need
-budget_is_pinned left need = record { paid = one_left left need; lacked = not_lacked left need; either = paid_or_not left need }
+pub budget_is_pinned : (left charge : BudgetLeft) → BudgetIsPinned left charge
+budget_is_pinned left charge = record { paid = one_left left charge; lacked = not_lacked left charge; either = paid_or_not left charge }
 
 -- ---- merging
-pub merge_is_pinned : {X : Type 0} (meant : Option X) (need before : BudgetLeft) → MergeIsPinned meant need before
-merge_is_pinned meant need before = record {
-  merged = λ a b x y h k. (same_Some a b (sym h.0 ∙ k.0), one_left before need x y h.1 k.1);
-  refused = λ a b x y f h k other. elim (k.1 other) [ inl few ↦ not_lacked before need x h.1 few | inr bad ↦ (let e = sym h.0 ∙ bad.0 in cc) ];
+pub merge_is_pinned : {X : Type 0} (meant : Option X) (charge before : BudgetLeft) → MergeIsPinned meant charge before
+merge_is_pinned meant charge before = record {
+  merged = λ a b x y h k. (same_Some a b (sym h.0 ∙ k.0), one_left before charge x y h.1 k.1);
+  refused = λ a b x y f h k other. elim (k.1 other) [ inl few ↦ not_lacked before charge x h.1 few | inr bad ↦ (let e = sym h.0 ∙ bad.0 in cc) ];
   alone = λ a b h k. same_Some a b (sym h.0 ∙ k.0);
   not_alone = λ a b f h k other. elim (k other) [ inl few ↦ h.1 few | inr bad ↦ (let e = sym h.0 ∙ bad.0 in cc) ];
 }

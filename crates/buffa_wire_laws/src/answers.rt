@@ -11,24 +11,24 @@ ghost use Rattle.buffa_bytes.specs.declared.error.EncodeError.{EncodeError};
 ghost use Rattle.buffa_bytes.specs.declared.error.EncodeError.TheVariants as encoding;
 ghost use Rattle.buffa_bytes.specs.declared.wire_type.WireType.{WireType};
 ghost use Rattle.buffa_bytes.specs.declared.wire_type.WireType.TheVariants as wire;
-ghost use Rattle.buffa_bytes.specs.Content.{ContentFault};
+ghost use Rattle.buffa_bytes.specs.PayloadValue.{PayloadValueFault};
 ghost use Rattle.buffa_bytes.specs.Delimited.{Lends};
 ghost use Rattle.buffa_bytes.specs.Field.{IsTag, Payload, TagFault, TakesPayload, TakesTag};
-ghost use Rattle.buffa_bytes.specs.Front.{delimited_at, tag_at, FullOnlyIf, Gives, GivesUnlessFull};
-ghost use Rattle.buffa_bytes.specs.Left.{LeavesUnlessFull, IsChunkOf, IsFrontOf, IsTailOf, MayBeCut, MovesUnlessFull, bytes_read};
+ghost use Rattle.buffa_bytes.specs.Readings.{delimited_at, tag_at, FullOnlyIf, Gives, GivesUnlessFull};
+ghost use Rattle.buffa_bytes.specs.Unread.{LeavesUnlessFull, IsChunkOf, IsFrontOf, IsTailOf, MayBeCut, MovesUnlessFull, bytes_read};
 ghost use Rattle.buffa_bytes.specs.Pieces.{joined};
 ghost use Rattle.buffa_bytes.specs.Written.{UsesRoom, Writes};
 ghost use Rattle.buffa_wire.specs.BudgetLeft.{BudgetLeft, Covers, Lacks, Pays, PaysAtMost, UnknownTaken, UnknownsSpent, IsLimit};
-ghost use Rattle.buffa_wire.specs.BudgetLeft.{budget_left, defaults, minus, need_by, nothing, plus, units, unknown_fields};
+ghost use Rattle.buffa_wire.specs.BudgetLeft.{budget_left, defaults, minus, charge_by, nothing, plus, units, unknown_fields};
 ghost use Rattle.buffa_wire.specs.Cache.{Cache, advanced, appended};
 ghost use Rattle.buffa_wire.specs.Kept.{more_left};
 ghost use Rattle.buffa_wire.specs.Message.{BeginsField, IsFieldMerged, IsJudged, IsMerged, IsMergedAlone, MergeFault};
 ghost use Rattle.buffa_wire.specs.Message.{MergesBytes, MergesField, MergesInside, Unchanged};
-ghost use Rattle.buffa_wire.specs.Message.{IsInside, MessageFault, Stands, StandsInside, cost_in, cost_of_payload, merged_in};
+ghost use Rattle.buffa_wire.specs.Message.{IsInside, MessageFault, PartlyMerged, PartlyMergedInside, cost_in, cost_of_payload, merged_in};
 ghost use Rattle.buffa_wire.specs.Parse.{FieldFault, GroupRecordsFault, RecordsFault, TakesRecords};
 ghost use Rattle.buffa_wire.specs.Passes.{Begins, Consumes, IsNext, IsSized, IsSmall, IsWritten, cap};
 ghost use Rattle.buffa_wire.specs.RecordReading.{ListTakesMemory, RecordTakesMemory, field_at, field_in};
-ghost use Rattle.buffa_wire.specs.Records.{Datum, Records};
+ghost use Rattle.buffa_wire.specs.Records.{FieldData, Records};
 ghost use Rattle.buffa_wire.specs.Encoding.{write_outcome};
 ghost use Rattle.buffa_wire.specs.Takes.{IsTaken, Leads, Piece, ReadsBack, Stays, Untaken, costs_nothing, joined_fields};
 ghost use Rattle.buffa_wire.specs.declared.context.DecodeContext.{DecodeContext};
@@ -102,16 +102,16 @@ pub fn budgets_are_these<X>()
     ensures minus { (a b : BudgetLeft) → ((minus a b).unknown ≡ a.unknown - b.unknown)
         × ((minus a b).memory ≡ a.memory - b.memory) }
     ensures covers { (a b : BudgetLeft) → Covers a b ↔ ((b.unknown ≤ a.unknown) × (b.memory ≤ a.memory)) }
-    ensures lacks { (left need : BudgetLeft) → Lacks left need
-        ↔ ((left.unknown < need.unknown) ⊎ (left.memory < need.memory)) }
-    ensures pays { (before need after : BudgetLeft) → Pays before need after
-        ↔ ((before.unknown ≡ after.unknown + need.unknown) × (before.memory ≡ after.memory + need.memory)) }
-    ensures pays_at_most { (before need after : BudgetLeft) → PaysAtMost before need after
-        ↔ ((after.unknown ≤ before.unknown) × (before.unknown ≤ after.unknown + need.unknown)
-        × (after.memory ≤ before.memory) × (before.memory ≤ after.memory + need.memory)) }
+    ensures lacks { (left charge : BudgetLeft) → Lacks left charge
+        ↔ ((left.unknown < charge.unknown) ⊎ (left.memory < charge.memory)) }
+    ensures pays { (before charge after : BudgetLeft) → Pays before charge after
+        ↔ ((before.unknown ≡ after.unknown + charge.unknown) × (before.memory ≡ after.memory + charge.memory)) }
+    ensures pays_at_most { (before charge after : BudgetLeft) → PaysAtMost before charge after
+        ↔ ((after.unknown ≤ before.unknown) × (before.unknown ≤ after.unknown + charge.unknown)
+        × (after.memory ≤ before.memory) × (before.memory ≤ after.memory + charge.memory)) }
     ensures left { (x : X) (budget : MutBor BudgetLeft) → budget_left (x, (budget, tt)) ≡ budget.now }
-    ensures need { (x : X) (f : X → BudgetLeft) → need_by (Ok x) f ≡ f x }
-    ensures no_need { (e : DecodeError) (f : X → BudgetLeft) → need_by (Err e) f ≡ nothing }
+    ensures charge { (x : X) (f : X → BudgetLeft) → charge_by (Ok x) f ≡ f x }
+    ensures no_charge { (e : DecodeError) (f : X → BudgetLeft) → charge_by (Err e) f ≡ nothing }
 {}
 
 /// What reading takes of the unknown fields left: for a field one, where one is left; for a refused group no more than is said,
@@ -120,7 +120,7 @@ pub fn unknown_fields_are_spent_so()
     ensures spent { (n before after : ℕ) → UnknownsSpent n before after ↔ ((after ≤ before) × (before ≤ after + n)) }
     ensures taken { (before after : ℕ) → UnknownTaken (suc before) after ↔ (after ≡ before) }
     ensures none_taken { (after : ℕ) → UnknownTaken 0 after ↔ (after ≡ 0) }
-    ensures more { (k left : ℕ) (x : Datum) (rest : List ℕ) → more_left k (Ok (x, left, rest)) ≡ Ok (x, left + k, rest) }
+    ensures more { (k left : ℕ) (x : FieldData) (rest : List ℕ) → more_left k (Ok (x, left, rest)) ≡ Ok (x, left + k, rest) }
     ensures no_more { (k : ℕ) (e : DecodeError) → more_left k (Err e) ≡ Err e }
 {}
 
@@ -160,7 +160,7 @@ pub fn faults_of_records_are_these()
     ensures none_left { (d n : ℕ) (w : WireType) (bs : List ℕ) (e : DecodeError) → w ≢ wire.EndGroup → FieldFault d 0 n w bs e
         ↔ (e ≡ decoding.UnknownFieldLimitExceeded) }
     ensures payload { (d s n : ℕ) (w : WireType) (bs : List ℕ) (e : DecodeError) → w ≢ wire.EndGroup → w ≢ wire.StartGroup →
-        0 < s → FieldFault d s n w bs e ↔ ContentFault w bs e }
+        0 < s → FieldFault d s n w bs e ↔ PayloadValueFault w bs e }
     ensures group { (d s n : ℕ) (bs : List ℕ) (e : DecodeError) → 0 < s → FieldFault d s n wire.StartGroup bs e
         ↔ GroupRecordsFault d (s - 1) n bs e }
     ensures too_deep { (s n : ℕ) (bs : List ℕ) (e : DecodeError) → GroupRecordsFault 0 s n bs e
@@ -196,18 +196,18 @@ pub fn memory_is_taken_so()
 pub fn merges_are_these<M: Message>()
     ensures limit { (e : DecodeError) → IsLimit e
         ↔ ((e ≡ decoding.UnknownFieldLimitExceeded) ⊎ (e ≡ decoding.ElementMemoryLimitExceeded)) }
-    ensures fault { (d : ℕ) (v : M.Meaning) (bs : List ℕ) (need left : BudgetLeft) (e : DecodeError) →
-        MergeFault (M.merged d v bs) need left e ↔ (Lacks left need ⊎ ((M.merged d v bs ≡ None) × (IsLimit e → ⊥))) }
-    ensures merged { (d : ℕ) (v new : M.Meaning) (bs : List ℕ) (need before after : BudgetLeft) (x : Unit {0}) →
-        IsMerged (M.merged d v bs) need before (Ok x) new after ↔ ((M.merged d v bs ≡ Some new) × Pays before need after) }
-    ensures not_merged { (d : ℕ) (v new : M.Meaning) (bs : List ℕ) (need before after : BudgetLeft) (e : DecodeError) →
-        IsMerged {T = Unit {0}} (M.merged d v bs) need before (Err e) new after ↔ (PaysAtMost before need after
-        × (e ≢ decoding.OutOfMemory → MergeFault (M.merged d v bs) need before e)) }
-    ensures alone { (d : ℕ) (v new : M.Meaning) (bs : List ℕ) (need : BudgetLeft) (x : Unit {0}) →
-        IsMergedAlone (M.merged d v bs) need (Ok x) new ↔ ((M.merged d v bs ≡ Some new) × (Lacks defaults need → ⊥)) }
-    ensures not_alone { (d : ℕ) (v new : M.Meaning) (bs : List ℕ) (need : BudgetLeft) (e : DecodeError) →
-        IsMergedAlone {T = Unit {0}} (M.merged d v bs) need (Err e) new
-        ↔ (e ≢ decoding.OutOfMemory → MergeFault (M.merged d v bs) need defaults e) }
+    ensures fault { (d : ℕ) (v : M.Meaning) (bs : List ℕ) (charge left : BudgetLeft) (e : DecodeError) →
+        MergeFault (M.merged d v bs) charge left e ↔ (Lacks left charge ⊎ ((M.merged d v bs ≡ None) × (IsLimit e → ⊥))) }
+    ensures merged { (d : ℕ) (v new : M.Meaning) (bs : List ℕ) (charge before after : BudgetLeft) (x : Unit {0}) →
+        IsMerged (M.merged d v bs) charge before (Ok x) new after ↔ ((M.merged d v bs ≡ Some new) × Pays before charge after) }
+    ensures not_merged { (d : ℕ) (v new : M.Meaning) (bs : List ℕ) (charge before after : BudgetLeft) (e : DecodeError) →
+        IsMerged {T = Unit {0}} (M.merged d v bs) charge before (Err e) new after ↔ (PaysAtMost before charge after
+        × (e ≢ decoding.OutOfMemory → MergeFault (M.merged d v bs) charge before e)) }
+    ensures alone { (d : ℕ) (v new : M.Meaning) (bs : List ℕ) (charge : BudgetLeft) (x : Unit {0}) →
+        IsMergedAlone (M.merged d v bs) charge (Ok x) new ↔ ((M.merged d v bs ≡ Some new) × (Lacks defaults charge → ⊥)) }
+    ensures not_alone { (d : ℕ) (v new : M.Meaning) (bs : List ℕ) (charge : BudgetLeft) (e : DecodeError) →
+        IsMergedAlone {T = Unit {0}} (M.merged d v bs) charge (Err e) new
+        ↔ (e ≢ decoding.OutOfMemory → MergeFault (M.merged d v bs) charge defaults e) }
     ensures bytes { (d : ℕ) (v new : M.Meaning) (bs : List ℕ) (before after : BudgetLeft) (r : Result (Unit {0}) DecodeError) →
         MergesBytes M.merged M.cost d v bs before r new after ↔ IsMerged (M.merged d v bs) (M.cost d bs) before r new after }
     ensures begins { (bs : List ℕ) → BeginsField bs ↔ ((n : ℕ) × (w : WireType) × (rest : List ℕ)
@@ -219,7 +219,7 @@ pub fn fields_mean_their_payloads<M: MessageSpec>()
     ensures means { (d n : ℕ) (w : WireType) (v : M.Meaning) (t p : List ℕ) → IsTag t n w → Payload d n w p →
         M.merged d v (t ++ p) ≡ M.takes d v n w p }
     ensures costs { (d n : ℕ) (w : WireType) (t p : List ℕ) → IsTag t n w → Payload d n w p → M.cost d (t ++ p)
-        ≡ M.need d n w p }
+        ≡ M.charge d n w p }
 {}
 
 /// A field is taken by its payload: what the type makes of the payload is left, and what the field needs is spent. It is refused
@@ -227,18 +227,18 @@ pub fn fields_mean_their_payloads<M: MessageSpec>()
 /// an end tag.
 pub fn fields_are_taken_so<M: MessageSpec>()
     ensures taken { (d n : ℕ) (w : WireType) (v new : M.Meaning) (bs rest : List ℕ) (before after : BudgetLeft) (x : Unit {0}) →
-        IsTaken M.takes M.need d v n w bs before (Ok x) new after rest ↔ ((p : List ℕ) × Payload d n w p × (bs ≡ p ++ rest)
-        × (M.takes d v n w p ≡ Some new) × Pays before (M.need d n w bs) after) }
+        IsTaken M.takes M.charge d v n w bs before (Ok x) new after rest ↔ ((p : List ℕ) × Payload d n w p × (bs ≡ p ++ rest)
+        × (M.takes d v n w p ≡ Some new) × Pays before (M.charge d n w bs) after) }
     ensures refused { (d n : ℕ) (w : WireType) (v new : M.Meaning) (bs rest : List ℕ) (before after : BudgetLeft)
-        (e : DecodeError) → IsTaken {T = Unit {0}} M.takes M.need d v n w bs before (Err e) new after rest
-        ↔ (PaysAtMost before (M.need d n w bs) after
-        × (e ≢ decoding.OutOfMemory → Lacks before (M.need d n w bs)
+        (e : DecodeError) → IsTaken {T = Unit {0}} M.takes M.charge d v n w bs before (Err e) new after rest
+        ↔ (PaysAtMost before (M.charge d n w bs) after
+        × (e ≢ decoding.OutOfMemory → Lacks before (M.charge d n w bs)
         ⊎ (Untaken M.takes d v n w bs × (IsLimit e → ⊥)))
         × (e ≡ decoding.OutOfMemory → w ≢ wire.EndGroup)) }
     ensures untaken { (d n : ℕ) (w : WireType) (v : M.Meaning) (bs : List ℕ) → Untaken M.takes d v n w bs
         ↔ ((p rest : List ℕ) → Payload d n w p → bs ≡ p ++ rest → M.takes d v n w p ≡ None) }
-    ensures stays { Stays M.need ↔ ((d n : ℕ) (w : WireType) (p x : List ℕ) → Payload d n w p →
-        M.need d n w (p ++ x) ≡ M.need d n w p) }
+    ensures stays { Stays M.charge ↔ ((d n : ℕ) (w : WireType) (p x : List ℕ) → Payload d n w p →
+        M.charge d n w (p ++ x) ≡ M.charge d n w p) }
     ensures free { (d n : ℕ) (w : WireType) (bs : List ℕ) → costs_nothing d n w bs ≡ nothing }
 {}
 
@@ -279,8 +279,8 @@ pub fn merges_of_fields_are_these<M: Message>()
 /// What stands where merging was refused: what the fields at the front made of the value, and they were paid for. Behind them
 /// stands no tag, and the error is the tag's fault; or a field that is refused by that error, and there stands what it leaves.
 pub fn refused_merges_leave_these<M: Message>()
-    ensures stands { (d : ℕ) (old new : M.Meaning) (bs : List ℕ) (before : BudgetLeft) (e : DecodeError) →
-        Stands M.merged M.cost M.Refused d old bs before e new ↔ ((front : List ℕ) × (rest : List ℕ) × (bs ≡ front ++ rest)
+    ensures partly { (d : ℕ) (old new : M.Meaning) (bs : List ℕ) (before : BudgetLeft) (e : DecodeError) →
+        PartlyMerged M.merged M.cost M.Refused d old bs before e new ↔ ((front : List ℕ) × (rest : List ℕ) × (bs ≡ front ++ rest)
         × (0 < length rest) × (mid : M.Meaning) × (M.merged d old front ≡ Some mid)
         × (left : BudgetLeft) × Pays before (M.cost d front) left
         × (((tag_at rest ≡ Err e) × (new ≡ mid))
@@ -291,8 +291,8 @@ pub fn refused_merges_leave_these<M: Message>()
     ensures unchanged { (d n : ℕ) (w : WireType) (old new : M.Meaning) (bs : List ℕ) (left : BudgetLeft) (e : DecodeError) →
         Unchanged d old n w bs left e new ↔ (new ≡ old) }
     ensures inside { (d : ℕ) (old new : M.Meaning) (bs : List ℕ) (before : BudgetLeft) (e : DecodeError) →
-        StandsInside M.merged M.cost M.Refused d old bs before e new ↔ ((c : ℕ) (b rest : List ℕ) → d ≡ suc c →
-        delimited_at bs ≡ Ok (b, rest) → Stands M.merged M.cost M.Refused c old b before e new
+        PartlyMergedInside M.merged M.cost M.Refused d old bs before e new ↔ ((c : ℕ) (b rest : List ℕ) → d ≡ suc c →
+        delimited_at bs ≡ Ok (b, rest) → PartlyMerged M.merged M.cost M.Refused c old b before e new
         ⊎ ((e ≡ decoding.OutOfMemory) × (new ≡ old))) }
 {}
 

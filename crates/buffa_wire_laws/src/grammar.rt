@@ -11,15 +11,15 @@ ghost use Rattle.buffa_bytes.specs.declared.error.DecodeError.TheVariants.{Varin
 ghost use Rattle.buffa_bytes.specs.declared.wire_type.WireType.{WireType};
 ghost use Rattle.buffa_bytes.specs.declared.wire_type.WireType.TheVariants as wire;
 ghost use Rattle.buffa_bytes.specs.Varint.{Continue, IsByte, IsVarint, TakesVarint, VarintFault, base128};
-ghost use Rattle.buffa_bytes.specs.Content.{Content, ContentFault, HasContent, TakesContent, bytes, number};
+ghost use Rattle.buffa_bytes.specs.PayloadValue.{PayloadValue, PayloadValueFault, HasPayloadValue, TakesPayloadValue, bytes, number};
 ghost use Rattle.buffa_bytes.specs.Field.{BadTag, Field, IsTag, LengthFault, Payload, PayloadFault};
 ghost use Rattle.buffa_bytes.specs.Field.{SomeField, TagFault, TakesBytes, TakesDelimited, TakesPayload, TakesTag};
 ghost use Rattle.buffa_bytes.specs.Join.{Join};
 ghost use Rattle.buffa_wire.specs.Parse.{IsPayload, Parse, TakesField};
 ghost use Rattle.buffa_wire.specs.Parse.{TakesRecords, field_count, fields_inside};
 ghost use Rattle.buffa_wire.specs.Encoding.{wire_of};
-ghost use Rattle.buffa_wire.specs.Records as datum;
-ghost use Rattle.buffa_wire.specs.Records.{Datum, Records};
+ghost use Rattle.buffa_wire.specs.Records as field_data;
+ghost use Rattle.buffa_wire.specs.Records.{FieldData, Records};
 
 /// A varint is at most ten bytes: each but the last is 128 or more, and the last is below 128. Its value is below 2^64, and
 /// the sum of the low seven bits of each byte, the lowest first. Source: the protobuf encoding guide, "Base 128 Varints".
@@ -127,31 +127,31 @@ pub fn faults_of_payloads_are_these()
 
 /// What a payload holds: a varint its value; four or eight bytes the number that they spell, the lowest byte first; a length
 /// and so many bytes these bytes. Nothing else has contents.
-pub fn contents_are_these()
-    ensures varint { (p : List ℕ) (n : ℕ) → HasContent wire.Varint p (number n) ↔ IsVarint p n }
-    ensures fixed64 { (p : List ℕ) (n : ℕ) → HasContent wire.Fixed64 p (number n)
+pub fn payload_values_are_these()
+    ensures varint { (p : List ℕ) (n : ℕ) → HasPayloadValue wire.Varint p (number n) ↔ IsVarint p n }
+    ensures fixed64 { (p : List ℕ) (n : ℕ) → HasPayloadValue wire.Fixed64 p (number n)
         ↔ ((length p ≡ 8) × (n ≡ from_le_bytes w64 p)) }
-    ensures delimited { (p b : List ℕ) → HasContent wire.LengthDelimited p (bytes b)
+    ensures delimited { (p b : List ℕ) → HasPayloadValue wire.LengthDelimited p (bytes b)
         ↔ ((t : List ℕ) × IsVarint t (length b) × (p ≡ t ++ b)) }
-    ensures fixed32 { (p : List ℕ) (n : ℕ) → HasContent wire.Fixed32 p (number n)
+    ensures fixed32 { (p : List ℕ) (n : ℕ) → HasPayloadValue wire.Fixed32 p (number n)
         ↔ ((length p ≡ 4) × (n ≡ from_le_bytes w32 p)) }
-    ensures numbers { (w : WireType) (p : List ℕ) (n : ℕ) → HasContent w p (number n) → (w ≡ wire.Varint)
+    ensures numbers { (w : WireType) (p : List ℕ) (n : ℕ) → HasPayloadValue w p (number n) → (w ≡ wire.Varint)
         ⊎ ((w ≡ wire.Fixed64) ⊎ (w ≡ wire.Fixed32)) }
-    ensures no_numbers { (w : WireType) (p b : List ℕ) → HasContent w p (bytes b) → w ≡ wire.LengthDelimited }
-    ensures taken { (w : WireType) (old new : List ℕ) (c : Content) → TakesContent w old c new
-        ↔ ((p : List ℕ) × HasContent w p c × (old ≡ p ++ new)) }
+    ensures no_numbers { (w : WireType) (p b : List ℕ) → HasPayloadValue w p (bytes b) → w ≡ wire.LengthDelimited }
+    ensures taken { (w : WireType) (old new : List ℕ) (c : PayloadValue) → TakesPayloadValue w old c new
+        ↔ ((p : List ℕ) × HasPayloadValue w p c × (old ≡ p ++ new)) }
 {}
 
 /// Why nothing that a payload could hold begins bytes: the fault of the payload; a group's start and end have no contents.
-pub fn faults_of_contents_are_these()
-    ensures varint { (bs : List ℕ) (e : DecodeError) → ContentFault wire.Varint bs e ↔ VarintFault bs e }
-    ensures fixed64 { (bs : List ℕ) (e : DecodeError) → ContentFault wire.Fixed64 bs e
+pub fn faults_of_payload_values_are_these()
+    ensures varint { (bs : List ℕ) (e : DecodeError) → PayloadValueFault wire.Varint bs e ↔ VarintFault bs e }
+    ensures fixed64 { (bs : List ℕ) (e : DecodeError) → PayloadValueFault wire.Fixed64 bs e
         ↔ ((length bs < 8) × (e ≡ UnexpectedEof)) }
-    ensures delimited { (bs : List ℕ) (e : DecodeError) → ContentFault wire.LengthDelimited bs e
+    ensures delimited { (bs : List ℕ) (e : DecodeError) → PayloadValueFault wire.LengthDelimited bs e
         ↔ (VarintFault bs e ⊎ ((n : ℕ) × (rest : List ℕ) × TakesVarint bs n rest × (length rest < n) × (e ≡ UnexpectedEof))) }
-    ensures start { (bs : List ℕ) (e : DecodeError) → ContentFault wire.StartGroup bs e ↔ (e ≡ InvalidWireType 3) }
-    ensures end { (bs : List ℕ) (e : DecodeError) → ContentFault wire.EndGroup bs e ↔ (e ≡ InvalidWireType 4) }
-    ensures fixed32 { (bs : List ℕ) (e : DecodeError) → ContentFault wire.Fixed32 bs e
+    ensures start { (bs : List ℕ) (e : DecodeError) → PayloadValueFault wire.StartGroup bs e ↔ (e ≡ InvalidWireType 3) }
+    ensures end { (bs : List ℕ) (e : DecodeError) → PayloadValueFault wire.EndGroup bs e ↔ (e ≡ InvalidWireType 4) }
+    ensures fixed32 { (bs : List ℕ) (e : DecodeError) → PayloadValueFault wire.Fixed32 bs e
         ↔ ((length bs < 4) × (e ≡ UnexpectedEof)) }
 {}
 
@@ -159,31 +159,31 @@ pub fn faults_of_contents_are_these()
 /// A group has its records' fields, one level less deep, and an end tag of number n. Source: the protobuf encoding guide,
 /// "Message Structure" and "Groups".
 pub fn payloads_of_records_are_these()
-    ensures varint { (d n v : ℕ) (p : List ℕ) → IsPayload d n (datum.varint v) p ↔ IsVarint p v }
-    ensures fixed32 { (d n v : ℕ) (p : List ℕ) → IsPayload d n (datum.fixed32 v) p
+    ensures varint { (d n v : ℕ) (p : List ℕ) → IsPayload d n (field_data.varint v) p ↔ IsVarint p v }
+    ensures fixed32 { (d n v : ℕ) (p : List ℕ) → IsPayload d n (field_data.fixed32 v) p
         ↔ ((length p ≡ 4) × (v ≡ from_le_bytes w32 p)) }
-    ensures fixed64 { (d n v : ℕ) (p : List ℕ) → IsPayload d n (datum.fixed64 v) p
+    ensures fixed64 { (d n v : ℕ) (p : List ℕ) → IsPayload d n (field_data.fixed64 v) p
         ↔ ((length p ≡ 8) × (v ≡ from_le_bytes w64 p)) }
-    ensures bytes { (d n : ℕ) (v p : List ℕ) → IsPayload d n (datum.bytes v) p
+    ensures bytes { (d n : ℕ) (v p : List ℕ) → IsPayload d n (field_data.bytes v) p
         ↔ ((t : List ℕ) × IsVarint t (length v) × (p ≡ t ++ v)) }
-    ensures too_deep { (n : ℕ) (rs : Records) (p : List ℕ) → IsPayload 0 n (datum.group rs) p → ⊥ }
-    ensures group { (d n : ℕ) (rs : Records) (p : List ℕ) → IsPayload (suc d) n (datum.group rs) p
+    ensures too_deep { (n : ℕ) (rs : Records) (p : List ℕ) → IsPayload 0 n (field_data.group rs) p → ⊥ }
+    ensures group { (d n : ℕ) (rs : Records) (p : List ℕ) → IsPayload (suc d) n (field_data.group rs) p
         ↔ ((b : List ℕ) × (t : List ℕ) × Parse d b rs × IsTag t n wire.EndGroup × (p ≡ b ++ t)) }
-    ensures varint_wire { (v : ℕ) → wire_of (datum.varint v) ≡ wire.Varint }
-    ensures fixed32_wire { (v : ℕ) → wire_of (datum.fixed32 v) ≡ wire.Fixed32 }
-    ensures fixed64_wire { (v : ℕ) → wire_of (datum.fixed64 v) ≡ wire.Fixed64 }
-    ensures bytes_wire { (v : List ℕ) → wire_of (datum.bytes v) ≡ wire.LengthDelimited }
-    ensures group_wire { (rs : Records) → wire_of (datum.group rs) ≡ wire.StartGroup }
+    ensures varint_wire { (v : ℕ) → wire_of (field_data.varint v) ≡ wire.Varint }
+    ensures fixed32_wire { (v : ℕ) → wire_of (field_data.fixed32 v) ≡ wire.Fixed32 }
+    ensures fixed64_wire { (v : ℕ) → wire_of (field_data.fixed64 v) ≡ wire.Fixed64 }
+    ensures bytes_wire { (v : List ℕ) → wire_of (field_data.bytes v) ≡ wire.LengthDelimited }
+    ensures group_wire { (rs : Records) → wire_of (field_data.group rs) ≡ wire.StartGroup }
 {}
 
 /// Bytes are the fields of records: none of no records; else a tag of the first one's number and wire type, its payload, and
 /// the fields of the others.
 pub fn fields_of_records_are_these()
-    ensures none { (d : ℕ) (bs : List ℕ) → Parse d bs datum.no_records ↔ (bs ≡ []) }
-    ensures more { (d n : ℕ) (x : Datum) (rs : Records) (bs : List ℕ) → Parse d bs (datum.one n x rs)
+    ensures none { (d : ℕ) (bs : List ℕ) → Parse d bs field_data.no_records ↔ (bs ≡ []) }
+    ensures more { (d n : ℕ) (x : FieldData) (rs : Records) (bs : List ℕ) → Parse d bs (field_data.one n x rs)
         ↔ ((f : List ℕ) × (rest : List ℕ) × ((t : List ℕ) × (p : List ℕ) × IsTag t n (wire_of x) × IsPayload d n x p
         × (f ≡ t ++ p)) × Parse d rest rs × (bs ≡ f ++ rest)) }
-    ensures one_taken { (d s n : ℕ) (w : WireType) (old new : List ℕ) (x : Datum) (left : ℕ) → TakesField d s n w old x left new
+    ensures one_taken { (d s n : ℕ) (w : WireType) (old new : List ℕ) (x : FieldData) (left : ℕ) → TakesField d s n w old x left new
         ↔ ((p : List ℕ) × IsPayload d n x p × (wire_of x ≡ w) × (1 + fields_inside x + left ≡ s) × (old ≡ p ++ new)) }
     ensures taken { (d s : ℕ) (old new : List ℕ) (rs : Records) (left : ℕ) → TakesRecords d s old rs left new
         ↔ ((b : List ℕ) × Parse d b rs × (field_count rs + left ≡ s) × (old ≡ b ++ new)) }

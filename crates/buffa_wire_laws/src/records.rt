@@ -8,20 +8,20 @@ ghost use Rattle.buffa_bytes.specs.declared.wire_type.WireType.{WireType};
 ghost use Rattle.buffa_bytes.specs.declared.error.DecodeError.{DecodeError};
 ghost use Rattle.buffa_bytes.specs.declared.error.DecodeError.TheVariants.{OutOfMemory, UnknownFieldLimitExceeded};
 ghost use Rattle.buffa_bytes.specs.Field.{PayloadFault, SomeField, IsTag};
-ghost use Rattle.buffa_bytes.specs.Front.{tag_at};
+ghost use Rattle.buffa_bytes.specs.Readings.{tag_at};
 ghost use Rattle.buffa_wire.specs.Message.{TakesMessageField};
 ghost use Rattle.buffa_wire.specs.declared.context.DecodeContext.{DecodeContext};
 ghost use Rattle.buffa_bytes.specs.Join.{Join};
 ghost use Rattle.buffa_bytes.specs.Varint.{IsByte};
-ghost use Rattle.buffa_wire.specs.Records.{Datum, Held, height, records_of};
-ghost use Rattle.buffa_wire.specs.View.{datum_of, record_of};
+ghost use Rattle.buffa_wire.specs.Records.{FieldData, Held, height, records_of};
+ghost use Rattle.buffa_wire.specs.View.{field_data_of, record_of};
 ghost use Rattle.buffa_wire.specs.Encoding.{records_encoding};
 ghost use Rattle.buffa_wire.specs.Parse.{AreValid, FieldFault, Fits, InRange, Parse, RecordsFault, TakesField, field_count};
 ghost use Rattle.buffa_wire.specs.RecordReading.{field_at, list_at};
 ghost use Rattle.buffa_wire.specs.BudgetLeft.{BudgetLeft, nothing, plus};
 ghost use Rattle.buffa_wire.specs.Cache.{Cache, advanced, appended};
 ghost use Rattle.buffa_wire.specs.Enums.{open_number};
-ghost use Rattle.buffa_wire.specs.Kept.{keep_need, more_left};
+ghost use Rattle.buffa_wire.specs.Kept.{keep_charge, more_left};
 ghost use Rattle.buffa_wire.specs.Passes.{IsNext};
 ghost use Rattle.buffa_wire.specs.Pinned.{BudgetIsPinned, FieldIsPinned, FieldMergeIsPinned, InsideIsPinned, MergeIsPinned, PassesArePinned, RecordsArePinned};
 
@@ -33,21 +33,21 @@ use buffa_bytes::Blank;
 use buffa_wire::budget::{DEFAULT_ELEMENT_MEMORY_LIMIT, DEFAULT_UNKNOWN_FIELD_LIMIT};
 use buffa_wire::context::RECURSION_LIMIT;
 use buffa_wire::enumeration::{EnumValue, Enumeration};
-use buffa_wire::formed::{Formed, MessageForm};
 use buffa_wire::message::{MAX_MESSAGE_BYTES, Message, MessageSpec};
+use buffa_wire::message_impl::{MessageImpl, MessageMethods};
 use buffa_wire::unknown_fields::{UnknownField, UnknownFieldData, UnknownFields};
 
 /// Whole bytes are read as records exactly where the grammar has them and an unknown field is left for each
 /// record, nested ones too; else the first fault is returned.
 pub fn records_are_read()
-    ensures ok { (d s : ℕ) (bs : List ℕ) (rs : List (ℕ × Datum)) → (list_at d s bs ≡ Ok rs)
+    ensures ok { (d s : ℕ) (bs : List ℕ) (rs : List (ℕ × FieldData)) → (list_at d s bs ≡ Ok rs)
         ↔ (Parse d bs (records_of rs) × (field_count (records_of rs) ≤ s)) }
     ensures err { (d s : ℕ) (bs : List ℕ) (e : DecodeError) → (list_at d s bs ≡ Err e) ↔ RecordsFault d s bs e }
 {}
 
 /// The same of one field after its tag, and how many unknown fields it leaves, and what of the bytes.
 pub fn fields_are_read()
-    ensures ok { (d s n : ℕ) (w : WireType) (bs : List ℕ) (x : Datum) (left : ℕ) (rest : List ℕ) →
+    ensures ok { (d s n : ℕ) (w : WireType) (bs : List ℕ) (x : FieldData) (left : ℕ) (rest : List ℕ) →
         (field_at d s n w bs ≡ Ok (x, left, rest)) ↔ TakesField d s n w bs x left rest }
     ensures err { (d s n : ℕ) (w : WireType) (bs : List ℕ) (e : DecodeError) → (field_at d s n w bs ≡ Err e)
         ↔ FieldFault d s n w bs e }
@@ -57,8 +57,8 @@ pub fn fields_are_read()
 /// left. With more of them the result is the same, and so many more are left then. Nothing is left out.
 pub fn kept_fields_cost_so_much()
     ensures limit { (d s n : ℕ) (w : WireType) (bs : List ℕ) → (field_at d s n w bs ≡ Err UnknownFieldLimitExceeded)
-        ↔ (s < (keep_need d n w bs).unknown) }
-    ensures units { (d n : ℕ) (w : WireType) (bs : List ℕ) → (keep_need d n w bs).memory ≡ 0 }
+        ↔ (s < (keep_charge d n w bs).unknown) }
+    ensures units { (d n : ℕ) (w : WireType) (bs : List ℕ) → (keep_charge d n w bs).memory ≡ 0 }
     ensures more { (d s k n : ℕ) (w : WireType) (bs : List ℕ) → field_at d s n w bs ≢ Err UnknownFieldLimitExceeded →
         field_at d (s + k) n w bs ≡ more_left k (field_at d s n w bs) }
 {}
@@ -82,16 +82,16 @@ pub fn constants()
 /// more depth changes nothing. Such records have numbers that a field may have, and data in range.
 pub fn records_are_fields()
     ensures fields { (d : ℕ) (bs : List ℕ) → Join (SomeField d) bs
-        ↔ ((rs : List (ℕ × Datum)) × Parse d bs (records_of rs)) }
-    ensures deeper { (c d : ℕ) (bs : List ℕ) (rs : List (ℕ × Datum)) → c ≤ d → Parse c bs (records_of rs) →
+        ↔ ((rs : List (ℕ × FieldData)) × Parse d bs (records_of rs)) }
+    ensures deeper { (c d : ℕ) (bs : List ℕ) (rs : List (ℕ × FieldData)) → c ≤ d → Parse c bs (records_of rs) →
         Parse d bs (records_of rs) }
-    ensures valid { (d : ℕ) (bs : List ℕ) (rs : List (ℕ × Datum)) → AllByRecursion IsByte bs →
+    ensures valid { (d : ℕ) (bs : List ℕ) (rs : List (ℕ × FieldData)) → AllByRecursion IsByte bs →
         Parse d bs (records_of rs) → AreValid (records_of rs) }
 {}
 
 /// Bytes are the fields of one list of records, at any depths.
 pub fn one_reading()
-    ensures { (bs : List ℕ) (c d : ℕ) (rs qs : List (ℕ × Datum)) → Parse c bs (records_of rs) →
+    ensures { (bs : List ℕ) (c d : ℕ) (rs qs : List (ℕ × FieldData)) → Parse c bs (records_of rs) →
         Parse d bs (records_of qs) → rs ≡ qs }
 {}
 
@@ -99,12 +99,12 @@ pub fn one_reading()
 /// unknown field left for each. All records fit whose encoding is shorter than 2^64 bytes. The encoding of any records
 /// whose data are in range is that of no others.
 pub fn encodings_are_read_back()
-    ensures parses { (d : ℕ) (rs : List (ℕ × Datum)) → AreValid (records_of rs) → Fits (records_of rs) → height rs ≤ d →
+    ensures parses { (d : ℕ) (rs : List (ℕ × FieldData)) → AreValid (records_of rs) → Fits (records_of rs) → height rs ≤ d →
         Parse d (records_encoding rs) (records_of rs) }
-    ensures read { (d s : ℕ) (rs : List (ℕ × Datum)) → AreValid (records_of rs) → Fits (records_of rs) → height rs ≤ d →
+    ensures read { (d s : ℕ) (rs : List (ℕ × FieldData)) → AreValid (records_of rs) → Fits (records_of rs) → height rs ≤ d →
         field_count (records_of rs) ≤ s → list_at d s (records_encoding rs) ≡ Ok rs }
-    ensures fits { (rs : List (ℕ × Datum)) → length (records_encoding rs) < 2 ^ 64 → Fits (records_of rs) }
-    ensures theirs { (d : ℕ) (rs qs : List (ℕ × Datum)) → InRange (records_of rs) →
+    ensures fits { (rs : List (ℕ × FieldData)) → length (records_encoding rs) < 2 ^ 64 → Fits (records_of rs) }
+    ensures theirs { (d : ℕ) (rs qs : List (ℕ × FieldData)) → InRange (records_of rs) →
         Parse d (records_encoding rs) (records_of qs) → qs ≡ rs }
 {}
 
@@ -113,7 +113,7 @@ pub fn equality_is_of_records()
     ensures fields { (a b : Held) → (⟦<UnknownFields as PartialEq>⟧.eq a b ≡ true) ↔ (a.records ≡ b.records) }
     ensures field { (a b : UnknownField) → (⟦<UnknownField as PartialEq>⟧.eq a b ≡ true) ↔ (record_of a ≡ record_of b) }
     ensures payload { (a b : UnknownFieldData) → (⟦<UnknownFieldData as PartialEq>⟧.eq a b ≡ true)
-        ↔ (datum_of a ≡ datum_of b) }
+        ↔ (field_data_of a ≡ field_data_of b) }
 {}
 
 /// Merging no bytes changes nothing. A field is merged, and then what follows it into what the field makes, and nothing
@@ -132,7 +132,7 @@ pub fn costs_add<M: MessageSpec>()
     ensures none { (d : ℕ) → M.cost d [] ≡ nothing }
     ensures no_tag { (d : ℕ) (bs : List ℕ) (e : DecodeError) → tag_at bs ≡ Err e → M.cost d bs ≡ nothing }
     ensures no_payload { (d n : ℕ) (w : WireType) (t bs : List ℕ) (e : DecodeError) → IsTag t n w → PayloadFault d n w bs e →
-        M.cost d (t ++ bs) ≡ M.need d n w bs }
+        M.cost d (t ++ bs) ≡ M.charge d n w bs }
     ensures next { (d : ℕ) (f r : List ℕ) → SomeField d f → M.cost d (f ++ r) ≡ plus (M.cost d f) (M.cost d r) }
 {}
 
@@ -183,26 +183,26 @@ pub fn records_are_pinned()
 
 /// A type that is a message as another says means, costs and is written as that one says, and of a field that is
 /// refused it leaves what that one says. It doesn't say where memory runs out: the calls of the message do.
-pub fn formed_messages_are_these<M: Formed>()
+pub fn message_impls_are_these<M: MessageImpl>()
 where
-    M::Form: MessageForm<M>,
-    ensures merged { (⟦<M as MessageSpec>⟧.merged ≡ M.Form.merged) × (⟦<M as MessageSpec>⟧.cost ≡ M.Form.cost) }
-    ensures encoding { (v : M.Meaning) → ⟦<M as MessageSpec>⟧.encoding v ≡ records_encoding (M.Form.records v) }
-    ensures records { ⟦<M as MessageSpec>⟧.records ≡ M.Form.records }
-    ensures slots { ⟦<M as MessageSpec>⟧.slots ≡ M.Form.slots }
-    ensures levels { ⟦<M as MessageSpec>⟧.levels ≡ M.Form.levels }
+    M::Impl: MessageMethods<M>,
+    ensures merged { (⟦<M as MessageSpec>⟧.merged ≡ M.Impl.merged) × (⟦<M as MessageSpec>⟧.cost ≡ M.Impl.cost) }
+    ensures encoding { (v : M.Meaning) → ⟦<M as MessageSpec>⟧.encoding v ≡ records_encoding (M.Impl.records v) }
+    ensures records { ⟦<M as MessageSpec>⟧.records ≡ M.Impl.records }
+    ensures slots { ⟦<M as MessageSpec>⟧.slots ≡ M.Impl.slots }
+    ensures levels { ⟦<M as MessageSpec>⟧.levels ≡ M.Impl.levels }
     ensures refused { (d : ℕ) (v : M.Meaning) (n : ℕ) (w : WireType) (bs : List ℕ) (l : BudgetLeft) (e : DecodeError)
-        (u : M.Meaning) → ⟦<M as MessageSpec>⟧.Refused d v n w bs l e u ↔ M.Form.Refused d v n w bs l e u }
+        (u : M.Meaning) → ⟦<M as MessageSpec>⟧.Refused d v n w bs l e u ↔ M.Impl.Refused d v n w bs l e u }
     ensures taken { (ctx : DecodeContext) (old new : M) (n : ℕ) (w : WireType) (bs rest : List ℕ) (after : BudgetLeft)
-        (r : Result (Unit {0}) DecodeError) → TakesMessageField M.Form.Taken ctx old n w bs r new after rest
-        ↔ M.Form.Taken ctx.depth old n w bs ctx.budget.now r new after rest }
-    ensures normal { (v : M.Meaning) → ⟦<M as MessageSpec>⟧.normal v ↔ M.Form.normal v }
-    ensures units { ⟦<M as MessageSpec>⟧.COST ≡ M.Form.COST }
+        (r : Result (Unit {0}) DecodeError) → TakesMessageField M.Impl.Taken ctx old n w bs r new after rest
+        ↔ M.Impl.Taken ctx.depth old n w bs ctx.budget.now r new after rest }
+    ensures normal { (v : M.Meaning) → ⟦<M as MessageSpec>⟧.normal v ↔ M.Impl.normal v }
+    ensures units { ⟦<M as MessageSpec>⟧.COST ≡ M.Impl.COST }
 {}
 
 /// What is spent leaves one budget, and it is spent exactly where it is there. Nothing is left out.
 pub fn budgets_are_pinned()
-    ensures { (left need : BudgetLeft) → BudgetIsPinned left need }
+    ensures { (left charge : BudgetLeft) → BudgetIsPinned left charge }
 {}
 
 /// What a value of an open enum means: of a declared value that it is declared, and its number; of a number that it is
@@ -222,7 +222,7 @@ pub fn open_enums_are_compared<E: Enumeration + Clone + PartialEq>()
     ensures number { (m n : ℤ) → (⟦<EnumValue<E> as PartialEq>⟧.eq (EnumValue.Unknown m) (EnumValue.Unknown n) ≡ true)
         ↔ (m ≡ n) }
     ensures apart { (a : E) (n : ℤ) → ⟦<EnumValue<E> as PartialEq>⟧.eq (EnumValue.Known a) (EnumValue.Unknown n) ≡ false }
-    ensures apart_back { (a : E) (n : ℤ) → ⟦<EnumValue<E> as PartialEq>⟧.eq (EnumValue.Unknown n) (EnumValue.Known a)
+    ensures back_through { (a : E) (n : ℤ) → ⟦<EnumValue<E> as PartialEq>⟧.eq (EnumValue.Unknown n) (EnumValue.Known a)
         ≡ false }
     ensures known_clone { (a : E) (c : EnumValue E) → ⟦<EnumValue<E> as Clone>⟧.is_clone (EnumValue.Known a) c →
         (b : E) × (c ≡ EnumValue.Known b) × E.is_clone a b }

@@ -14,7 +14,7 @@ ghost use Rattle.buffa_wire.specs.declared.reals.DoubleBits.{DoubleBits};
 ghost use Rattle.buffa_wire.specs.declared.reals.FloatBits.{FloatBits};
 ghost use Rattle.buffa_wire.specs.Found.{fixed32_in, fixed64_in, varint_in};
 ghost use Rattle.buffa_wire.specs.Pinned.{IsRecordedAs, IsSpelled, SpellsBelow};
-ghost use Rattle.buffa_wire.specs.Records.{Datum, fixed32, fixed64, varint};
+ghost use Rattle.buffa_wire.specs.Records.{FieldData, fixed32, fixed64, varint};
 
 use buffa_bytes::Blank;
 use buffa_wire::form::{EightBytes, Form, FourBytes, Varint};
@@ -113,13 +113,13 @@ pub fn scalars_have_lengths()
 /// How each form spells a number, which numbers it spells, and the record of one. Nothing is left out.
 pub fn forms_are_these()
     ensures varint { SpellsBelow ⟦<Varint as Form>⟧.encoding ⟦<Varint as Form>⟧.spells varint_encoding (2 ^ 64) }
-    ensures varint_record { IsRecordedAs ⟦<Varint as Form>⟧.datum ⟦<Varint as Form>⟧.found varint varint_in }
+    ensures varint_record { IsRecordedAs ⟦<Varint as Form>⟧.field_data ⟦<Varint as Form>⟧.found varint varint_in }
     ensures varint_wire { ⟦<Varint as Form>⟧.WIRE_TYPE ≡ wire.Varint }
     ensures four { SpellsBelow ⟦<FourBytes as Form>⟧.encoding ⟦<FourBytes as Form>⟧.spells (to_le_bytes w32) (2 ^ 32) }
-    ensures four_record { IsRecordedAs ⟦<FourBytes as Form>⟧.datum ⟦<FourBytes as Form>⟧.found fixed32 fixed32_in }
+    ensures four_record { IsRecordedAs ⟦<FourBytes as Form>⟧.field_data ⟦<FourBytes as Form>⟧.found fixed32 fixed32_in }
     ensures four_wire { ⟦<FourBytes as Form>⟧.WIRE_TYPE ≡ wire.Fixed32 }
     ensures eight { SpellsBelow ⟦<EightBytes as Form>⟧.encoding ⟦<EightBytes as Form>⟧.spells (to_le_bytes w64) (2 ^ 64) }
-    ensures eight_record { IsRecordedAs ⟦<EightBytes as Form>⟧.datum ⟦<EightBytes as Form>⟧.found fixed64 fixed64_in }
+    ensures eight_record { IsRecordedAs ⟦<EightBytes as Form>⟧.field_data ⟦<EightBytes as Form>⟧.found fixed64 fixed64_in }
     ensures eight_wire { ⟦<EightBytes as Form>⟧.WIRE_TYPE ≡ wire.Fixed64 }
 {}
 
@@ -131,8 +131,8 @@ pub fn words_of_scalars_are_these<V>()
     ensures below { (spelling wanted : ℕ → List ℕ) (spells : ℕ → _) (limit : ℕ) →
         SpellsBelow spelling (λ n. spells n ≡ true) wanted limit
         ↔ ((n : ℕ) → (spelling n ≡ wanted n) × ((spells n ≡ true) ↔ (n < limit))) }
-    ensures recorded { (datum wanted : ℕ → Datum) (found found_so : Datum → Option ℕ) → IsRecordedAs datum found wanted found_so
-        ↔ (((n : ℕ) → datum n ≡ wanted n) × (found ≡ found_so)) }
+    ensures recorded { (field_data wanted : ℕ → FieldData) (found found_so : FieldData → Option ℕ) → IsRecordedAs field_data found wanted found_so
+        ↔ (((n : ℕ) → field_data n ≡ wanted n) × (found ≡ found_so)) }
 {}
 
 /// A real number means its bits, and its default is that of which no bit is set. Two are equal exactly where their bits are,

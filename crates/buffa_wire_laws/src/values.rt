@@ -16,7 +16,7 @@ ghost use Rattle.buffa_bytes.specs.declared.error.EncodeError.TheVariants as enc
 ghost use Rattle.buffa_bytes.specs.declared.error.MessageSetFault.TheVariants as item;
 ghost use Rattle.buffa_bytes.specs.declared.wire_type.WireType.{WireType};
 ghost use Rattle.buffa_bytes.specs.declared.wire_type.WireType.TheVariants as wire;
-ghost use Rattle.buffa_bytes.specs.Content.{Content, bytes, bytes_in, content_at, content_by, number, number_in};
+ghost use Rattle.buffa_bytes.specs.PayloadValue.{PayloadValue, bytes, bytes_in, payload_value_at, payload_value_by, number, number_in};
 ghost use Rattle.buffa_bytes.specs.Delimited.{string_as, text_as};
 ghost use Rattle.buffa_bytes.specs.ErrorText.{decode_error_text, encode_error_text, message_set_fault_text};
 ghost use Rattle.buffa_bytes.specs.Scalars.{bool_at, bool_encoding, bool_of, eight_as, fixed32_at, fixed32_encoding, fixed32_of};
@@ -32,10 +32,10 @@ ghost use Rattle.buffa_wire.specs.Encoding.{encodings, payload_encoding, records
 ghost use Rattle.buffa_wire.specs.Enums.{DeclaresBlank, Numbers, Refines, numbers, open_number};
 ghost use Rattle.buffa_wire.specs.Found.{fixed32_in, fixed64_in, varint_in};
 ghost use Rattle.buffa_wire.specs.Parse.{AreValid, Fits, InRange, field_count, fields_inside};
-ghost use Rattle.buffa_wire.specs.Records as datum;
-ghost use Rattle.buffa_wire.specs.Records.{Datum, Held, IsEmpty, IsNumeric, Records, datum_height, height, records_height};
+ghost use Rattle.buffa_wire.specs.Records as field_data;
+ghost use Rattle.buffa_wire.specs.Records.{FieldData, Held, IsEmpty, IsNumeric, Records, field_data_height, height, records_height};
 ghost use Rattle.buffa_wire.specs.Records.{records_of};
-ghost use Rattle.buffa_wire.specs.View.{AnswersRecords, CalledAtRecord, datum_of, held, record_of, records_in};
+ghost use Rattle.buffa_wire.specs.View.{AnswersRecords, CalledAtRecord, field_data_of, held, record_of, records_in};
 ghost use Rattle.buffa_wire.specs.declared.unknown_fields.UnknownFieldData.TheVariants as payload;
 ghost use Rattle.buffa_wire.specs.declared.unknown_fields.UnknownFields.TheInside.{Inside};
 
@@ -99,17 +99,17 @@ pub fn scalars_at_the_front_are_these()
 {}
 
 /// What is made of the content of a payload: the number or the bytes, and of bytes that are UTF-8 their text.
-pub fn contents_mean_these<V>()
+pub fn payload_values_mean_these<V>()
     ensures number { (n : ℕ) → number_in (number n) ≡ n }
     ensures bytes { (b : List ℕ) → bytes_in (bytes b) ≡ b }
     ensures text { (of : List ℕ → V) (b : List ℕ) → is_utf8 b ≡ true → text_as of b ≡ Ok (of b) }
     ensures no_text { (of : List ℕ → V) (b : List ℕ) → is_utf8 b ≡ false → text_as of b ≡ Err InvalidUtf8 }
-    ensures made { (w : WireType) (of : Content → Result V DecodeError) (bs rest : List ℕ) (c : Content) (v : V) →
-        content_at w bs ≡ Ok (c, rest) → of c ≡ Ok v → content_by w of bs ≡ Ok (v, rest) }
-    ensures refused { (w : WireType) (of : Content → Result V DecodeError) (bs rest : List ℕ) (c : Content) (e : DecodeError) →
-        content_at w bs ≡ Ok (c, rest) → of c ≡ Err e → content_by w of bs ≡ Err e }
-    ensures no_content { (w : WireType) (of : Content → Result V DecodeError) (bs : List ℕ) (e : DecodeError) →
-        content_at w bs ≡ Err e → content_by w of bs ≡ Err e }
+    ensures made { (w : WireType) (of : PayloadValue → Result V DecodeError) (bs rest : List ℕ) (c : PayloadValue) (v : V) →
+        payload_value_at w bs ≡ Ok (c, rest) → of c ≡ Ok v → payload_value_by w of bs ≡ Ok (v, rest) }
+    ensures refused { (w : WireType) (of : PayloadValue → Result V DecodeError) (bs rest : List ℕ) (c : PayloadValue) (e : DecodeError) →
+        payload_value_at w bs ≡ Ok (c, rest) → of c ≡ Err e → payload_value_by w of bs ≡ Err e }
+    ensures no_payload_value { (w : WireType) (of : PayloadValue → Result V DecodeError) (bs : List ℕ) (e : DecodeError) →
+        payload_value_at w bs ≡ Err e → payload_value_by w of bs ≡ Err e }
 {}
 
 /// A number of an open enum stays, declared or not, and is declared where a value has it. The numbers of an enum are those
@@ -127,39 +127,39 @@ pub fn numbers_of_enums_stay<E: Enumeration>()
 
 /// The record of an unknown field: its number, and the number, the bytes or the records that it holds.
 pub fn records_of_fields_are_these()
-    ensures field { (f : UnknownField) → record_of f ≡ (f.number, datum_of f.payload) }
-    ensures varint { (v : ℕ) → datum_of (payload.Varint v) ≡ datum.varint v }
-    ensures fixed32 { (v : ℕ) → datum_of (payload.Fixed32 v) ≡ datum.fixed32 v }
-    ensures fixed64 { (v : ℕ) → datum_of (payload.Fixed64 v) ≡ datum.fixed64 v }
-    ensures bytes { (b : Vec ℕ Global) → datum_of (payload.LengthDelimited b) ≡ datum.bytes b.items }
-    ensures group { (fs : Held) → datum_of (payload.Group fs) ≡ datum.group (records_of fs.records) }
+    ensures field { (f : UnknownField) → record_of f ≡ (f.number, field_data_of f.payload) }
+    ensures varint { (v : ℕ) → field_data_of (payload.Varint v) ≡ field_data.varint v }
+    ensures fixed32 { (v : ℕ) → field_data_of (payload.Fixed32 v) ≡ field_data.fixed32 v }
+    ensures fixed64 { (v : ℕ) → field_data_of (payload.Fixed64 v) ≡ field_data.fixed64 v }
+    ensures bytes { (b : Vec ℕ Global) → field_data_of (payload.LengthDelimited b) ≡ field_data.bytes b.items }
+    ensures group { (fs : Held) → field_data_of (payload.Group fs) ≡ field_data.group (records_of fs.records) }
     ensures held { (a : Inside) → (held a).records ≡ records_in a.fields.items }
     ensures spare { (a : Inside) → (held a).spare ≡ vec_capacity a.fields - vec_len a.fields }
-    ensures no_records { records_of [] ≡ datum.no_records }
-    ensures more_records { (r : ℕ × Datum) (rs : List (ℕ × Datum)) → records_of (r ∷ rs) ≡ datum.one r.0 r.1 (records_of rs) }
+    ensures no_records { records_of [] ≡ field_data.no_records }
+    ensures more_records { (r : ℕ × FieldData) (rs : List (ℕ × FieldData)) → records_of (r ∷ rs) ≡ field_data.one r.0 r.1 (records_of rs) }
     ensures no_fields { records_in [] ≡ [] }
     ensures more_fields { (f : UnknownField) (fs : List UnknownField) → records_in (f ∷ fs) ≡ record_of f ∷ records_in fs }
-    ensures varint_found { (d : Datum) (v : ℕ) → (varint_in d ≡ Some v) ↔ (d ≡ datum.varint v) }
-    ensures fixed32_found { (d : Datum) (v : ℕ) → (fixed32_in d ≡ Some v) ↔ (d ≡ datum.fixed32 v) }
-    ensures fixed64_found { (d : Datum) (v : ℕ) → (fixed64_in d ≡ Some v) ↔ (d ≡ datum.fixed64 v) }
+    ensures varint_found { (d : FieldData) (v : ℕ) → (varint_in d ≡ Some v) ↔ (d ≡ field_data.varint v) }
+    ensures fixed32_found { (d : FieldData) (v : ℕ) → (fixed32_in d ≡ Some v) ↔ (d ≡ field_data.fixed32 v) }
+    ensures fixed64_found { (d : FieldData) (v : ℕ) → (fixed64_in d ≡ Some v) ↔ (d ≡ field_data.fixed64 v) }
 {}
 
 /// A test of unknown fields is called at a record where it is called at a field of that record. It answers by records alone, as
 /// p does, where each of its answers is that of p at the field's record, and a call leaves it as it was.
 pub fn tests_of_records_are_these<F: FnMut(&UnknownField) -> bool>()
-    ensures called { (f g : F) (r : ℕ × Datum) (b : Bool) → CalledAtRecord (CalledAt F.FnMut) f r b g
+    ensures called { (f g : F) (r : ℕ × FieldData) (b : Bool) → CalledAtRecord (CalledAt F.FnMut) f r b g
         ↔ ((x : UnknownField) × (record_of x ≡ r) × CalledAt F.FnMut f x b g) }
-    ensures answers { (f : F) (p : ℕ × Datum → Bool) → AnswersRecords (CalledAt F.FnMut) f p
+    ensures answers { (f : F) (p : ℕ × FieldData → Bool) → AnswersRecords (CalledAt F.FnMut) f p
         ↔ ((x : UnknownField) (b : Bool) (g : F) → CalledAt F.FnMut f x b g → (b ≡ p (record_of x)) × (g ≡ f)) }
 {}
 
 /// Data for whose copy no memory is wanted: a number, no bytes, and a group of no records.
 pub fn data_without_memory_are_these()
-    ensures varint { (v : ℕ) → IsNumeric (datum.varint v) }
-    ensures fixed32 { (v : ℕ) → IsNumeric (datum.fixed32 v) }
-    ensures fixed64 { (v : ℕ) → IsNumeric (datum.fixed64 v) }
-    ensures bytes { (b : List ℕ) → (IsNumeric (datum.bytes b) → ⊥) × (IsEmpty (datum.bytes b) ↔ (b ≡ [])) }
-    ensures group { (rs : Records) → (IsNumeric (datum.group rs) → ⊥) × (IsEmpty (datum.group rs) ↔ (rs ≡ datum.no_records)) }
+    ensures varint { (v : ℕ) → IsNumeric (field_data.varint v) }
+    ensures fixed32 { (v : ℕ) → IsNumeric (field_data.fixed32 v) }
+    ensures fixed64 { (v : ℕ) → IsNumeric (field_data.fixed64 v) }
+    ensures bytes { (b : List ℕ) → (IsNumeric (field_data.bytes b) → ⊥) × (IsEmpty (field_data.bytes b) ↔ (b ≡ [])) }
+    ensures group { (rs : Records) → (IsNumeric (field_data.group rs) → ⊥) × (IsEmpty (field_data.group rs) ↔ (rs ≡ field_data.no_records)) }
 {}
 
 /// What is printed of each error: its name, and what it holds in decimal, wire types as their numbers.
@@ -194,33 +194,33 @@ pub fn texts_of_errors_are_these()
 
 /// How many records there are, those in groups counted too, and how deep groups nest.
 pub fn records_are_counted()
-    ensures none { field_count datum.no_records ≡ 0 }
-    ensures more { (n : ℕ) (x : Datum) (rs : Records) → field_count (datum.one n x rs) ≡ 1 + fields_inside x + field_count rs }
-    ensures varint { (v : ℕ) → (fields_inside (datum.varint v) ≡ 0) × (datum_height (datum.varint v) ≡ 0) }
-    ensures fixed32 { (v : ℕ) → (fields_inside (datum.fixed32 v) ≡ 0) × (datum_height (datum.fixed32 v) ≡ 0) }
-    ensures fixed64 { (v : ℕ) → (fields_inside (datum.fixed64 v) ≡ 0) × (datum_height (datum.fixed64 v) ≡ 0) }
-    ensures bytes { (b : List ℕ) → (fields_inside (datum.bytes b) ≡ 0) × (datum_height (datum.bytes b) ≡ 0) }
-    ensures group { (rs : Records) → fields_inside (datum.group rs) ≡ field_count rs }
-    ensures group_height { (rs : Records) → datum_height (datum.group rs) ≡ suc (records_height rs) }
-    ensures no_heights { records_height datum.no_records ≡ 0 }
-    ensures heights { (n : ℕ) (x : Datum) (rs : Records) → records_height (datum.one n x rs)
-        ≡ max (datum_height x) (records_height rs) }
+    ensures none { field_count field_data.no_records ≡ 0 }
+    ensures more { (n : ℕ) (x : FieldData) (rs : Records) → field_count (field_data.one n x rs) ≡ 1 + fields_inside x + field_count rs }
+    ensures varint { (v : ℕ) → (fields_inside (field_data.varint v) ≡ 0) × (field_data_height (field_data.varint v) ≡ 0) }
+    ensures fixed32 { (v : ℕ) → (fields_inside (field_data.fixed32 v) ≡ 0) × (field_data_height (field_data.fixed32 v) ≡ 0) }
+    ensures fixed64 { (v : ℕ) → (fields_inside (field_data.fixed64 v) ≡ 0) × (field_data_height (field_data.fixed64 v) ≡ 0) }
+    ensures bytes { (b : List ℕ) → (fields_inside (field_data.bytes b) ≡ 0) × (field_data_height (field_data.bytes b) ≡ 0) }
+    ensures group { (rs : Records) → fields_inside (field_data.group rs) ≡ field_count rs }
+    ensures group_height { (rs : Records) → field_data_height (field_data.group rs) ≡ suc (records_height rs) }
+    ensures no_heights { records_height field_data.no_records ≡ 0 }
+    ensures heights { (n : ℕ) (x : FieldData) (rs : Records) → records_height (field_data.one n x rs)
+        ≡ max (field_data_height x) (records_height rs) }
     ensures no_height { height [] ≡ 0 }
-    ensures height { (r : ℕ × Datum) (rs : List (ℕ × Datum)) → height (r ∷ rs) ≡ max (datum_height r.1) (height rs) }
+    ensures height { (r : ℕ × FieldData) (rs : List (ℕ × FieldData)) → height (r ∷ rs) ≡ max (field_data_height r.1) (height rs) }
 {}
 
 /// The encoding of records: for each its tag and what follows it, one after the other. After a group's tag come its records
 /// and the end tag. Source: the protobuf encoding guide, "Message Structure" and "Groups".
 pub fn encodings_of_records_are_these<V>()
     ensures none { records_encoding [] ≡ [] }
-    ensures more { (r : ℕ × Datum) (rs : List (ℕ × Datum)) → records_encoding (r ∷ rs)
+    ensures more { (r : ℕ × FieldData) (rs : List (ℕ × FieldData)) → records_encoding (r ∷ rs)
         ≡ tagged_encoding r.0 r.1 ++ records_encoding rs }
-    ensures one { (n : ℕ) (x : Datum) → tagged_encoding n x ≡ tag_encoding n (wire_of x) ++ payload_encoding n x }
-    ensures varint { (n v : ℕ) → payload_encoding n (datum.varint v) ≡ varint_encoding v }
-    ensures fixed32 { (n v : ℕ) → payload_encoding n (datum.fixed32 v) ≡ to_le_bytes w32 v }
-    ensures fixed64 { (n v : ℕ) → payload_encoding n (datum.fixed64 v) ≡ to_le_bytes w64 v }
-    ensures bytes { (n : ℕ) (b : List ℕ) → payload_encoding n (datum.bytes b) ≡ varint_encoding (length b) ++ b }
-    ensures group { (n : ℕ) (rs : List (ℕ × Datum)) → payload_encoding n (datum.group (records_of rs))
+    ensures one { (n : ℕ) (x : FieldData) → tagged_encoding n x ≡ tag_encoding n (wire_of x) ++ payload_encoding n x }
+    ensures varint { (n v : ℕ) → payload_encoding n (field_data.varint v) ≡ varint_encoding v }
+    ensures fixed32 { (n v : ℕ) → payload_encoding n (field_data.fixed32 v) ≡ to_le_bytes w32 v }
+    ensures fixed64 { (n v : ℕ) → payload_encoding n (field_data.fixed64 v) ≡ to_le_bytes w64 v }
+    ensures bytes { (n : ℕ) (b : List ℕ) → payload_encoding n (field_data.bytes b) ≡ varint_encoding (length b) ++ b }
+    ensures group { (n : ℕ) (rs : List (ℕ × FieldData)) → payload_encoding n (field_data.group (records_of rs))
         ≡ records_encoding rs ++ tag_encoding n wire.EndGroup }
     ensures no_values { (of : V → List ℕ) → encodings of [] ≡ [] }
     ensures values { (of : V → List ℕ) (v : V) (vs : List V) → encodings of (v ∷ vs) ≡ of v ++ encodings of vs }
@@ -228,36 +228,36 @@ pub fn encodings_of_records_are_these<V>()
 
 /// Data that are in range: a varint and eight bytes below 2^64, four bytes below 2^32, and in a group all of its records'.
 pub fn ranges_of_data_are_these()
-    ensures none { InRange datum.no_records }
-    ensures varint { (n v : ℕ) (rs : Records) → InRange (datum.one n (datum.varint v) rs) ↔ ((v < 2 ^ 64) × InRange rs) }
-    ensures fixed32 { (n v : ℕ) (rs : Records) → InRange (datum.one n (datum.fixed32 v) rs) ↔ ((v < 2 ^ 32) × InRange rs) }
-    ensures fixed64 { (n v : ℕ) (rs : Records) → InRange (datum.one n (datum.fixed64 v) rs) ↔ ((v < 2 ^ 64) × InRange rs) }
-    ensures bytes { (n : ℕ) (b : List ℕ) (rs : Records) → InRange (datum.one n (datum.bytes b) rs) ↔ InRange rs }
-    ensures group { (n : ℕ) (qs rs : Records) → InRange (datum.one n (datum.group qs) rs) ↔ (InRange qs × InRange rs) }
+    ensures none { InRange field_data.no_records }
+    ensures varint { (n v : ℕ) (rs : Records) → InRange (field_data.one n (field_data.varint v) rs) ↔ ((v < 2 ^ 64) × InRange rs) }
+    ensures fixed32 { (n v : ℕ) (rs : Records) → InRange (field_data.one n (field_data.fixed32 v) rs) ↔ ((v < 2 ^ 32) × InRange rs) }
+    ensures fixed64 { (n v : ℕ) (rs : Records) → InRange (field_data.one n (field_data.fixed64 v) rs) ↔ ((v < 2 ^ 64) × InRange rs) }
+    ensures bytes { (n : ℕ) (b : List ℕ) (rs : Records) → InRange (field_data.one n (field_data.bytes b) rs) ↔ InRange rs }
+    ensures group { (n : ℕ) (qs rs : Records) → InRange (field_data.one n (field_data.group qs) rs) ↔ (InRange qs × InRange rs) }
 {}
 
 /// Records that fit: no length of bytes in them is 2^64 or more, in a group neither.
 pub fn records_that_fit_are_these()
-    ensures none { Fits datum.no_records }
-    ensures varint { (n v : ℕ) (rs : Records) → Fits (datum.one n (datum.varint v) rs) ↔ Fits rs }
-    ensures fixed32 { (n v : ℕ) (rs : Records) → Fits (datum.one n (datum.fixed32 v) rs) ↔ Fits rs }
-    ensures fixed64 { (n v : ℕ) (rs : Records) → Fits (datum.one n (datum.fixed64 v) rs) ↔ Fits rs }
-    ensures bytes { (n : ℕ) (b : List ℕ) (rs : Records) → Fits (datum.one n (datum.bytes b) rs)
+    ensures none { Fits field_data.no_records }
+    ensures varint { (n v : ℕ) (rs : Records) → Fits (field_data.one n (field_data.varint v) rs) ↔ Fits rs }
+    ensures fixed32 { (n v : ℕ) (rs : Records) → Fits (field_data.one n (field_data.fixed32 v) rs) ↔ Fits rs }
+    ensures fixed64 { (n v : ℕ) (rs : Records) → Fits (field_data.one n (field_data.fixed64 v) rs) ↔ Fits rs }
+    ensures bytes { (n : ℕ) (b : List ℕ) (rs : Records) → Fits (field_data.one n (field_data.bytes b) rs)
         ↔ ((length b < 2 ^ 64) × Fits rs) }
-    ensures group { (n : ℕ) (qs rs : Records) → Fits (datum.one n (datum.group qs) rs) ↔ (Fits qs × Fits rs) }
+    ensures group { (n : ℕ) (qs rs : Records) → Fits (field_data.one n (field_data.group qs) rs) ↔ (Fits qs × Fits rs) }
 {}
 
 /// Valid records: each has a number that a field may have, in a group too, and data in range.
 pub fn valid_records_are_these()
-    ensures none { AreValid datum.no_records }
-    ensures varint { (n v : ℕ) (rs : Records) → AreValid (datum.one n (datum.varint v) rs)
+    ensures none { AreValid field_data.no_records }
+    ensures varint { (n v : ℕ) (rs : Records) → AreValid (field_data.one n (field_data.varint v) rs)
         ↔ (IsNumber n × (v < 2 ^ 64) × AreValid rs) }
-    ensures fixed32 { (n v : ℕ) (rs : Records) → AreValid (datum.one n (datum.fixed32 v) rs)
+    ensures fixed32 { (n v : ℕ) (rs : Records) → AreValid (field_data.one n (field_data.fixed32 v) rs)
         ↔ (IsNumber n × (v < 2 ^ 32) × AreValid rs) }
-    ensures fixed64 { (n v : ℕ) (rs : Records) → AreValid (datum.one n (datum.fixed64 v) rs)
+    ensures fixed64 { (n v : ℕ) (rs : Records) → AreValid (field_data.one n (field_data.fixed64 v) rs)
         ↔ (IsNumber n × (v < 2 ^ 64) × AreValid rs) }
-    ensures bytes { (n : ℕ) (b : List ℕ) (rs : Records) → AreValid (datum.one n (datum.bytes b) rs)
+    ensures bytes { (n : ℕ) (b : List ℕ) (rs : Records) → AreValid (field_data.one n (field_data.bytes b) rs)
         ↔ (IsNumber n × AreValid rs) }
-    ensures group { (n : ℕ) (qs rs : Records) → AreValid (datum.one n (datum.group qs) rs)
+    ensures group { (n : ℕ) (qs rs : Records) → AreValid (field_data.one n (field_data.group qs) rs)
         ↔ (IsNumber n × AreValid qs × AreValid rs) }
 {}

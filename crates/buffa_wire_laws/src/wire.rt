@@ -19,13 +19,13 @@ ghost use Rattle.buffa_bytes.specs.declared.error.EncodeError.TheVariants as enc
 ghost use Rattle.buffa_bytes.specs.declared.error.MessageSetFault.{MessageSetFault};
 ghost use Rattle.buffa_bytes.specs.ErrorText.{decode_error_text, encode_error_text, message_set_fault_text};
 ghost use Rattle.buffa_bytes.specs.Varint.{IsByte, varint_encoding, IsVarint, TakesVarint, VarintFault};
-ghost use Rattle.buffa_bytes.specs.Left.{past_no_payload, past_no_tag, past_no_delimited, past_no_varint};
+ghost use Rattle.buffa_bytes.specs.Unread.{past_no_payload, past_no_tag, past_no_delimited, past_no_varint};
 ghost use Rattle.buffa_bytes.specs.Number.{IsNumber, wire_kind, wire_number};
-ghost use Rattle.buffa_bytes.specs.Content.{Content, ContentFault, TakesContent, bytes_in, content_at, content_by};
-ghost use Rattle.buffa_bytes.specs.Content.{number_in};
+ghost use Rattle.buffa_bytes.specs.PayloadValue.{PayloadValue, PayloadValueFault, TakesPayloadValue, bytes_in, payload_value_at, payload_value_by};
+ghost use Rattle.buffa_bytes.specs.PayloadValue.{number_in};
 ghost use Rattle.buffa_bytes.specs.Field.{LengthFault, SomeField, TakesDelimited, TakesTag, TagFault, TakesPayload};
 ghost use Rattle.buffa_bytes.specs.Field.{PayloadFault};
-ghost use Rattle.buffa_bytes.specs.Front.{delimited_at, varint_at, tag_at, taken, skip_at, group_at, group_by_field, check_wire};
+ghost use Rattle.buffa_bytes.specs.Readings.{delimited_at, varint_at, tag_at, taken, skip_at, group_at, group_by_field, check_wire};
 ghost use Rattle.buffa_bytes.specs.Scalars.{bool_at, bool_of, bool_encoding, eight_as, fixed32_at, fixed32_encoding};
 ghost use Rattle.buffa_bytes.specs.Scalars.{fixed64_at, fixed64_encoding, four_as, int32_of, int64_at, int64_of};
 ghost use Rattle.buffa_bytes.specs.Scalars.{int64_encoding, sfixed32_at, sfixed32_of, sfixed32_encoding, sfixed64_at};
@@ -76,10 +76,10 @@ pub fn delimited_bytes_are_read()
 {}
 
 /// The same of what a payload holds, a number or bytes.
-pub fn contents_are_read()
-    ensures ok { (w : WireType) (bs : List ℕ) (c : Content) (rest : List ℕ) → (content_at w bs ≡ Ok (c, rest))
-        ↔ TakesContent w bs c rest }
-    ensures err { (w : WireType) (bs : List ℕ) (e : DecodeError) → (content_at w bs ≡ Err e) ↔ ContentFault w bs e }
+pub fn payload_values_are_read()
+    ensures ok { (w : WireType) (bs : List ℕ) (c : PayloadValue) (rest : List ℕ) → (payload_value_at w bs ≡ Ok (c, rest))
+        ↔ TakesPayloadValue w bs c rest }
+    ensures err { (w : WireType) (bs : List ℕ) (e : DecodeError) → (payload_value_at w bs ≡ Err e) ↔ PayloadValueFault w bs e }
 {}
 
 /// The same of payloads, groups to any depth among them.
@@ -117,7 +117,7 @@ pub fn memory_is_no_fault()
     ensures varint { (bs : List ℕ) → varint_at bs ≢ Err OutOfMemory }
     ensures tag { (bs : List ℕ) → tag_at bs ≢ Err OutOfMemory }
     ensures delimited { (bs : List ℕ) → delimited_at bs ≢ Err OutOfMemory }
-    ensures content { (w : WireType) (bs : List ℕ) → content_at w bs ≢ Err OutOfMemory }
+    ensures content { (w : WireType) (bs : List ℕ) → payload_value_at w bs ≢ Err OutOfMemory }
     ensures payload { (d f : ℕ) (w : WireType) (bs : List ℕ) → skip_at d f w bs ≢ Err OutOfMemory }
     ensures fault { (d f : ℕ) (w : WireType) (bs : List ℕ) → PayloadFault d f w bs OutOfMemory → ⊥ }
 {}
@@ -263,17 +263,17 @@ pub fn own_bytes_are_read_back<P: ProtoBytes>()
 {}
 
 /// A value is read as the content of its payload.
-pub fn values_are_read_of_contents<V>()
+pub fn values_are_read_of_payloads<V>()
     ensures varint { (of : ℕ → V) (bs : List ℕ) → varint_as of bs
-        ≡ content_by Varint (λ c. Ok (of (number_in c))) bs }
+        ≡ payload_value_by Varint (λ c. Ok (of (number_in c))) bs }
     ensures four_bytes { (of : ℕ → V) (bs : List ℕ) → four_as of bs
-        ≡ content_by Fixed32 (λ c. Ok (of (number_in c))) bs }
+        ≡ payload_value_by Fixed32 (λ c. Ok (of (number_in c))) bs }
     ensures eight_bytes { (of : ℕ → V) (bs : List ℕ) → eight_as of bs
-        ≡ content_by Fixed64 (λ c. Ok (of (number_in c))) bs }
+        ≡ payload_value_by Fixed64 (λ c. Ok (of (number_in c))) bs }
     ensures bytes { (of : List ℕ → V) (bs : List ℕ) → bytes_as of bs
-        ≡ content_by LengthDelimited (λ c. Ok (of (bytes_in c))) bs }
+        ≡ payload_value_by LengthDelimited (λ c. Ok (of (bytes_in c))) bs }
     ensures string { (of : List ℕ → V) (bs : List ℕ) → string_as of bs
-        ≡ content_by LengthDelimited (λ c. text_as of (bytes_in c)) bs }
+        ≡ payload_value_by LengthDelimited (λ c. text_as of (bytes_in c)) bs }
 {}
 
 /// What reads and takes no memory has one answer, and leaves one rest of refused bytes. It doesn't say what is unread
@@ -283,7 +283,7 @@ pub fn answers_are_pinned<X, Y>()
 {}
 
 /// What refused bytes leave, in the words of the grammar. It leaves out groups, of which a tail is left.
-#[tactic(auto, using(buffa_bytes::proofs::LeftLemmas::end_stays))]
+#[tactic(auto, using(buffa_bytes::proofs::UnreadLemmas::end_stays))]
 pub fn rests_are_these()
     ensures no_varint { (bs : List ℕ) → past_no_varint bs ≡ drop 10 bs }
     ensures no_number { (bs : List ℕ) (e : DecodeError) → VarintFault bs e → (past_no_tag bs ≡ drop 10 bs)

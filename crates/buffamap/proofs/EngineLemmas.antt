@@ -23,13 +23,13 @@ named_well c from f (inr (inr h)) one =
     absurd (omega (arith, three, one))
 
 -- what is told of the fault answers the call
-pub told_answers : (o : Option Command) (from : Source) (f : Fault) (out err : StreamChange) (status : ℕ) →
+pub answers_reported : (o : Option Command) (from : Source) (f : Fault) (out err : StreamChange) (status : ℕ) →
     Answers o from (fault_reply f) → TellsFault f out err status → (r : Reply) × Answers o from r × GivesReply r out err status
-told_answers o from f out err status h (inl g) = (fault_reply f, h, g)
-told_answers None from f out err status h (inr k) =
+answers_reported o from f out err status h (inl g) = (fault_reply f, h, g)
+answers_reported None from f out err status h (inr k) =
     let two : (fault_reply f).status ≡ 2 = ap (λ (r : Reply). r.status) h in
     absurd (omega (arith, two, k.0))
-told_answers (Some c) from f out err status h (inr k) = (no_memory, inr (inl (refl, named_well c from f h k.0)), k.1)
+answers_reported (Some c) from f out err status h (inr k) = (no_memory, inr (inl (refl, named_well c from f h k.0)), k.1)
 
 -- the errors have a beginning of the line behind what they held
 line_begun : (err text : List ℕ) (b : Known) (failed : Bool) → WritesOrBreaks (record { old = Some err; new = b; failed = failed }) text →

@@ -3,17 +3,17 @@ use Rattle.std.proofs.Common.{◌≡◌, ◌+◌, ◌<◌, ℕ, ℤ, List, [], �
 use Rattle.std.specs.Fmt.{signed_decimal}
 use Rattle.std.proofs.lemmas.List.{drop_more, map-id}
 use Rattle.buffa_wire.specs.BudgetLeft.{BudgetLeft, defaults}
-use Rattle.buffa_wire.specs.Records.{Datum}
+use Rattle.buffa_wire.specs.Records.{FieldData}
 use Rattle.buffa_codec.specs.Decoded.{ReadsAll, ReadsList, elements}
 use Rattle.buffamap.specs.Ext.{int32_held, int32s_of_each, int32s_packed, words_of}
 
 -- the values of records that spend nothing are those of each record, in order
-pub each_read : (leaves : BudgetLeft → Datum → BudgetLeft → Type 0) (b left : BudgetLeft) (ds : List Datum) (vs : List ℤ) → ReadsAll (λ b d. int32_held d) leaves int32s_packed b ds vs left → vs ≡ int32s_of_each ds
+pub each_read : (leaves : BudgetLeft → FieldData → BudgetLeft → Type 0) (b left : BudgetLeft) (ds : List FieldData) (vs : List ℤ) → ReadsAll (λ b d. int32_held d) leaves int32s_packed b ds vs left → vs ≡ int32s_of_each ds
 each_read leaves b left [] vs h = h.0
 each_read leaves b left (d ∷ ds) vs h = h.4 ∙ ap (λ z. elements int32s_packed d (int32_held d) ++ z) (each_read leaves h.0 left ds h.1 h.3)
 
 -- the same from a default budget, of values that mean themselves
-pub list_read : (ds : List Datum) (vs : List ℤ) → ReadsList (λ b d. int32_held d) (λ b d left. left ≡ b) int32s_packed ds (map (λ v. v) vs) → vs ≡ int32s_of_each ds
+pub list_read : (ds : List FieldData) (vs : List ℤ) → ReadsList (λ b d. int32_held d) (λ b d left. left ≡ b) int32s_packed ds (map (λ v. v) vs) → vs ≡ int32s_of_each ds
 list_read ds vs h = sym (map-id vs) ∙ each_read (λ b d left. left ≡ b) defaults h.0 ds (map (λ v. v) vs) h.1
 
 -- one more word

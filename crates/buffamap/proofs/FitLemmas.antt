@@ -3,7 +3,7 @@ use Rattle.std.proofs.Common.{◌≡◌, inl, inr, ℕ, ℤ, Bool, true, false, 
 use Rattle.std.specs.Int.{w32}
 use Rattle.std.specs.Ordering.{int_eq}
 use Rattle.buffa_bytes.specs.declared.error.DecodeError.{DecodeError}
-use Rattle.buffa_bytes.specs.Content.{number_in}
+use Rattle.buffa_bytes.specs.PayloadValue.{number_in}
 use Rattle.buffa_bytes.specs.Scan.{ParsesEach}
 use Rattle.buffa_bytes.proofs.ScalarLemmas.{int32_fits}
 use Rattle.buffa_bytes.specs.Values.{int32_of}

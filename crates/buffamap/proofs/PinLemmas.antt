@@ -9,7 +9,7 @@ use Rattle.std.proofs.lemmas.Bool.{false≢true}
 use Rattle.buffa_bytes.specs.declared.error.DecodeError.{DecodeError}
 use Rattle.buffa_wire.specs.BudgetLeft.{BudgetLeft, defaults}
 use Rattle.buffa_wire.specs.Message.{MergeFault}
-use Rattle.buffa_wire.specs.Records.{Datum}
+use Rattle.buffa_wire.specs.Records.{FieldData}
 use Rattle.buffa_wire.specs.Encoding.{records_encoding}
 use Rattle.buffa_map.specs.Enums.{closed_writing}
 use Rattle.buffa_map.specs.Pairs.{ListsOnce}
@@ -91,7 +91,7 @@ rewritten_one n (Some bytes) a b h k = rewrite_one n (choice_run n bytes) a b h 
 pub rewrite_pinned : (n : ℕ) → ReplyIsPinned (RepliesToRewrite n)
 rewrite_pinned n = pinned (RepliesToRewrite n) (λ input a b h k. rewritten_one n (hex_bytes (without_newline input)) a b h k)
 
-shown_one : (n : ℕ) (r : Result (List (ℕ × Datum)) DecodeError) (a b : Reply) → IsShown n r a → IsShown n r b → a ≡ b
+shown_one : (n : ℕ) (r : Result (List (ℕ × FieldData)) DecodeError) (a b : Reply) → IsShown n r a → IsShown n r b → a ≡ b
 shown_one n (Ok records) a b h k = h ∙ sym k
 shown_one n (Err f) a b h k = h ∙ sym k
 
@@ -212,9 +212,9 @@ given : (r : Reply) (out err : StreamChange) (s : ℕ) → GivesReply r out err 
 given r out err s (inl h) whole = h
 given r out err s (inr h) whole = absurd (whole h.0 h.1.1)
 
-told_whole : (old text : List ℕ) (p : Known) → WritesOrBreaks (holding false old p) text → p ≡ Some (old ++ text)
-told_whole old text p (inl w) = grown old text p w
-told_whole old text p (inr w) = absurd (false≢true w.1)
+reported_whole : (old text : List ℕ) (p : Known) → WritesOrBreaks (holding false old p) text → p ≡ Some (old ++ text)
+reported_whole old text p (inl w) = grown old text p w
+reported_whole old text p (inr w) = absurd (false≢true w.1)
 
 has_line : (out : List ℕ) (x : Reply) (a : Known) → NamesFault x → a ≡ Some (out ++ x.text) → HasFaultLine out a
 has_line out x a names h = (names.0, h ∙ ap (λ (r : Reply). Some (out ++ r.text)) names.1)
@@ -234,7 +234,7 @@ sure_pinned words input out err a b p q s t h k (x, y) =
     let same : AreOne o h.0 k.0 = reply_one o false false input h.0 k.0 h.1 k.1 (λ e. x (g.0 ∙ e), λ e. y (f.0 ∙ e)) (λ _ e. absurd (false≢true e), λ _ e. absurd (false≢true e)) in (
       g.0 ∙ one_status o h.0 k.0 same ∙ sym f.0,
       one_output words out h.0 k.0 a b s same g.0 (grown out h.0.text a g.1) (grown out k.0.text b f.1),
-      told_whole err h.0.complaint p g.2 ∙ ap (λ z. Some (err ++ z)) (one_complaint o h.0 k.0 same) ∙ sym (told_whole err k.0.complaint q f.2),
+      reported_whole err h.0.complaint p g.2 ∙ ap (λ z. Some (err ++ z)) (one_complaint o h.0 k.0 same) ∙ sym (reported_whole err k.0.complaint q f.2),
     )
 
 any_pinned : (words : List (Bor (List ℕ))) (input out err : List ℕ) → AnyCallIsPinned words input out err

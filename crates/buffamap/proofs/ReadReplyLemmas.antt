@@ -9,7 +9,7 @@ use Rattle.std.proofs.lemmas.Result.{on_ok_weaker}
 use Rattle.buffa_bytes.specs.declared.error.DecodeError.{DecodeError}
 use Rattle.buffa_wire.specs.BudgetLeft.{BudgetLeft}
 use Rattle.buffa_map.specs.Pairs.{SamePairs}
-use Rattle.buffa_wire.specs.Records.{Datum}
+use Rattle.buffa_wire.specs.Records.{FieldData}
 use Rattle.buffa_map.specs.Run.{fold_entries, EntryRecord}
 use Rattle.buffamap.specs.Lines.{Pair, lines_of, pairs_of, same_key}
 use Rattle.buffamap.specs.Read.{ArePairsOfRun, RepliesToRun, run_from}
@@ -18,7 +18,7 @@ use Rattle.buffamap.proofs.OrderedLemmas.{in_order}
 
 -- nothing is kept
 abbrev NothingKept : Type 0
-NothingKept = let none : List (ℕ × Datum) = [] in none ≡ none ++ none
+NothingKept = let none : List (ℕ × FieldData) = [] in none ≡ none ++ none
 
 -- the pairs that a run was folded into are what it means
 pub means : {X : Type 0} (r : Result X DecodeError) (n : ℕ) (bs : List ℕ) (new : List Pair) →

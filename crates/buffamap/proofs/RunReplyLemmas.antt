@@ -5,8 +5,8 @@ use Rattle.std.proofs.lemmas.Result.{on_ok_weaker, IfErr-weaker}
 use Rattle.buffa_bytes.specs.declared.error.DecodeError.{DecodeError}
 use Rattle.buffa_bytes.specs.declared.error.DecodeError.TheVariants.{OutOfMemory}
 use Rattle.buffa_wire.specs.BudgetLeft.{BudgetLeft, defaults, nothing}
-use Rattle.buffa_bytes.specs.Content.{Content}
-use Rattle.buffa_wire.specs.Records.{Datum}
+use Rattle.buffa_bytes.specs.PayloadValue.{PayloadValue}
+use Rattle.buffa_wire.specs.Records.{FieldData}
 use Rattle.buffa_map.specs.Codec.{Reading}
 use Rattle.buffa_map.specs.Pairs.{SamePairs}
 use Rattle.buffa_map.specs.Merge.{ReadsRun, Rules, RefusesRun, kept_of_run, state, unknown_cost}
@@ -16,9 +16,9 @@ use Rattle.buffa_map.proofs.RunLemmas.{run_complete, run_faulty}
 use Rattle.buffa_map.proofs.StopLemmas.{run_fault}
 
 module _ {K V : Type 0} (key : Reading K) (val : Reading V) (eq : K → K → Bool) (cost : ℕ) (keeps : Bool)
-    (key_free : key.nested ≡ false → (d : ℕ) (c : Content) → key.cost d c ≡ nothing) (val_free : val.nested ≡ false → (d : ℕ) (c : Content) → val.cost d c ≡ nothing)
+    (key_free : key.nested ≡ false → (d : ℕ) (c : PayloadValue) → key.cost d c ≡ nothing) (val_free : val.nested ≡ false → (d : ℕ) (c : PayloadValue) → val.cost d c ≡ nothing)
     (key_plain : key.nested ≡ false) (val_plain : val.nested ≡ false)
-    {X : Type 0} (r : Result X DecodeError) (d n : ℕ) (left over : BudgetLeft) (bs : List ℕ) (old new : List (K × V)) (records kept : List (ℕ × Datum)) (is_d : d ≡ 100) (is_left : left ≡ defaults) where
+    {X : Type 0} (r : Result X DecodeError) (d n : ℕ) (left over : BudgetLeft) (bs : List ℕ) (old new : List (K × V)) (records kept : List (ℕ × FieldData)) (is_d : d ≡ 100) (is_left : left ≡ defaults) where
   abbrev by : Rules K V
   by = record { key = key; val = val; same = eq; keeps_order = false; depth = d; number = n; cost = cost; keeps_undeclared = keeps }
 

@@ -9,7 +9,7 @@ use Rattle.buffa_bytes.specs.declared.error.DecodeError.{DecodeError}
 use Rattle.buffa_bytes.specs.declared.error.DecodeError.TheVariants.{UnexpectedEof}
 use Rattle.buffa_wire.specs.BudgetLeft.{BudgetLeft, Lacks, defaults}
 use Rattle.buffa_bytes.specs.ErrorText.{decode_error_text}
-use Rattle.buffa_wire.specs.Records.{Datum}
+use Rattle.buffa_wire.specs.Records.{FieldData}
 use Rattle.buffa_wire.specs.Encoding.{records_encoding}
 use Rattle.buffa_map.specs.Enums.{ClosedFits, closed_writing}
 use Rattle.buffa_map_laws.specs.Laws.{RunsAreRead}
@@ -55,7 +55,7 @@ map_there n (Some m) = let l = listed m in (field_reply n l.0, (l.0, l.1, refl))
 pub write_there : (n : ℕ) → HasReply (RepliesToWrite n)
 write_there n input = map_there n (map_in input)
 
-shown_there : (n : ℕ) (r : Result (List (ℕ × Datum)) DecodeError) → (reply : Reply) × IsShown n r reply
+shown_there : (n : ℕ) (r : Result (List (ℕ × FieldData)) DecodeError) → (reply : Reply) × IsShown n r reply
 shown_there n (Ok records) = (success (ext_text (sub n records)), refl)
 shown_there n (Err f) = (fault (decode_error_text f), refl)
 
@@ -125,7 +125,7 @@ has_or_not (p ∷ l) = both (cases_lt (length (entry_encoding int32_writing clos
 module _ (n : ℕ) (read : RunsAreRead int32_reading choice_reading) where
   rewritten_there : (bytes : List ℕ) (r : Result (List Entry × BudgetLeft) DecodeError) → choice_run n bytes ≡ r → (reply : Reply) × IsRewritten n r reply
   rewritten_there bytes (Err f) is = (fault (decode_error_text f), refl)
-  rewritten_there bytes (Ok r) is = told (has_or_not l)
+  rewritten_there bytes (Ok r) is = reported (has_or_not l)
     where
       m : List ChoicePair
       m = fold_entries int_eq [] r.0
@@ -139,9 +139,9 @@ module _ (n : ℕ) (read : RunsAreRead int32_reading choice_reading) where
       out : List ℕ
       out = field_encoding int32_writing closed_writing n l ++ records_encoding (undeclared_records n r.0)
 
-      told : HasEncoding int32_writing closed_writing l ⊎ (HasEncoding int32_writing closed_writing l → ⊥) → (reply : Reply) × IsRewritten n (Ok r) reply
-      told (inl h) = (success (hex_line out), inl (out, ((l, ordered_once int_cmp_total m, h, fits, refl), ordered_sorted int_cmp_total m), refl))
-      told (inr h) = (fault (codes "MessageTooLarge"), inr ((l, ordered_once int_cmp_total m, ordered_sorted int_cmp_total m, h), refl))
+      reported : HasEncoding int32_writing closed_writing l ⊎ (HasEncoding int32_writing closed_writing l → ⊥) → (reply : Reply) × IsRewritten n (Ok r) reply
+      reported (inl h) = (success (hex_line out), inl (out, ((l, ordered_once int_cmp_total m, h, fits, refl), ordered_sorted int_cmp_total m), refl))
+      reported (inr h) = (fault (codes "MessageTooLarge"), inr ((l, ordered_once int_cmp_total m, ordered_sorted int_cmp_total m, h), refl))
 
   rewritten_of_there : (o : Option (List ℕ)) → (reply : Reply) × IsRewrittenOf n o reply
   rewritten_of_there None = (bad_input, refl)

@@ -32,7 +32,7 @@ ghost use Rattle.buffa_wire.specs.BudgetLeft.{BudgetLeft, Lacks, defaults};
 ghost use Rattle.buffa_wire.specs.Found.{varint_in};
 ghost use Rattle.buffa_wire.specs.Message.{MergeFault};
 ghost use Rattle.buffa_wire.specs.RecordReading.{list_at};
-ghost use Rattle.buffa_wire.specs.Records.{Datum};
+ghost use Rattle.buffa_wire.specs.Records.{FieldData};
 ghost use Rattle.buffamap.specs.Again.{RepliesToAgain, encoding_reply};
 ghost use Rattle.buffamap.specs.Choice.{two_numbers};
 ghost use Rattle.buffamap.specs.Command.{command_of};
@@ -148,7 +148,7 @@ pub fn again_is_answered_so<M: MessageSpec>()
 pub fn ext_is_answered_so(number: u32)
     ensures form { (input : List ℕ) (reply : Reply) → hex_bytes (without_newline input) ≡ None →
         (RepliesToExt number input reply ↔ (reply ≡ bad_input)) }
-    ensures records { (input bytes : List ℕ) (records : List (ℕ × Datum)) (reply : Reply) →
+    ensures records { (input bytes : List ℕ) (records : List (ℕ × FieldData)) (reply : Reply) →
         hex_bytes (without_newline input) ≡ Some bytes →
         list_at RECURSION_LIMIT DEFAULT_UNKNOWN_FIELD_LIMIT bytes ≡ Ok records →
         (RepliesToExt number input reply ↔ (reply ≡ success (ext_text (sub number records)))) }
@@ -161,11 +161,11 @@ pub fn ext_is_answered_so(number: u32)
 /// What the four lines of `ext N` are: whether there is a record, the last one that is an int32, the last one that is a string,
 /// and all int32s, those in packed records too.
 pub fn lines_of_ext_are_these()
-    ensures text { (records : List Datum) → let int32 : Datum → Option ℤ = λ d. option_map int32_of (varint_in d) in ext_text records
+    ensures text { (records : List FieldData) → let int32 : FieldData → Option ℤ = λ d. option_map int32_of (varint_in d) in ext_text records
         ≡ ((has_line records ++ int32_line (last_read int32 records)) ++ string_line (last_read string_held records))
         ++ ints_line (flat_map (λ d. elements (λ bytes. map int32_of (numbers_in Varint bytes)) d (int32 d)) records) }
     ensures has_no { has_line [] ≡ codes "has no\n" }
-    ensures has { (d : Datum) (records : List Datum) → has_line (d ∷ records) ≡ codes "has yes\n" }
+    ensures has { (d : FieldData) (records : List FieldData) → has_line (d ∷ records) ≡ codes "has yes\n" }
     ensures no_int32 { int32_line None ≡ codes "int32 none\n" }
     ensures int32 { (v : ℤ) → int32_line (Some v) ≡ (codes "int32 " ++ signed_decimal v) ++ codes "\n" }
     ensures no_string { string_line None ≡ codes "string none\n" }

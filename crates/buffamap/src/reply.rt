@@ -91,7 +91,7 @@ pub fn tell<B: WriteCalls, C: WriteCalls>(
     errors: &mut C,
 ) -> u8
     requires { (B.failed output.old ≡ false) × (C.failed errors.old ≡ false) }
-    ensures told { TellsFault fault (change B.contents B.failed output.old output.new)
+    ensures reported { TellsFault fault (change B.contents B.failed output.old output.new)
         (change C.contents C.failed errors.old errors.new) result }
     ensures failed { (fault ≡ Fault.Stream) ⊎ (B.failed output.new ≡ true) → result ≡ 3 }
     ensures usage { fault ≡ Fault.Words → output.new ≡ output.old }

@@ -66,7 +66,7 @@ pub fn replies_are_begun_where_streams_fail()
 {}
 
 /// Which reply tells which fault. Nothing is left out.
-pub fn faults_are_told_so()
+pub fn faults_are_reported_so()
     ensures words { fault_reply Fault.Words ≡ wrong_words }
     ensures form { fault_reply Fault.Form ≡ bad_input }
     ensures stream { fault_reply Fault.Stream ≡ broken }

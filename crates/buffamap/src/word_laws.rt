@@ -7,7 +7,7 @@ ghost use Rattle.std.specs.Io.KnownBytes.{Appends};
 ghost use Rattle.std.specs.List.{filter_map, last_or};
 ghost use Rattle.buffa_codec.specs.Decoded.{last_read};
 ghost use Rattle.buffa_wire.specs.Enums.{numbers};
-ghost use Rattle.buffa_wire.specs.Records.{Datum};
+ghost use Rattle.buffa_wire.specs.Records.{FieldData};
 ghost use Rattle.buffamap.specs.Choice.{choice_of, two_numbers};
 ghost use Rattle.buffamap.specs.Command.{IsNamed};
 ghost use Rattle.buffamap.specs.Forms.{decimal};
@@ -51,6 +51,6 @@ pub fn replies_are_given_so()
 /// `rewrite N` declares the numbers that its values have, and its default is 0.
 pub fn keys_records_and_numbers_are_these<V>()
     ensures key { same_key ≡ pointwise nat_eq }
-    ensures last { (one : Datum → Option V) (records : List Datum) → last_read one records ≡ last_or None (filter_map one records) }
+    ensures last { (one : FieldData → Option V) (records : List FieldData) → last_read one records ≡ last_or None (filter_map one records) }
     ensures numbers { two_numbers ≡ numbers choice_of (pos 0) }
 {}

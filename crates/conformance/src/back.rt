@@ -1,6 +1,6 @@
 // Which messages are read back.
 
-use buffa_fields::message::members_read_back;
+use buffa_fields::messages::message::members_read_back;
 use buffa_map::map_codec::{Int32, MapCodec};
 use buffa_wire::RECURSION_LIMIT;
 use conformance_extensions::normal::Normal;

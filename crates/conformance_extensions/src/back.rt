@@ -46,7 +46,7 @@ fn either_told(
 }
 
 // The same, of the value that the row has.
-fn value_told<By, T: Told<By>, C: ExtensionCodec<Value = T::Value>>(
+fn value_reported<By, T: Told<By>, C: ExtensionCodec<Value = T::Value>>(
     alloc: Global,
     case: &Case<'_>,
     number: u32,
@@ -74,7 +74,7 @@ pub fn set_then<By, T: Told<By>, C: ExtensionCodec<Value = T::Value, Output = T>
     let refused = mark.end();
     let words = words_of::<By, T, EncodeError>(alloc, &found);
     let records = if is_full(&found) {
-        value_told::<By, T, C>(alloc, case, number, &carrier.fields)
+        value_reported::<By, T, C>(alloc, case, number, &carrier.fields)
     } else {
         records_told(alloc, &carrier.fields)
     };

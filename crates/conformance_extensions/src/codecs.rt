@@ -194,29 +194,34 @@ pub fn unpack<By, V: Worded<By>, C: SingularCodec<Value = V>>(
 
 // The bytes behind which a value was packed, or not.
 #[derive(Drop)]
-struct Packed {
+struct PackedField {
     bytes: Vec<u8>,
     answer: Result<(), EncodeError>,
 }
 
 // Packs a value behind bytes.
-fn pack_behind<V: Drop, C: PackableCodec<Value = V>>(value: V, mut bytes: Vec<u8>) -> Packed {
+fn pack_behind<V: Drop, C: PackableCodec<Value = V>>(value: V, mut bytes: Vec<u8>) -> PackedField {
     let answer = C::encode_packed(&value, &mut bytes);
-    Packed { bytes, answer }
+    PackedField { bytes, answer }
 }
 
 // The bytes that stand where memory ran out.
-fn bytes_told(alloc: Global, bytes: &[u8]) -> Result<String, Fault> {
+fn bytes_reported(alloc: Global, bytes: &[u8]) -> Result<String, Fault> {
     let digits = hex::encode(alloc, bytes)?;
     digits_told(alloc, "records", digits.as_str())
 }
 
 // What comes of bytes behind which a value was packed, or not; then they are as they were.
-fn packed_told(alloc: Global, packed: Packed, refused: bool) -> Result<Outcome, Fault> {
-    let Packed { bytes, answer } = packed;
+fn packed_found(alloc: Global, packed: PackedField, refused: bool) -> Result<Outcome, Fault> {
+    let PackedField { bytes, answer } = packed;
     match answer {
         Ok(()) => made_told(alloc, Ok(UnknownFieldData::LengthDelimited(bytes)), refused),
-        Err(fault) => unmade_told(alloc, fault, bytes_told(alloc, bytes.as_slice()), refused),
+        Err(fault) => unmade_told(
+            alloc,
+            fault,
+            bytes_reported(alloc, bytes.as_slice()),
+            refused,
+        ),
     }
 }
 
@@ -231,5 +236,5 @@ pub fn pack<By, V: Worded<By>, C: PackableCodec<Value = V>>(
     mark.begin(alloc);
     let packed = pack_behind::<V, C>(value, bytes);
     let refused = mark.end();
-    packed_told(alloc, packed, refused)
+    packed_found(alloc, packed, refused)
 }

@@ -3,7 +3,7 @@
 ghost use Rattle.std.specs.Prelude.{◌≡◌, map, IfOk, IsTrue, OnOk};
 ghost use Rattle.std.specs.List.{AllByRecursion};
 ghost use Rattle.buffa_wire.specs.BudgetLeft.{Pays, defaults};
-ghost use Rattle.buffa_wire.specs.View.{datum_of};
+ghost use Rattle.buffa_wire.specs.View.{field_data_of};
 ghost use Rattle.buffa_codec.specs.Decoded.{CoversAll};
 ghost use Rattle.conformance_extensions.specs.Normal.{IsNormal};
 
@@ -32,7 +32,7 @@ pub trait Normal<Back>: Message {
 
 // The record of a value; a row whose value has none isn't in form.
 fn payload_of<C: SingularCodec>(alloc: Global, value: &C::Value) -> Result<UnknownFieldData, Fault>
-    ensures { IfOk result (λ d. datum_of d ≡ C.datum (C.Value.meaning value.now)) }
+    ensures { IfOk result (λ d. field_data_of d ≡ C.field_data (C.Value.meaning value.now)) }
 {
     match C::encode_one(alloc, value) {
         Ok(payload) => Ok(payload),
@@ -43,7 +43,7 @@ fn payload_of<C: SingularCodec>(alloc: Global, value: &C::Value) -> Result<Unkno
 
 // Spends what reading a value's record costs; a row whose value isn't read isn't in form.
 fn pay<C: SingularCodec>(alloc: Global, budget: &mut Budget, value: &C::Value) -> Result<(), Fault>
-    ensures { OnOk result (Pays budget.old (C.cost (C.datum (C.Value.meaning value.now))) budget.new) }
+    ensures { OnOk result (Pays budget.old (C.cost (C.field_data (C.Value.meaning value.now))) budget.new) }
 {
     let payload = payload_of::<C>(alloc, value)?;
     let ctx = DecodeContext {
@@ -59,7 +59,7 @@ fn pay<C: SingularCodec>(alloc: Global, budget: &mut Budget, value: &C::Value) -
 
 // Spends what reading the records of a list costs, one after the other, of one default budget.
 fn pay_all<C: SingularCodec>(alloc: Global, values: &[C::Value]) -> Result<(), Fault>
-    ensures { OnOk result (CoversAll C.cost defaults (map C.datum (map C.Value.meaning values.now))) }
+    ensures { OnOk result (CoversAll C.cost defaults (map C.field_data (map C.Value.meaning values.now))) }
 {
     let mut budget = Budget::new(DEFAULT_UNKNOWN_FIELD_LIMIT);
     for value in values {

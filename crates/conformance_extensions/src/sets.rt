@@ -80,7 +80,7 @@ fn front_told(
 }
 
 // The same, of the value that the row has.
-fn value_told<By, T: Told<By>, C: ExtensionCodec<Value = T::Value>>(
+fn value_reported<By, T: Told<By>, C: ExtensionCodec<Value = T::Value>>(
     alloc: Global,
     case: &Case<'_>,
     number: u32,
@@ -106,7 +106,7 @@ pub fn encode_into<By, T: Told<By>, C: ExtensionCodec<Value = T::Value>>(
     let answer = push::<T::Value, C>(alloc, number, tries, value, &mut fields);
     let refused = mark.end();
     let records = if is_full(&answer) {
-        value_told::<By, T, C>(alloc, case, number, &fields)
+        value_reported::<By, T, C>(alloc, case, number, &fields)
     } else {
         records_told(alloc, &fields)
     };

@@ -2,9 +2,9 @@
 
 ghost use Rattle.std.specs.Prelude.{◌≤◌, IsTrue};
 ghost use Rattle.buffa_bytes.specs.Number.{IsNumber};
-ghost use Rattle.buffa_wire.specs.Parse.{FitsDatum, IsValidDatum};
-ghost use Rattle.buffa_wire.specs.Records.{datum_height};
-ghost use Rattle.buffa_wire.specs.View.{datum_of};
+ghost use Rattle.buffa_wire.specs.Parse.{FitsFieldData, IsValidFieldData};
+ghost use Rattle.buffa_wire.specs.Records.{field_data_height};
+ghost use Rattle.buffa_wire.specs.View.{field_data_of};
 ghost use Rattle.conformance_extensions.specs.Normal.{AreWritten};
 
 use buffa_wire::{MAX_FIELD_NUMBER, UnknownFieldData, UnknownFields};
@@ -19,8 +19,8 @@ fn is_number(number: u32) -> bool
 // Whether what a field holds can be written: a number or bytes always can, the records of a group by each of them.
 #[cycle(walk)]
 fn is_payload_written(payload: &UnknownFieldData, levels: u32) -> bool
-    ensures { IsTrue result → IsValidDatum (datum_of payload.now) × FitsDatum (datum_of payload.now)
-        × (datum_height (datum_of payload.now) ≤ levels) }
+    ensures { IsTrue result → IsValidFieldData (field_data_of payload.now) × FitsFieldData (field_data_of payload.now)
+        × (field_data_height (field_data_of payload.now) ≤ levels) }
 {
     match payload {
         UnknownFieldData::Varint(value) => {

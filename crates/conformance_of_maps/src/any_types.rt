@@ -65,7 +65,7 @@ fn answer_told(
 }
 
 // What is told of a read, of the pairs then, and of a write.
-fn field_told(
+fn field_reported(
     alloc: Global,
     answer: Result<(), DecodeError>,
     is_written: bool,
@@ -102,7 +102,7 @@ where
     let len = write::<KC, VC>(&map, number, &mut text);
     let is_written = is_written(text.as_slice(), len, bytes);
     let pairs = pairs_told::<By, _, _, Map<KC::Value, VC::Value>>(alloc, &map);
-    field_told(alloc, answer, is_written, pairs, refused)
+    field_reported(alloc, answer, is_written, pairs, refused)
 }
 
 // The same of a row with this type of key.

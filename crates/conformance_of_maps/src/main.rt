@@ -44,7 +44,7 @@ impl Calls for MapFields {
         buf: &mut AnyBuf<'_>,
     ) -> Result<Option<Outcome>, Fault> {
         match group_of(case.call) {
-            Group::Fields => read_fields(alloc, case, storage, mark, buf),
+            Group::MessageFields => read_fields(alloc, case, storage, mark, buf),
             Group::Values => some(payload_rows(alloc, case, mark, Read { buf })),
             _ => Ok(None),
         }

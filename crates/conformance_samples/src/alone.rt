@@ -23,7 +23,7 @@ fn standing<By, V: Worded<By>>(alloc: Global, case: &Case<'_>) -> Result<V, Faul
 
 // The word of a value, and whether the payload held a declared one; after a refusal of a value's payload the word
 // alone, and of a message's nothing, since it is some value of its type.
-fn value_told<By, V: Worded<By>>(
+fn value_reported<By, V: Worded<By>>(
     alloc: Global,
     answer: Result<MapValueDecodeStatus, DecodeError>,
     value: &V,
@@ -58,7 +58,7 @@ where
     let answer = VC::merge::<B>(alloc, &mut value, buf, ctx);
     let refused = mark.end();
     let unread = if answer.is_ok() { buf.remaining() } else { 0 };
-    let words = value_told::<By, VC::Value>(alloc, answer, &value, is_message);
+    let words = value_reported::<By, VC::Value>(alloc, answer, &value, is_message);
     Outcome::of_words(
         alloc,
         told(alloc, answer),

@@ -26,7 +26,7 @@ fn field_of<B: Buf>(
 }
 
 // The records of a field, if it was read.
-fn field_told(alloc: Global, read: Result<UnknownField, DecodeError>) -> Result<String, Fault> {
+fn field_reported(alloc: Global, read: Result<UnknownField, DecodeError>) -> Result<String, Fault> {
     let mut fields = UnknownFields::new(alloc);
     if let Ok(field) = read {
         fields.push(field)?;
@@ -56,7 +56,7 @@ fn kept<B: Buf>(
     let refused = mark.end();
     let unread = unread(read.is_ok(), buf);
     let answer = answer_of(alloc, &read);
-    let words = field_told(alloc, read);
+    let words = field_reported(alloc, read);
     let outcome = Outcome::of_words(alloc, answer, words, Ok(String::new(alloc)), refused);
     with_left(alloc, case, &budget, outcome, unread)
 }

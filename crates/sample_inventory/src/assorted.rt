@@ -1,13 +1,14 @@
 //! buffa.sample.Assorted, made of inventory.proto by protoc-gen-buffa.
 
 ghost use Rattle.std.proofs.Common.{lit<, refl};
-ghost use Rattle.buffa_fields.specs.Terms.{field, keep};
+ghost use Rattle.buffa_fields.specs.Terms.{field, keep_unknown};
 
 use crate::state::State;
 use buffa_fields::map_codec::{Bool, BytesBuf, BytesVec, Int64, Map, OpenEnum};
 use buffa_fields::{
-    And, And9, Blank, DecodeContext, DecodeError, EnumValue, Fields, Formed, KeptFields, Listed,
-    Listing, MapOf, Member, Optional, Packed, Plain, Repeated, Tag, UnknownFields, Visitor, kept,
+    And, And9, Blank, DecodeContext, DecodeError, EnumValue, ExplicitField, FieldByField,
+    FieldsMeaning, ImplicitField, MapField, Member, MessageFields, MessageImpl, PackedField,
+    RepeatedField, Tag, UnknownFields, Unknowns, Visitor, unknown,
 };
 use bytes::Bytes;
 use std::alloc::Global;
@@ -35,10 +36,10 @@ pub struct Assorted {
     pub states: Map<i64, EnumValue<State>>,
     pub shared: Bytes,
     /// The fields that aren't declared, in order.
-    pub rest: UnknownFields,
+    pub unknown_fields: UnknownFields,
 }
 
-impl Fields for Assorted {
+impl MessageFields for Assorted {
     type Meaning = And9<
         Option<[u8; 0]>,
         Option<(bool, i32)>,
@@ -48,7 +49,7 @@ impl Fields for Assorted {
         [And<bool, [u8; 0]>; 0],
         [And<i64, (bool, i32)>; 0],
         [u8; 0],
-        KeptFields,
+        Unknowns,
     >;
 
     const COST: usize = 216;
@@ -57,28 +58,28 @@ impl Fields for Assorted {
 
     ghost positive = { lit< tt };
 
-    ghost layout = { field 1 (λ m. m.«data») ⟦<Optional<BytesVec> as Member>⟧.shape (
-        field 2 (λ m. m.state) ⟦<Optional<OpenEnum<State>> as Member>⟧.shape (
-        field 3 (λ m. m.parts) ⟦<Repeated<BytesVec> as Member>⟧.shape (
-        field 4 (λ m. m.past) ⟦<Repeated<OpenEnum<State>> as Member>⟧.shape (
-        field 5 (λ m. m.coming) ⟦<Packed<OpenEnum<State>> as Member>⟧.shape (
-        field 6 (λ m. m.marks) ⟦<MapOf<Bool, BytesVec> as Member>⟧.shape (
-        field 7 (λ m. m.states) ⟦<MapOf<Int64, OpenEnum<State>> as Member>⟧.shape (
-        field 8 (λ m. m.shared) ⟦<Plain<BytesBuf> as Member>⟧.shape (
-        keep (λ m. m.rest.records))))))))) };
+    ghost schema = { field 1 (λ m. m.«data») ⟦<ExplicitField<BytesVec> as Member>⟧.shape (
+        field 2 (λ m. m.state) ⟦<ExplicitField<OpenEnum<State>> as Member>⟧.shape (
+        field 3 (λ m. m.parts) ⟦<RepeatedField<BytesVec> as Member>⟧.shape (
+        field 4 (λ m. m.past) ⟦<RepeatedField<OpenEnum<State>> as Member>⟧.shape (
+        field 5 (λ m. m.coming) ⟦<PackedField<OpenEnum<State>> as Member>⟧.shape (
+        field 6 (λ m. m.marks) ⟦<MapField<Bool, BytesVec> as Member>⟧.shape (
+        field 7 (λ m. m.states) ⟦<MapField<Int64, OpenEnum<State>> as Member>⟧.shape (
+        field 8 (λ m. m.shared) ⟦<ImplicitField<BytesBuf> as Member>⟧.shape (
+        keep_unknown (λ m. m.unknown_fields.records))))))))) };
 
     ghost sound = { refl };
 
     fn visit<V: Visitor>(&self, visitor: &mut V) {
-        visitor.visit::<Optional<BytesVec>>(1, &self.data);
-        visitor.visit::<Optional<OpenEnum<State>>>(2, &self.state);
-        visitor.visit::<Repeated<BytesVec>>(3, &self.parts);
-        visitor.visit::<Repeated<OpenEnum<State>>>(4, &self.past);
-        visitor.visit::<Packed<OpenEnum<State>>>(5, &self.coming);
-        visitor.visit::<MapOf<Bool, BytesVec>>(6, &self.marks);
-        visitor.visit::<MapOf<Int64, OpenEnum<State>>>(7, &self.states);
-        visitor.visit::<Plain<BytesBuf>>(8, &self.shared);
-        visitor.visit_kept(&self.rest);
+        visitor.visit::<ExplicitField<BytesVec>>(1, &self.data);
+        visitor.visit::<ExplicitField<OpenEnum<State>>>(2, &self.state);
+        visitor.visit::<RepeatedField<BytesVec>>(3, &self.parts);
+        visitor.visit::<RepeatedField<OpenEnum<State>>>(4, &self.past);
+        visitor.visit::<PackedField<OpenEnum<State>>>(5, &self.coming);
+        visitor.visit::<MapField<Bool, BytesVec>>(6, &self.marks);
+        visitor.visit::<MapField<Int64, OpenEnum<State>>>(7, &self.states);
+        visitor.visit::<ImplicitField<BytesBuf>>(8, &self.shared);
+        visitor.visit_unknown_fields(&self.unknown_fields);
     }
 
     fn take(
@@ -89,25 +90,25 @@ impl Fields for Assorted {
         ctx: DecodeContext<'_>,
     ) -> Result<(), DecodeError> {
         match tag.field_number() {
-            1 => Optional::<BytesVec>::merge(&mut self.data, alloc, tag, buf, ctx),
-            2 => Optional::<OpenEnum<State>>::merge(&mut self.state, alloc, tag, buf, ctx),
-            3 => Repeated::<BytesVec>::merge(&mut self.parts, alloc, tag, buf, ctx),
-            4 => Repeated::<OpenEnum<State>>::merge(&mut self.past, alloc, tag, buf, ctx),
-            5 => Packed::<OpenEnum<State>>::merge(&mut self.coming, alloc, tag, buf, ctx),
-            6 => MapOf::<Bool, BytesVec>::merge(&mut self.marks, alloc, tag, buf, ctx),
-            7 => MapOf::<Int64, OpenEnum<State>>::merge(&mut self.states, alloc, tag, buf, ctx),
-            8 => Plain::<BytesBuf>::merge(&mut self.shared, alloc, tag, buf, ctx),
-            _ => kept::keep(alloc, &mut self.rest, tag, buf, ctx),
+            1 => ExplicitField::<BytesVec>::merge(&mut self.data, alloc, tag, buf, ctx),
+            2 => ExplicitField::<OpenEnum<State>>::merge(&mut self.state, alloc, tag, buf, ctx),
+            3 => RepeatedField::<BytesVec>::merge(&mut self.parts, alloc, tag, buf, ctx),
+            4 => RepeatedField::<OpenEnum<State>>::merge(&mut self.past, alloc, tag, buf, ctx),
+            5 => PackedField::<OpenEnum<State>>::merge(&mut self.coming, alloc, tag, buf, ctx),
+            6 => MapField::<Bool, BytesVec>::merge(&mut self.marks, alloc, tag, buf, ctx),
+            7 => MapField::<Int64, OpenEnum<State>>::merge(&mut self.states, alloc, tag, buf, ctx),
+            8 => ImplicitField::<BytesBuf>::merge(&mut self.shared, alloc, tag, buf, ctx),
+            _ => unknown::keep(alloc, &mut self.unknown_fields, tag, buf, ctx),
         }
     }
 }
 
 impl Blank for Assorted {
-    type Meaning = <Assorted as Fields>::Meaning;
+    type Meaning = <Assorted as MessageFields>::Meaning;
 
-    ghost meaning = { ⟦<Assorted as Fields>⟧.layout.meaning };
+    ghost meaning = { ⟦<Assorted as MessageFields>⟧.schema.meaning };
 
-    ghost blank_is = { ⟦<Assorted as Fields>⟧.layout.blank };
+    ghost blank_is = { ⟦<Assorted as MessageFields>⟧.schema.blank };
 
     fn blank(alloc: Global) -> Assorted {
         Assorted {
@@ -119,19 +120,19 @@ impl Blank for Assorted {
             marks: Map::new(alloc),
             states: Map::new(alloc),
             shared: Bytes::new(),
-            rest: UnknownFields::new(alloc),
+            unknown_fields: UnknownFields::new(alloc),
         }
     }
 }
 
-impl Listing for Assorted {
+impl FieldsMeaning for Assorted {
     ghost means = { λ m. refl };
 
     ghost starts = { refl };
 }
 
-impl Formed for Assorted {
-    type Form = Listed;
+impl MessageImpl for Assorted {
+    type Impl = FieldByField;
 }
 
 impl Assorted {

@@ -1,13 +1,13 @@
 //! buffa.sample.Depot, made of inventory.proto by protoc-gen-buffa.
 
 ghost use Rattle.std.proofs.Common.{lit<, refl};
-ghost use Rattle.buffa_fields.specs.Terms.{field, skip};
+ghost use Rattle.buffa_fields.specs.Terms.{field, skip_unknown};
 
 use crate::parcel::Parcel;
 use buffa_fields::map_codec::Str;
 use buffa_fields::{
-    And3, Blank, DecodeContext, DecodeError, Fields, Formed, Listed, Listing, Member, Plain,
-    RepeatedNested, Tag, Visitor, kept,
+    And3, Blank, DecodeContext, DecodeError, FieldByField, FieldsMeaning, ImplicitField, Member,
+    MessageFields, MessageImpl, RepeatedMessageField, Tag, Visitor, unknown,
 };
 use std::alloc::Global;
 use std::string::String;
@@ -26,7 +26,7 @@ pub struct Depot {
     pub parcels: Vec<Parcel>,
 }
 
-impl Fields for Depot {
+impl MessageFields for Depot {
     type Meaning = And3<[u8; 0], [<Parcel as Blank>::Meaning; 0], ()>;
 
     const COST: usize = 56;
@@ -35,15 +35,15 @@ impl Fields for Depot {
 
     ghost positive = { lit< tt };
 
-    ghost layout = { field 1 (λ m. m.city) ⟦<Plain<Str> as Member>⟧.shape (
-        field 2 (λ m. m.parcels) ⟦<RepeatedNested<Parcel> as Member>⟧.shape (
-        skip)) };
+    ghost schema = { field 1 (λ m. m.city) ⟦<ImplicitField<Str> as Member>⟧.shape (
+        field 2 (λ m. m.parcels) ⟦<RepeatedMessageField<Parcel> as Member>⟧.shape (
+        skip_unknown)) };
 
     ghost sound = { refl };
 
     fn visit<V: Visitor>(&self, visitor: &mut V) {
-        visitor.visit::<Plain<Str>>(1, &self.city);
-        visitor.visit::<RepeatedNested<Parcel>>(2, &self.parcels);
+        visitor.visit::<ImplicitField<Str>>(1, &self.city);
+        visitor.visit::<RepeatedMessageField<Parcel>>(2, &self.parcels);
     }
 
     fn take(
@@ -54,19 +54,19 @@ impl Fields for Depot {
         ctx: DecodeContext<'_>,
     ) -> Result<(), DecodeError> {
         match tag.field_number() {
-            1 => Plain::<Str>::merge(&mut self.city, alloc, tag, buf, ctx),
-            2 => RepeatedNested::<Parcel>::merge(&mut self.parcels, alloc, tag, buf, ctx),
-            _ => kept::pass(tag, buf, ctx),
+            1 => ImplicitField::<Str>::merge(&mut self.city, alloc, tag, buf, ctx),
+            2 => RepeatedMessageField::<Parcel>::merge(&mut self.parcels, alloc, tag, buf, ctx),
+            _ => unknown::pass(tag, buf, ctx),
         }
     }
 }
 
 impl Blank for Depot {
-    type Meaning = <Depot as Fields>::Meaning;
+    type Meaning = <Depot as MessageFields>::Meaning;
 
-    ghost meaning = { ⟦<Depot as Fields>⟧.layout.meaning };
+    ghost meaning = { ⟦<Depot as MessageFields>⟧.schema.meaning };
 
-    ghost blank_is = { ⟦<Depot as Fields>⟧.layout.blank };
+    ghost blank_is = { ⟦<Depot as MessageFields>⟧.schema.blank };
 
     fn blank(alloc: Global) -> Depot {
         Depot {
@@ -76,14 +76,14 @@ impl Blank for Depot {
     }
 }
 
-impl Listing for Depot {
+impl FieldsMeaning for Depot {
     ghost means = { λ m. refl };
 
     ghost starts = { refl };
 }
 
-impl Formed for Depot {
-    type Form = Listed;
+impl MessageImpl for Depot {
+    type Impl = FieldByField;
 }
 
 impl Depot {

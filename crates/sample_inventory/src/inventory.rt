@@ -1,12 +1,13 @@
 //! buffa.sample.Inventory, made of inventory.proto by protoc-gen-buffa.
 
 ghost use Rattle.std.proofs.Common.{lit<, refl};
-ghost use Rattle.buffa_fields.specs.Terms.{field, keep};
+ghost use Rattle.buffa_fields.specs.Terms.{field, keep_unknown};
 
 use buffa_fields::map_codec::{Bool, Int32, Map, Str};
 use buffa_fields::{
-    And, And5, Blank, DecodeContext, DecodeError, Fields, Formed, KeptFields, Listed, Listing,
-    MapOf, Member, Optional, Plain, Tag, UnknownFields, Visitor, kept,
+    And, And5, Blank, DecodeContext, DecodeError, ExplicitField, FieldByField, FieldsMeaning,
+    ImplicitField, MapField, Member, MessageFields, MessageImpl, Tag, UnknownFields, Unknowns,
+    Visitor, unknown,
 };
 use std::alloc::Global;
 use std::string::String;
@@ -26,11 +27,11 @@ pub struct Inventory {
     pub listed: Option<bool>,
     pub counts: Map<String, i32>,
     /// The fields that aren't declared, in order.
-    pub rest: UnknownFields,
+    pub unknown_fields: UnknownFields,
 }
 
-impl Fields for Inventory {
-    type Meaning = And5<i32, [u8; 0], Option<bool>, [And<[u8; 0], i32>; 0], KeptFields>;
+impl MessageFields for Inventory {
+    type Meaning = And5<i32, [u8; 0], Option<bool>, [And<[u8; 0], i32>; 0], Unknowns>;
 
     const COST: usize = 96;
 
@@ -38,20 +39,20 @@ impl Fields for Inventory {
 
     ghost positive = { lit< tt };
 
-    ghost layout = { field 1 (λ m. m.total) ⟦<Plain<Int32> as Member>⟧.shape (
-        field 2 (λ m. m.note) ⟦<Plain<Str> as Member>⟧.shape (
-        field 3 (λ m. m.listed) ⟦<Optional<Bool> as Member>⟧.shape (
-        field 5 (λ m. m.counts) ⟦<MapOf<Str, Int32> as Member>⟧.shape (
-        keep (λ m. m.rest.records))))) };
+    ghost schema = { field 1 (λ m. m.total) ⟦<ImplicitField<Int32> as Member>⟧.shape (
+        field 2 (λ m. m.note) ⟦<ImplicitField<Str> as Member>⟧.shape (
+        field 3 (λ m. m.listed) ⟦<ExplicitField<Bool> as Member>⟧.shape (
+        field 5 (λ m. m.counts) ⟦<MapField<Str, Int32> as Member>⟧.shape (
+        keep_unknown (λ m. m.unknown_fields.records))))) };
 
     ghost sound = { refl };
 
     fn visit<V: Visitor>(&self, visitor: &mut V) {
-        visitor.visit::<Plain<Int32>>(1, &self.total);
-        visitor.visit::<Plain<Str>>(2, &self.note);
-        visitor.visit::<Optional<Bool>>(3, &self.listed);
-        visitor.visit::<MapOf<Str, Int32>>(5, &self.counts);
-        visitor.visit_kept(&self.rest);
+        visitor.visit::<ImplicitField<Int32>>(1, &self.total);
+        visitor.visit::<ImplicitField<Str>>(2, &self.note);
+        visitor.visit::<ExplicitField<Bool>>(3, &self.listed);
+        visitor.visit::<MapField<Str, Int32>>(5, &self.counts);
+        visitor.visit_unknown_fields(&self.unknown_fields);
     }
 
     fn take(
@@ -62,21 +63,21 @@ impl Fields for Inventory {
         ctx: DecodeContext<'_>,
     ) -> Result<(), DecodeError> {
         match tag.field_number() {
-            1 => Plain::<Int32>::merge(&mut self.total, alloc, tag, buf, ctx),
-            2 => Plain::<Str>::merge(&mut self.note, alloc, tag, buf, ctx),
-            3 => Optional::<Bool>::merge(&mut self.listed, alloc, tag, buf, ctx),
-            5 => MapOf::<Str, Int32>::merge(&mut self.counts, alloc, tag, buf, ctx),
-            _ => kept::keep(alloc, &mut self.rest, tag, buf, ctx),
+            1 => ImplicitField::<Int32>::merge(&mut self.total, alloc, tag, buf, ctx),
+            2 => ImplicitField::<Str>::merge(&mut self.note, alloc, tag, buf, ctx),
+            3 => ExplicitField::<Bool>::merge(&mut self.listed, alloc, tag, buf, ctx),
+            5 => MapField::<Str, Int32>::merge(&mut self.counts, alloc, tag, buf, ctx),
+            _ => unknown::keep(alloc, &mut self.unknown_fields, tag, buf, ctx),
         }
     }
 }
 
 impl Blank for Inventory {
-    type Meaning = <Inventory as Fields>::Meaning;
+    type Meaning = <Inventory as MessageFields>::Meaning;
 
-    ghost meaning = { ⟦<Inventory as Fields>⟧.layout.meaning };
+    ghost meaning = { ⟦<Inventory as MessageFields>⟧.schema.meaning };
 
-    ghost blank_is = { ⟦<Inventory as Fields>⟧.layout.blank };
+    ghost blank_is = { ⟦<Inventory as MessageFields>⟧.schema.blank };
 
     fn blank(alloc: Global) -> Inventory {
         Inventory {
@@ -84,19 +85,19 @@ impl Blank for Inventory {
             note: String::new(alloc),
             listed: None,
             counts: Map::new(alloc),
-            rest: UnknownFields::new(alloc),
+            unknown_fields: UnknownFields::new(alloc),
         }
     }
 }
 
-impl Listing for Inventory {
+impl FieldsMeaning for Inventory {
     ghost means = { λ m. refl };
 
     ghost starts = { refl };
 }
 
-impl Formed for Inventory {
-    type Form = Listed;
+impl MessageImpl for Inventory {
+    type Impl = FieldByField;
 }
 
 impl Inventory {

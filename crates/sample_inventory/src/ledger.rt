@@ -1,13 +1,14 @@
 //! buffa.sample.Ledger, made of inventory.proto by protoc-gen-buffa.
 
 ghost use Rattle.std.proofs.Common.{lit<, refl};
-ghost use Rattle.buffa_fields.specs.Terms.{field, keep};
+ghost use Rattle.buffa_fields.specs.Terms.{field, keep_unknown};
 
 use crate::inventory::Inventory;
 use buffa_fields::map_codec::{Bool, BytesVec, Int32, Str};
 use buffa_fields::{
-    And, And4, Blank, DecodeContext, DecodeError, Fields, Formed, KeptFields, Listed, Listing,
-    Member, OrderedMapOf, OrderedMapOfNested, Tag, UnknownFields, Visitor, kept,
+    And, And4, Blank, DecodeContext, DecodeError, FieldByField, FieldsMeaning, Member,
+    MessageFields, MessageImpl, OrderedMapField, OrderedMessageMapField, Tag, UnknownFields,
+    Unknowns, Visitor, unknown,
 };
 use std::alloc::Global;
 use std::collections::BTreeMap;
@@ -28,15 +29,15 @@ pub struct Ledger {
     pub pages: BTreeMap<i32, Inventory>,
     pub seals: BTreeMap<bool, Vec<u8>>,
     /// The fields that aren't declared, in order.
-    pub rest: UnknownFields,
+    pub unknown_fields: UnknownFields,
 }
 
-impl Fields for Ledger {
+impl MessageFields for Ledger {
     type Meaning = And4<
         [And<[u8; 0], i32>; 0],
         [And<i32, <Inventory as Blank>::Meaning>; 0],
         [And<bool, [u8; 0]>; 0],
-        KeptFields,
+        Unknowns,
     >;
 
     const COST: usize = 96;
@@ -45,18 +46,18 @@ impl Fields for Ledger {
 
     ghost positive = { lit< tt };
 
-    ghost layout = { field 1 (λ m. m.balances) ⟦<OrderedMapOf<Str, Int32> as Member>⟧.shape (
-        field 2 (λ m. m.pages) ⟦<OrderedMapOfNested<Int32, Inventory> as Member>⟧.shape (
-        field 3 (λ m. m.seals) ⟦<OrderedMapOf<Bool, BytesVec> as Member>⟧.shape (
-        keep (λ m. m.rest.records)))) };
+    ghost schema = { field 1 (λ m. m.balances) ⟦<OrderedMapField<Str, Int32> as Member>⟧.shape (
+        field 2 (λ m. m.pages) ⟦<OrderedMessageMapField<Int32, Inventory> as Member>⟧.shape (
+        field 3 (λ m. m.seals) ⟦<OrderedMapField<Bool, BytesVec> as Member>⟧.shape (
+        keep_unknown (λ m. m.unknown_fields.records)))) };
 
     ghost sound = { refl };
 
     fn visit<V: Visitor>(&self, visitor: &mut V) {
-        visitor.visit::<OrderedMapOf<Str, Int32>>(1, &self.balances);
-        visitor.visit::<OrderedMapOfNested<Int32, Inventory>>(2, &self.pages);
-        visitor.visit::<OrderedMapOf<Bool, BytesVec>>(3, &self.seals);
-        visitor.visit_kept(&self.rest);
+        visitor.visit::<OrderedMapField<Str, Int32>>(1, &self.balances);
+        visitor.visit::<OrderedMessageMapField<Int32, Inventory>>(2, &self.pages);
+        visitor.visit::<OrderedMapField<Bool, BytesVec>>(3, &self.seals);
+        visitor.visit_unknown_fields(&self.unknown_fields);
     }
 
     fn take(
@@ -67,45 +68,45 @@ impl Fields for Ledger {
         ctx: DecodeContext<'_>,
     ) -> Result<(), DecodeError> {
         match tag.field_number() {
-            1 => OrderedMapOf::<Str, Int32>::merge(&mut self.balances, alloc, tag, buf, ctx),
-            2 => OrderedMapOfNested::<Int32, Inventory>::merge(
+            1 => OrderedMapField::<Str, Int32>::merge(&mut self.balances, alloc, tag, buf, ctx),
+            2 => OrderedMessageMapField::<Int32, Inventory>::merge(
                 &mut self.pages,
                 alloc,
                 tag,
                 buf,
                 ctx,
             ),
-            3 => OrderedMapOf::<Bool, BytesVec>::merge(&mut self.seals, alloc, tag, buf, ctx),
-            _ => kept::keep(alloc, &mut self.rest, tag, buf, ctx),
+            3 => OrderedMapField::<Bool, BytesVec>::merge(&mut self.seals, alloc, tag, buf, ctx),
+            _ => unknown::keep(alloc, &mut self.unknown_fields, tag, buf, ctx),
         }
     }
 }
 
 impl Blank for Ledger {
-    type Meaning = <Ledger as Fields>::Meaning;
+    type Meaning = <Ledger as MessageFields>::Meaning;
 
-    ghost meaning = { ⟦<Ledger as Fields>⟧.layout.meaning };
+    ghost meaning = { ⟦<Ledger as MessageFields>⟧.schema.meaning };
 
-    ghost blank_is = { ⟦<Ledger as Fields>⟧.layout.blank };
+    ghost blank_is = { ⟦<Ledger as MessageFields>⟧.schema.blank };
 
     fn blank(alloc: Global) -> Ledger {
         Ledger {
             balances: BTreeMap::new(alloc),
             pages: BTreeMap::new(alloc),
             seals: BTreeMap::new(alloc),
-            rest: UnknownFields::new(alloc),
+            unknown_fields: UnknownFields::new(alloc),
         }
     }
 }
 
-impl Listing for Ledger {
+impl FieldsMeaning for Ledger {
     ghost means = { λ m. refl };
 
     ghost starts = { refl };
 }
 
-impl Formed for Ledger {
-    type Form = Listed;
+impl MessageImpl for Ledger {
+    type Impl = FieldByField;
 }
 
 const _: () = prove!(size_of::<Ledger>() <= Ledger::COST);

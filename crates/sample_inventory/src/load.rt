@@ -1,12 +1,12 @@
 //! buffa.sample.Load, made of inventory.proto by protoc-gen-buffa.
 
 ghost use Rattle.std.proofs.Common.{lit<, refl};
-ghost use Rattle.buffa_fields.specs.Terms.{field, keep};
+ghost use Rattle.buffa_fields.specs.Terms.{field, keep_unknown};
 
 use buffa_fields::map_codec::{Int32, Str};
 use buffa_fields::{
-    And3, Blank, DecodeContext, DecodeError, Fields, Formed, KeptFields, Listed, Listing, Member,
-    Optional, Tag, UnknownFields, Visitor, kept,
+    And3, Blank, DecodeContext, DecodeError, ExplicitField, FieldByField, FieldsMeaning, Member,
+    MessageFields, MessageImpl, Tag, UnknownFields, Unknowns, Visitor, unknown,
 };
 use std::alloc::Global;
 use std::string::String;
@@ -22,11 +22,11 @@ pub struct Load {
     pub weight: Option<i32>,
     pub mark: Option<String>,
     /// The fields that aren't declared, in order.
-    pub rest: UnknownFields,
+    pub unknown_fields: UnknownFields,
 }
 
-impl Fields for Load {
-    type Meaning = And3<Option<i32>, Option<[u8; 0]>, KeptFields>;
+impl MessageFields for Load {
+    type Meaning = And3<Option<i32>, Option<[u8; 0]>, Unknowns>;
 
     const COST: usize = 56;
 
@@ -34,16 +34,16 @@ impl Fields for Load {
 
     ghost positive = { lit< tt };
 
-    ghost layout = { field 1 (λ m. m.weight) ⟦<Optional<Int32> as Member>⟧.shape (
-        field 2 (λ m. m.mark) ⟦<Optional<Str> as Member>⟧.shape (
-        keep (λ m. m.rest.records))) };
+    ghost schema = { field 1 (λ m. m.weight) ⟦<ExplicitField<Int32> as Member>⟧.shape (
+        field 2 (λ m. m.mark) ⟦<ExplicitField<Str> as Member>⟧.shape (
+        keep_unknown (λ m. m.unknown_fields.records))) };
 
     ghost sound = { refl };
 
     fn visit<V: Visitor>(&self, visitor: &mut V) {
-        visitor.visit::<Optional<Int32>>(1, &self.weight);
-        visitor.visit::<Optional<Str>>(2, &self.mark);
-        visitor.visit_kept(&self.rest);
+        visitor.visit::<ExplicitField<Int32>>(1, &self.weight);
+        visitor.visit::<ExplicitField<Str>>(2, &self.mark);
+        visitor.visit_unknown_fields(&self.unknown_fields);
     }
 
     fn take(
@@ -54,37 +54,37 @@ impl Fields for Load {
         ctx: DecodeContext<'_>,
     ) -> Result<(), DecodeError> {
         match tag.field_number() {
-            1 => Optional::<Int32>::merge(&mut self.weight, alloc, tag, buf, ctx),
-            2 => Optional::<Str>::merge(&mut self.mark, alloc, tag, buf, ctx),
-            _ => kept::keep(alloc, &mut self.rest, tag, buf, ctx),
+            1 => ExplicitField::<Int32>::merge(&mut self.weight, alloc, tag, buf, ctx),
+            2 => ExplicitField::<Str>::merge(&mut self.mark, alloc, tag, buf, ctx),
+            _ => unknown::keep(alloc, &mut self.unknown_fields, tag, buf, ctx),
         }
     }
 }
 
 impl Blank for Load {
-    type Meaning = <Load as Fields>::Meaning;
+    type Meaning = <Load as MessageFields>::Meaning;
 
-    ghost meaning = { ⟦<Load as Fields>⟧.layout.meaning };
+    ghost meaning = { ⟦<Load as MessageFields>⟧.schema.meaning };
 
-    ghost blank_is = { ⟦<Load as Fields>⟧.layout.blank };
+    ghost blank_is = { ⟦<Load as MessageFields>⟧.schema.blank };
 
     fn blank(alloc: Global) -> Load {
         Load {
             weight: None,
             mark: None,
-            rest: UnknownFields::new(alloc),
+            unknown_fields: UnknownFields::new(alloc),
         }
     }
 }
 
-impl Listing for Load {
+impl FieldsMeaning for Load {
     ghost means = { λ m. refl };
 
     ghost starts = { refl };
 }
 
-impl Formed for Load {
-    type Form = Listed;
+impl MessageImpl for Load {
+    type Impl = FieldByField;
 }
 
 impl Load {

@@ -1,13 +1,14 @@
 //! buffa.sample.Order, made of inventory.proto by protoc-gen-buffa.
 
 ghost use Rattle.std.proofs.Common.{lit<, refl};
-ghost use Rattle.buffa_fields.specs.Terms.{field, skip};
+ghost use Rattle.buffa_fields.specs.Terms.{field, skip_unknown};
 
 use crate::state::State;
 use buffa_fields::map_codec::{Bool, BytesVec, Fixed64, Int32, Int64, Map, OpenEnum, Sint32, Str};
 use buffa_fields::{
-    And, And13, Blank, DecodeContext, DecodeError, EnumValue, Fields, Formed, Listed, Listing,
-    MapOf, Member, Optional, Packed, Plain, Repeated, Tag, Visitor, kept,
+    And, And13, Blank, DecodeContext, DecodeError, EnumValue, ExplicitField, FieldByField,
+    FieldsMeaning, ImplicitField, MapField, Member, MessageFields, MessageImpl, PackedField,
+    RepeatedField, Tag, Visitor, unknown,
 };
 use std::alloc::Global;
 use std::string::String;
@@ -46,7 +47,7 @@ pub struct Order {
     pub floor: Option<i32>,
 }
 
-impl Fields for Order {
+impl MessageFields for Order {
     type Meaning = And13<
         i64,
         [u8; 0],
@@ -69,35 +70,35 @@ impl Fields for Order {
 
     ghost positive = { lit< tt };
 
-    ghost layout = { field 1 (λ m. m.id) ⟦<Plain<Int64> as Member>⟧.shape (
-        field 2 (λ m. m.note) ⟦<Plain<Str> as Member>⟧.shape (
-        field 3 (λ m. m.gift) ⟦<Optional<Bool> as Member>⟧.shape (
-        field 4 (λ m. m.state) ⟦<Plain<OpenEnum<State>> as Member>⟧.shape (
-        field 5 (λ m. m.counts) ⟦<MapOf<Str, Int32> as Member>⟧.shape (
-        field 6 (λ m. m.blob) ⟦<Plain<BytesVec> as Member>⟧.shape (
-        field 7 (λ m. m.steps) ⟦<Packed<Sint32> as Member>⟧.shape (
-        field 8 (λ m. m.code) ⟦<Optional<Str> as Member>⟧.shape (
-        field 9 (λ m. m.stamp) ⟦<Optional<Fixed64> as Member>⟧.shape (
-        field 10 (λ m. m.names) ⟦<MapOf<Int32, Str> as Member>⟧.shape (
-        field 11 (λ m. m.tags) ⟦<Repeated<Str> as Member>⟧.shape (
-        field 12 (λ m. m.floor) ⟦<Optional<Int32> as Member>⟧.shape (
-        skip)))))))))))) };
+    ghost schema = { field 1 (λ m. m.id) ⟦<ImplicitField<Int64> as Member>⟧.shape (
+        field 2 (λ m. m.note) ⟦<ImplicitField<Str> as Member>⟧.shape (
+        field 3 (λ m. m.gift) ⟦<ExplicitField<Bool> as Member>⟧.shape (
+        field 4 (λ m. m.state) ⟦<ImplicitField<OpenEnum<State>> as Member>⟧.shape (
+        field 5 (λ m. m.counts) ⟦<MapField<Str, Int32> as Member>⟧.shape (
+        field 6 (λ m. m.blob) ⟦<ImplicitField<BytesVec> as Member>⟧.shape (
+        field 7 (λ m. m.steps) ⟦<PackedField<Sint32> as Member>⟧.shape (
+        field 8 (λ m. m.code) ⟦<ExplicitField<Str> as Member>⟧.shape (
+        field 9 (λ m. m.stamp) ⟦<ExplicitField<Fixed64> as Member>⟧.shape (
+        field 10 (λ m. m.names) ⟦<MapField<Int32, Str> as Member>⟧.shape (
+        field 11 (λ m. m.tags) ⟦<RepeatedField<Str> as Member>⟧.shape (
+        field 12 (λ m. m.floor) ⟦<ExplicitField<Int32> as Member>⟧.shape (
+        skip_unknown)))))))))))) };
 
     ghost sound = { refl };
 
     fn visit<V: Visitor>(&self, visitor: &mut V) {
-        visitor.visit::<Plain<Int64>>(1, &self.id);
-        visitor.visit::<Plain<Str>>(2, &self.note);
-        visitor.visit::<Optional<Bool>>(3, &self.gift);
-        visitor.visit::<Plain<OpenEnum<State>>>(4, &self.state);
-        visitor.visit::<MapOf<Str, Int32>>(5, &self.counts);
-        visitor.visit::<Plain<BytesVec>>(6, &self.blob);
-        visitor.visit::<Packed<Sint32>>(7, &self.steps);
-        visitor.visit::<Optional<Str>>(8, &self.code);
-        visitor.visit::<Optional<Fixed64>>(9, &self.stamp);
-        visitor.visit::<MapOf<Int32, Str>>(10, &self.names);
-        visitor.visit::<Repeated<Str>>(11, &self.tags);
-        visitor.visit::<Optional<Int32>>(12, &self.floor);
+        visitor.visit::<ImplicitField<Int64>>(1, &self.id);
+        visitor.visit::<ImplicitField<Str>>(2, &self.note);
+        visitor.visit::<ExplicitField<Bool>>(3, &self.gift);
+        visitor.visit::<ImplicitField<OpenEnum<State>>>(4, &self.state);
+        visitor.visit::<MapField<Str, Int32>>(5, &self.counts);
+        visitor.visit::<ImplicitField<BytesVec>>(6, &self.blob);
+        visitor.visit::<PackedField<Sint32>>(7, &self.steps);
+        visitor.visit::<ExplicitField<Str>>(8, &self.code);
+        visitor.visit::<ExplicitField<Fixed64>>(9, &self.stamp);
+        visitor.visit::<MapField<Int32, Str>>(10, &self.names);
+        visitor.visit::<RepeatedField<Str>>(11, &self.tags);
+        visitor.visit::<ExplicitField<Int32>>(12, &self.floor);
     }
 
     fn take(
@@ -108,29 +109,29 @@ impl Fields for Order {
         ctx: DecodeContext<'_>,
     ) -> Result<(), DecodeError> {
         match tag.field_number() {
-            1 => Plain::<Int64>::merge(&mut self.id, alloc, tag, buf, ctx),
-            2 => Plain::<Str>::merge(&mut self.note, alloc, tag, buf, ctx),
-            3 => Optional::<Bool>::merge(&mut self.gift, alloc, tag, buf, ctx),
-            4 => Plain::<OpenEnum<State>>::merge(&mut self.state, alloc, tag, buf, ctx),
-            5 => MapOf::<Str, Int32>::merge(&mut self.counts, alloc, tag, buf, ctx),
-            6 => Plain::<BytesVec>::merge(&mut self.blob, alloc, tag, buf, ctx),
-            7 => Packed::<Sint32>::merge(&mut self.steps, alloc, tag, buf, ctx),
-            8 => Optional::<Str>::merge(&mut self.code, alloc, tag, buf, ctx),
-            9 => Optional::<Fixed64>::merge(&mut self.stamp, alloc, tag, buf, ctx),
-            10 => MapOf::<Int32, Str>::merge(&mut self.names, alloc, tag, buf, ctx),
-            11 => Repeated::<Str>::merge(&mut self.tags, alloc, tag, buf, ctx),
-            12 => Optional::<Int32>::merge(&mut self.floor, alloc, tag, buf, ctx),
-            _ => kept::pass(tag, buf, ctx),
+            1 => ImplicitField::<Int64>::merge(&mut self.id, alloc, tag, buf, ctx),
+            2 => ImplicitField::<Str>::merge(&mut self.note, alloc, tag, buf, ctx),
+            3 => ExplicitField::<Bool>::merge(&mut self.gift, alloc, tag, buf, ctx),
+            4 => ImplicitField::<OpenEnum<State>>::merge(&mut self.state, alloc, tag, buf, ctx),
+            5 => MapField::<Str, Int32>::merge(&mut self.counts, alloc, tag, buf, ctx),
+            6 => ImplicitField::<BytesVec>::merge(&mut self.blob, alloc, tag, buf, ctx),
+            7 => PackedField::<Sint32>::merge(&mut self.steps, alloc, tag, buf, ctx),
+            8 => ExplicitField::<Str>::merge(&mut self.code, alloc, tag, buf, ctx),
+            9 => ExplicitField::<Fixed64>::merge(&mut self.stamp, alloc, tag, buf, ctx),
+            10 => MapField::<Int32, Str>::merge(&mut self.names, alloc, tag, buf, ctx),
+            11 => RepeatedField::<Str>::merge(&mut self.tags, alloc, tag, buf, ctx),
+            12 => ExplicitField::<Int32>::merge(&mut self.floor, alloc, tag, buf, ctx),
+            _ => unknown::pass(tag, buf, ctx),
         }
     }
 }
 
 impl Blank for Order {
-    type Meaning = <Order as Fields>::Meaning;
+    type Meaning = <Order as MessageFields>::Meaning;
 
-    ghost meaning = { ⟦<Order as Fields>⟧.layout.meaning };
+    ghost meaning = { ⟦<Order as MessageFields>⟧.schema.meaning };
 
-    ghost blank_is = { ⟦<Order as Fields>⟧.layout.blank };
+    ghost blank_is = { ⟦<Order as MessageFields>⟧.schema.blank };
 
     fn blank(alloc: Global) -> Order {
         Order {
@@ -150,14 +151,14 @@ impl Blank for Order {
     }
 }
 
-impl Listing for Order {
+impl FieldsMeaning for Order {
     ghost means = { λ m. refl };
 
     ghost starts = { refl };
 }
 
-impl Formed for Order {
-    type Form = Listed;
+impl MessageImpl for Order {
+    type Impl = FieldByField;
 }
 
 impl Order {

@@ -1,13 +1,13 @@
 //! buffa.sample.Pallet, made of inventory.proto by protoc-gen-buffa.
 
 ghost use Rattle.std.proofs.Common.{lit<, refl};
-ghost use Rattle.buffa_fields.specs.Terms.{field, skip};
+ghost use Rattle.buffa_fields.specs.Terms.{field, skip_unknown};
 
 use crate::inventory::Inventory;
 use buffa_fields::map_codec::Str;
 use buffa_fields::{
-    And4, Blank, DecodeContext, DecodeError, Fields, Formed, Group, Listed, Listing, Member, Plain,
-    RepeatedGroup, Tag, Visitor, kept,
+    And4, Blank, DecodeContext, DecodeError, FieldByField, FieldsMeaning, GroupField,
+    ImplicitField, Member, MessageFields, MessageImpl, RepeatedGroupField, Tag, Visitor, unknown,
 };
 use std::alloc::Global;
 use std::string::String;
@@ -30,7 +30,7 @@ pub struct Pallet {
     pub layers: Vec<Inventory>,
 }
 
-impl Fields for Pallet {
+impl MessageFields for Pallet {
     type Meaning = And4<
         [u8; 0],
         Option<<Inventory as Blank>::Meaning>,
@@ -44,17 +44,17 @@ impl Fields for Pallet {
 
     ghost positive = { lit< tt };
 
-    ghost layout = { field 1 (λ m. m.mark) ⟦<Plain<Str> as Member>⟧.shape (
-        field 2 (λ m. m.stock) ⟦<Group<Inventory> as Member>⟧.shape (
-        field 3 (λ m. m.layers) ⟦<RepeatedGroup<Inventory> as Member>⟧.shape (
-        skip))) };
+    ghost schema = { field 1 (λ m. m.mark) ⟦<ImplicitField<Str> as Member>⟧.shape (
+        field 2 (λ m. m.stock) ⟦<GroupField<Inventory> as Member>⟧.shape (
+        field 3 (λ m. m.layers) ⟦<RepeatedGroupField<Inventory> as Member>⟧.shape (
+        skip_unknown))) };
 
     ghost sound = { refl };
 
     fn visit<V: Visitor>(&self, visitor: &mut V) {
-        visitor.visit::<Plain<Str>>(1, &self.mark);
-        visitor.visit::<Group<Inventory>>(2, &self.stock);
-        visitor.visit::<RepeatedGroup<Inventory>>(3, &self.layers);
+        visitor.visit::<ImplicitField<Str>>(1, &self.mark);
+        visitor.visit::<GroupField<Inventory>>(2, &self.stock);
+        visitor.visit::<RepeatedGroupField<Inventory>>(3, &self.layers);
     }
 
     fn take(
@@ -65,20 +65,20 @@ impl Fields for Pallet {
         ctx: DecodeContext<'_>,
     ) -> Result<(), DecodeError> {
         match tag.field_number() {
-            1 => Plain::<Str>::merge(&mut self.mark, alloc, tag, buf, ctx),
-            2 => Group::<Inventory>::merge(&mut self.stock, alloc, tag, buf, ctx),
-            3 => RepeatedGroup::<Inventory>::merge(&mut self.layers, alloc, tag, buf, ctx),
-            _ => kept::pass(tag, buf, ctx),
+            1 => ImplicitField::<Str>::merge(&mut self.mark, alloc, tag, buf, ctx),
+            2 => GroupField::<Inventory>::merge(&mut self.stock, alloc, tag, buf, ctx),
+            3 => RepeatedGroupField::<Inventory>::merge(&mut self.layers, alloc, tag, buf, ctx),
+            _ => unknown::pass(tag, buf, ctx),
         }
     }
 }
 
 impl Blank for Pallet {
-    type Meaning = <Pallet as Fields>::Meaning;
+    type Meaning = <Pallet as MessageFields>::Meaning;
 
-    ghost meaning = { ⟦<Pallet as Fields>⟧.layout.meaning };
+    ghost meaning = { ⟦<Pallet as MessageFields>⟧.schema.meaning };
 
-    ghost blank_is = { ⟦<Pallet as Fields>⟧.layout.blank };
+    ghost blank_is = { ⟦<Pallet as MessageFields>⟧.schema.blank };
 
     fn blank(alloc: Global) -> Pallet {
         Pallet {
@@ -89,14 +89,14 @@ impl Blank for Pallet {
     }
 }
 
-impl Listing for Pallet {
+impl FieldsMeaning for Pallet {
     ghost means = { λ m. refl };
 
     ghost starts = { refl };
 }
 
-impl Formed for Pallet {
-    type Form = Listed;
+impl MessageImpl for Pallet {
+    type Impl = FieldByField;
 }
 
 impl Pallet {

@@ -1,13 +1,13 @@
 //! buffa.sample.Parcel, made of inventory.proto by protoc-gen-buffa.
 
 ghost use Rattle.std.proofs.Common.{lit<, refl};
-ghost use Rattle.buffa_fields.specs.Terms.{field, skip};
+ghost use Rattle.buffa_fields.specs.Terms.{field, skip_unknown};
 
 use crate::inventory::Inventory;
 use buffa_fields::map_codec::Int64;
 use buffa_fields::{
-    And3, Blank, DecodeContext, DecodeError, Fields, Formed, Listed, Listing, Member, Nested,
-    Plain, Tag, Visitor, kept,
+    And3, Blank, DecodeContext, DecodeError, FieldByField, FieldsMeaning, ImplicitField, Member,
+    MessageField, MessageFields, MessageImpl, Tag, Visitor, unknown,
 };
 use std::alloc::Global;
 
@@ -25,7 +25,7 @@ pub struct Parcel {
     pub stock: Option<Inventory>,
 }
 
-impl Fields for Parcel {
+impl MessageFields for Parcel {
     type Meaning = And3<i64, Option<<Inventory as Blank>::Meaning>, ()>;
 
     const COST: usize = 112;
@@ -34,15 +34,15 @@ impl Fields for Parcel {
 
     ghost positive = { lit< tt };
 
-    ghost layout = { field 1 (λ m. m.id) ⟦<Plain<Int64> as Member>⟧.shape (
-        field 2 (λ m. m.stock) ⟦<Nested<Inventory> as Member>⟧.shape (
-        skip)) };
+    ghost schema = { field 1 (λ m. m.id) ⟦<ImplicitField<Int64> as Member>⟧.shape (
+        field 2 (λ m. m.stock) ⟦<MessageField<Inventory> as Member>⟧.shape (
+        skip_unknown)) };
 
     ghost sound = { refl };
 
     fn visit<V: Visitor>(&self, visitor: &mut V) {
-        visitor.visit::<Plain<Int64>>(1, &self.id);
-        visitor.visit::<Nested<Inventory>>(2, &self.stock);
+        visitor.visit::<ImplicitField<Int64>>(1, &self.id);
+        visitor.visit::<MessageField<Inventory>>(2, &self.stock);
     }
 
     fn take(
@@ -53,33 +53,33 @@ impl Fields for Parcel {
         ctx: DecodeContext<'_>,
     ) -> Result<(), DecodeError> {
         match tag.field_number() {
-            1 => Plain::<Int64>::merge(&mut self.id, alloc, tag, buf, ctx),
-            2 => Nested::<Inventory>::merge(&mut self.stock, alloc, tag, buf, ctx),
-            _ => kept::pass(tag, buf, ctx),
+            1 => ImplicitField::<Int64>::merge(&mut self.id, alloc, tag, buf, ctx),
+            2 => MessageField::<Inventory>::merge(&mut self.stock, alloc, tag, buf, ctx),
+            _ => unknown::pass(tag, buf, ctx),
         }
     }
 }
 
 impl Blank for Parcel {
-    type Meaning = <Parcel as Fields>::Meaning;
+    type Meaning = <Parcel as MessageFields>::Meaning;
 
-    ghost meaning = { ⟦<Parcel as Fields>⟧.layout.meaning };
+    ghost meaning = { ⟦<Parcel as MessageFields>⟧.schema.meaning };
 
-    ghost blank_is = { ⟦<Parcel as Fields>⟧.layout.blank };
+    ghost blank_is = { ⟦<Parcel as MessageFields>⟧.schema.blank };
 
     fn blank(_alloc: Global) -> Parcel {
         Parcel { id: 0, stock: None }
     }
 }
 
-impl Listing for Parcel {
+impl FieldsMeaning for Parcel {
     ghost means = { λ m. refl };
 
     ghost starts = { refl };
 }
 
-impl Formed for Parcel {
-    type Form = Listed;
+impl MessageImpl for Parcel {
+    type Impl = FieldByField;
 }
 
 impl Parcel {

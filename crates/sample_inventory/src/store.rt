@@ -1,13 +1,13 @@
 //! buffa.sample.Store, made of inventory.proto by protoc-gen-buffa.
 
 ghost use Rattle.std.proofs.Common.{lit<, refl};
-ghost use Rattle.buffa_fields.specs.Terms.{field, skip};
+ghost use Rattle.buffa_fields.specs.Terms.{field, skip_unknown};
 
 use crate::inventory::Inventory;
 use buffa_fields::map_codec::{Map, Str};
 use buffa_fields::{
-    And, And3, Blank, DecodeContext, DecodeError, Fields, Formed, Listed, Listing, MapOfNested,
-    Member, Plain, Tag, Visitor, kept,
+    And, And3, Blank, DecodeContext, DecodeError, FieldByField, FieldsMeaning, ImplicitField,
+    Member, MessageFields, MessageImpl, MessageMapField, Tag, Visitor, unknown,
 };
 use std::alloc::Global;
 use std::string::String;
@@ -26,7 +26,7 @@ pub struct Store {
     pub shelves: Map<String, Inventory>,
 }
 
-impl Fields for Store {
+impl MessageFields for Store {
     type Meaning = And3<[u8; 0], [And<[u8; 0], <Inventory as Blank>::Meaning>; 0], ()>;
 
     const COST: usize = 72;
@@ -35,15 +35,15 @@ impl Fields for Store {
 
     ghost positive = { lit< tt };
 
-    ghost layout = { field 1 (λ m. m.name) ⟦<Plain<Str> as Member>⟧.shape (
-        field 2 (λ m. m.shelves) ⟦<MapOfNested<Str, Inventory> as Member>⟧.shape (
-        skip)) };
+    ghost schema = { field 1 (λ m. m.name) ⟦<ImplicitField<Str> as Member>⟧.shape (
+        field 2 (λ m. m.shelves) ⟦<MessageMapField<Str, Inventory> as Member>⟧.shape (
+        skip_unknown)) };
 
     ghost sound = { refl };
 
     fn visit<V: Visitor>(&self, visitor: &mut V) {
-        visitor.visit::<Plain<Str>>(1, &self.name);
-        visitor.visit::<MapOfNested<Str, Inventory>>(2, &self.shelves);
+        visitor.visit::<ImplicitField<Str>>(1, &self.name);
+        visitor.visit::<MessageMapField<Str, Inventory>>(2, &self.shelves);
     }
 
     fn take(
@@ -54,19 +54,19 @@ impl Fields for Store {
         ctx: DecodeContext<'_>,
     ) -> Result<(), DecodeError> {
         match tag.field_number() {
-            1 => Plain::<Str>::merge(&mut self.name, alloc, tag, buf, ctx),
-            2 => MapOfNested::<Str, Inventory>::merge(&mut self.shelves, alloc, tag, buf, ctx),
-            _ => kept::pass(tag, buf, ctx),
+            1 => ImplicitField::<Str>::merge(&mut self.name, alloc, tag, buf, ctx),
+            2 => MessageMapField::<Str, Inventory>::merge(&mut self.shelves, alloc, tag, buf, ctx),
+            _ => unknown::pass(tag, buf, ctx),
         }
     }
 }
 
 impl Blank for Store {
-    type Meaning = <Store as Fields>::Meaning;
+    type Meaning = <Store as MessageFields>::Meaning;
 
-    ghost meaning = { ⟦<Store as Fields>⟧.layout.meaning };
+    ghost meaning = { ⟦<Store as MessageFields>⟧.schema.meaning };
 
-    ghost blank_is = { ⟦<Store as Fields>⟧.layout.blank };
+    ghost blank_is = { ⟦<Store as MessageFields>⟧.schema.blank };
 
     fn blank(alloc: Global) -> Store {
         Store {
@@ -76,14 +76,14 @@ impl Blank for Store {
     }
 }
 
-impl Listing for Store {
+impl FieldsMeaning for Store {
     ghost means = { λ m. refl };
 
     ghost starts = { refl };
 }
 
-impl Formed for Store {
-    type Form = Listed;
+impl MessageImpl for Store {
+    type Impl = FieldByField;
 }
 
 impl Store {

@@ -1,13 +1,13 @@
 //! buffa.sample.Train, made of inventory.proto by protoc-gen-buffa.
 
 ghost use Rattle.std.proofs.Common.{lit<, refl};
-ghost use Rattle.buffa_fields.specs.Terms.{field, skip};
+ghost use Rattle.buffa_fields.specs.Terms.{field, skip_unknown};
 
 use crate::wagon::Wagon;
 use buffa_fields::map_codec::{Int32, Map};
 use buffa_fields::{
-    And, And3, Blank, DecodeContext, DecodeError, Fields, Formed, Listed, Listing, MapOfNested,
-    Member, RepeatedNested, Tag, Visitor, kept,
+    And, And3, Blank, DecodeContext, DecodeError, FieldByField, FieldsMeaning, Member,
+    MessageFields, MessageImpl, MessageMapField, RepeatedMessageField, Tag, Visitor, unknown,
 };
 use std::alloc::Global;
 
@@ -25,7 +25,7 @@ pub struct Train {
     pub spares: Vec<Wagon>,
 }
 
-impl Fields for Train {
+impl MessageFields for Train {
     type Meaning = And3<
         [And<i32, <Wagon as Blank>::Meaning>; 0],
         [<Wagon as Blank>::Meaning; 0],
@@ -38,15 +38,15 @@ impl Fields for Train {
 
     ghost positive = { lit< tt };
 
-    ghost layout = { field 1 (λ m. m.wagons) ⟦<MapOfNested<Int32, Wagon> as Member>⟧.shape (
-        field 2 (λ m. m.spares) ⟦<RepeatedNested<Wagon> as Member>⟧.shape (
-        skip)) };
+    ghost schema = { field 1 (λ m. m.wagons) ⟦<MessageMapField<Int32, Wagon> as Member>⟧.shape (
+        field 2 (λ m. m.spares) ⟦<RepeatedMessageField<Wagon> as Member>⟧.shape (
+        skip_unknown)) };
 
     ghost sound = { refl };
 
     fn visit<V: Visitor>(&self, visitor: &mut V) {
-        visitor.visit::<MapOfNested<Int32, Wagon>>(1, &self.wagons);
-        visitor.visit::<RepeatedNested<Wagon>>(2, &self.spares);
+        visitor.visit::<MessageMapField<Int32, Wagon>>(1, &self.wagons);
+        visitor.visit::<RepeatedMessageField<Wagon>>(2, &self.spares);
     }
 
     fn take(
@@ -57,19 +57,19 @@ impl Fields for Train {
         ctx: DecodeContext<'_>,
     ) -> Result<(), DecodeError> {
         match tag.field_number() {
-            1 => MapOfNested::<Int32, Wagon>::merge(&mut self.wagons, alloc, tag, buf, ctx),
-            2 => RepeatedNested::<Wagon>::merge(&mut self.spares, alloc, tag, buf, ctx),
-            _ => kept::pass(tag, buf, ctx),
+            1 => MessageMapField::<Int32, Wagon>::merge(&mut self.wagons, alloc, tag, buf, ctx),
+            2 => RepeatedMessageField::<Wagon>::merge(&mut self.spares, alloc, tag, buf, ctx),
+            _ => unknown::pass(tag, buf, ctx),
         }
     }
 }
 
 impl Blank for Train {
-    type Meaning = <Train as Fields>::Meaning;
+    type Meaning = <Train as MessageFields>::Meaning;
 
-    ghost meaning = { ⟦<Train as Fields>⟧.layout.meaning };
+    ghost meaning = { ⟦<Train as MessageFields>⟧.schema.meaning };
 
-    ghost blank_is = { ⟦<Train as Fields>⟧.layout.blank };
+    ghost blank_is = { ⟦<Train as MessageFields>⟧.schema.blank };
 
     fn blank(alloc: Global) -> Train {
         Train {
@@ -79,14 +79,14 @@ impl Blank for Train {
     }
 }
 
-impl Listing for Train {
+impl FieldsMeaning for Train {
     ghost means = { λ m. refl };
 
     ghost starts = { refl };
 }
 
-impl Formed for Train {
-    type Form = Listed;
+impl MessageImpl for Train {
+    type Impl = FieldByField;
 }
 
 impl Train {

@@ -1,16 +1,17 @@
 //! buffa.sample.Wagon, made of inventory.proto by protoc-gen-buffa.
 
 ghost use Rattle.std.proofs.Common.{lit<, refl};
-ghost use Rattle.buffa_fields.specs.Terms.{field, keep};
+ghost use Rattle.buffa_fields.specs.Terms.{field, keep_unknown};
 
 use crate::load::Load;
 use crate::state::State;
 use buffa_fields::map_codec::{Int32, Int64, Map, OpenEnum, Str};
 use buffa_fields::{
-    And, And14, Blank, DecodeContext, DecodeError, EnumValue, Fields, Formed, Group, KeptFields,
-    Listed, Listing, MapOf, MapOfNested, Member, Nested, Optional, OrderedMapOf,
-    OrderedMapOfNested, Packed, Plain, Repeated, RepeatedGroup, RepeatedNested, Tag, UnknownFields,
-    Visitor, kept,
+    And, And14, Blank, DecodeContext, DecodeError, EnumValue, ExplicitField, FieldByField,
+    FieldsMeaning, GroupField, ImplicitField, MapField, Member, MessageField, MessageFields,
+    MessageImpl, MessageMapField, OrderedMapField, OrderedMessageMapField, PackedField,
+    RepeatedField, RepeatedGroupField, RepeatedMessageField, Tag, UnknownFields, Unknowns, Visitor,
+    unknown,
 };
 use std::alloc::Global;
 use std::collections::BTreeMap;
@@ -53,10 +54,10 @@ pub struct Wagon {
     pub counts: Map<String, i32>,
     pub axles: BTreeMap<i32, i32>,
     /// The fields that aren't declared, in order.
-    pub rest: UnknownFields,
+    pub unknown_fields: UnknownFields,
 }
 
-impl Fields for Wagon {
+impl MessageFields for Wagon {
     type Meaning = And14<
         Option<<Load as Blank>::Meaning>,
         [<Load as Blank>::Meaning; 0],
@@ -71,7 +72,7 @@ impl Fields for Wagon {
         [[u8; 0]; 0],
         [And<[u8; 0], i32>; 0],
         [And<i32, i32>; 0],
-        KeptFields,
+        Unknowns,
     >;
 
     const COST: usize = 392;
@@ -80,38 +81,38 @@ impl Fields for Wagon {
 
     ghost positive = { lit< tt };
 
-    ghost layout = { field 1 (λ m. m.load) ⟦<Nested<Load> as Member>⟧.shape (
-        field 2 (λ m. m.loads) ⟦<RepeatedNested<Load> as Member>⟧.shape (
-        field 3 (λ m. m.frame) ⟦<Group<Load> as Member>⟧.shape (
-        field 4 (λ m. m.beams) ⟦<RepeatedGroup<Load> as Member>⟧.shape (
-        field 5 (λ m. m.shelves) ⟦<MapOfNested<Str, Load> as Member>⟧.shape (
-        field 6 (λ m. m.berths) ⟦<OrderedMapOfNested<Int32, Load> as Member>⟧.shape (
-        field 7 (λ m. m.id) ⟦<Plain<Int64> as Member>⟧.shape (
-        field 8 (λ m. m.name) ⟦<Optional<Str> as Member>⟧.shape (
-        field 9 (λ m. m.state) ⟦<Optional<OpenEnum<State>> as Member>⟧.shape (
-        field 10 (λ m. m.seats) ⟦<Packed<Int32> as Member>⟧.shape (
-        field 11 (λ m. m.tags) ⟦<Repeated<Str> as Member>⟧.shape (
-        field 12 (λ m. m.counts) ⟦<MapOf<Str, Int32> as Member>⟧.shape (
-        field 13 (λ m. m.axles) ⟦<OrderedMapOf<Int32, Int32> as Member>⟧.shape (
-        keep (λ m. m.rest.records)))))))))))))) };
+    ghost schema = { field 1 (λ m. m.load) ⟦<MessageField<Load> as Member>⟧.shape (
+        field 2 (λ m. m.loads) ⟦<RepeatedMessageField<Load> as Member>⟧.shape (
+        field 3 (λ m. m.frame) ⟦<GroupField<Load> as Member>⟧.shape (
+        field 4 (λ m. m.beams) ⟦<RepeatedGroupField<Load> as Member>⟧.shape (
+        field 5 (λ m. m.shelves) ⟦<MessageMapField<Str, Load> as Member>⟧.shape (
+        field 6 (λ m. m.berths) ⟦<OrderedMessageMapField<Int32, Load> as Member>⟧.shape (
+        field 7 (λ m. m.id) ⟦<ImplicitField<Int64> as Member>⟧.shape (
+        field 8 (λ m. m.name) ⟦<ExplicitField<Str> as Member>⟧.shape (
+        field 9 (λ m. m.state) ⟦<ExplicitField<OpenEnum<State>> as Member>⟧.shape (
+        field 10 (λ m. m.seats) ⟦<PackedField<Int32> as Member>⟧.shape (
+        field 11 (λ m. m.tags) ⟦<RepeatedField<Str> as Member>⟧.shape (
+        field 12 (λ m. m.counts) ⟦<MapField<Str, Int32> as Member>⟧.shape (
+        field 13 (λ m. m.axles) ⟦<OrderedMapField<Int32, Int32> as Member>⟧.shape (
+        keep_unknown (λ m. m.unknown_fields.records)))))))))))))) };
 
     ghost sound = { refl };
 
     fn visit<V: Visitor>(&self, visitor: &mut V) {
-        visitor.visit::<Nested<Load>>(1, &self.load);
-        visitor.visit::<RepeatedNested<Load>>(2, &self.loads);
-        visitor.visit::<Group<Load>>(3, &self.frame);
-        visitor.visit::<RepeatedGroup<Load>>(4, &self.beams);
-        visitor.visit::<MapOfNested<Str, Load>>(5, &self.shelves);
-        visitor.visit::<OrderedMapOfNested<Int32, Load>>(6, &self.berths);
-        visitor.visit::<Plain<Int64>>(7, &self.id);
-        visitor.visit::<Optional<Str>>(8, &self.name);
-        visitor.visit::<Optional<OpenEnum<State>>>(9, &self.state);
-        visitor.visit::<Packed<Int32>>(10, &self.seats);
-        visitor.visit::<Repeated<Str>>(11, &self.tags);
-        visitor.visit::<MapOf<Str, Int32>>(12, &self.counts);
-        visitor.visit::<OrderedMapOf<Int32, Int32>>(13, &self.axles);
-        visitor.visit_kept(&self.rest);
+        visitor.visit::<MessageField<Load>>(1, &self.load);
+        visitor.visit::<RepeatedMessageField<Load>>(2, &self.loads);
+        visitor.visit::<GroupField<Load>>(3, &self.frame);
+        visitor.visit::<RepeatedGroupField<Load>>(4, &self.beams);
+        visitor.visit::<MessageMapField<Str, Load>>(5, &self.shelves);
+        visitor.visit::<OrderedMessageMapField<Int32, Load>>(6, &self.berths);
+        visitor.visit::<ImplicitField<Int64>>(7, &self.id);
+        visitor.visit::<ExplicitField<Str>>(8, &self.name);
+        visitor.visit::<ExplicitField<OpenEnum<State>>>(9, &self.state);
+        visitor.visit::<PackedField<Int32>>(10, &self.seats);
+        visitor.visit::<RepeatedField<Str>>(11, &self.tags);
+        visitor.visit::<MapField<Str, Int32>>(12, &self.counts);
+        visitor.visit::<OrderedMapField<Int32, Int32>>(13, &self.axles);
+        visitor.visit_unknown_fields(&self.unknown_fields);
     }
 
     fn take(
@@ -122,30 +123,36 @@ impl Fields for Wagon {
         ctx: DecodeContext<'_>,
     ) -> Result<(), DecodeError> {
         match tag.field_number() {
-            1 => Nested::<Load>::merge(&mut self.load, alloc, tag, buf, ctx),
-            2 => RepeatedNested::<Load>::merge(&mut self.loads, alloc, tag, buf, ctx),
-            3 => Group::<Load>::merge(&mut self.frame, alloc, tag, buf, ctx),
-            4 => RepeatedGroup::<Load>::merge(&mut self.beams, alloc, tag, buf, ctx),
-            5 => MapOfNested::<Str, Load>::merge(&mut self.shelves, alloc, tag, buf, ctx),
-            6 => OrderedMapOfNested::<Int32, Load>::merge(&mut self.berths, alloc, tag, buf, ctx),
-            7 => Plain::<Int64>::merge(&mut self.id, alloc, tag, buf, ctx),
-            8 => Optional::<Str>::merge(&mut self.name, alloc, tag, buf, ctx),
-            9 => Optional::<OpenEnum<State>>::merge(&mut self.state, alloc, tag, buf, ctx),
-            10 => Packed::<Int32>::merge(&mut self.seats, alloc, tag, buf, ctx),
-            11 => Repeated::<Str>::merge(&mut self.tags, alloc, tag, buf, ctx),
-            12 => MapOf::<Str, Int32>::merge(&mut self.counts, alloc, tag, buf, ctx),
-            13 => OrderedMapOf::<Int32, Int32>::merge(&mut self.axles, alloc, tag, buf, ctx),
-            _ => kept::keep(alloc, &mut self.rest, tag, buf, ctx),
+            1 => MessageField::<Load>::merge(&mut self.load, alloc, tag, buf, ctx),
+            2 => RepeatedMessageField::<Load>::merge(&mut self.loads, alloc, tag, buf, ctx),
+            3 => GroupField::<Load>::merge(&mut self.frame, alloc, tag, buf, ctx),
+            4 => RepeatedGroupField::<Load>::merge(&mut self.beams, alloc, tag, buf, ctx),
+            5 => MessageMapField::<Str, Load>::merge(&mut self.shelves, alloc, tag, buf, ctx),
+            6 => OrderedMessageMapField::<Int32, Load>::merge(
+                &mut self.berths,
+                alloc,
+                tag,
+                buf,
+                ctx,
+            ),
+            7 => ImplicitField::<Int64>::merge(&mut self.id, alloc, tag, buf, ctx),
+            8 => ExplicitField::<Str>::merge(&mut self.name, alloc, tag, buf, ctx),
+            9 => ExplicitField::<OpenEnum<State>>::merge(&mut self.state, alloc, tag, buf, ctx),
+            10 => PackedField::<Int32>::merge(&mut self.seats, alloc, tag, buf, ctx),
+            11 => RepeatedField::<Str>::merge(&mut self.tags, alloc, tag, buf, ctx),
+            12 => MapField::<Str, Int32>::merge(&mut self.counts, alloc, tag, buf, ctx),
+            13 => OrderedMapField::<Int32, Int32>::merge(&mut self.axles, alloc, tag, buf, ctx),
+            _ => unknown::keep(alloc, &mut self.unknown_fields, tag, buf, ctx),
         }
     }
 }
 
 impl Blank for Wagon {
-    type Meaning = <Wagon as Fields>::Meaning;
+    type Meaning = <Wagon as MessageFields>::Meaning;
 
-    ghost meaning = { ⟦<Wagon as Fields>⟧.layout.meaning };
+    ghost meaning = { ⟦<Wagon as MessageFields>⟧.schema.meaning };
 
-    ghost blank_is = { ⟦<Wagon as Fields>⟧.layout.blank };
+    ghost blank_is = { ⟦<Wagon as MessageFields>⟧.schema.blank };
 
     fn blank(alloc: Global) -> Wagon {
         Wagon {
@@ -162,19 +169,19 @@ impl Blank for Wagon {
             tags: Vec::new(alloc),
             counts: Map::new(alloc),
             axles: BTreeMap::new(alloc),
-            rest: UnknownFields::new(alloc),
+            unknown_fields: UnknownFields::new(alloc),
         }
     }
 }
 
-impl Listing for Wagon {
+impl FieldsMeaning for Wagon {
     ghost means = { λ m. refl };
 
     ghost starts = { refl };
 }
 
-impl Formed for Wagon {
-    type Form = Listed;
+impl MessageImpl for Wagon {
+    type Impl = FieldByField;
 }
 
 impl Wagon {

@@ -2,15 +2,16 @@
 
 ghost use Rattle.std.proofs.Common.{lit<, refl};
 ghost use Rattle.std.specs.Prelude.{is_some, ◌&&◌};
-ghost use Rattle.buffa_fields.specs.Terms.{field, field_kept, keep};
+ghost use Rattle.buffa_fields.specs.Terms.{field, field_with_unknowns, keep_unknown};
 
 use crate::spot::Spot;
 use crate::unit::Unit;
 use buffa_fields::map_codec::{ClosedEnum, Double, Float, Int32, Map, Str};
 use buffa_fields::{
-    And, And10, Blank, DecodeContext, DecodeError, DoubleBits, Fields, FloatBits, Formed, Keeping,
-    KeptFields, Listed, Listing, MapOf, Member, Nested, Optional, Packed, Repeated, RepeatedNested,
-    Required, Tag, UnknownFields, Visitor, kept,
+    And, And10, Blank, DecodeContext, DecodeError, DoubleBits, ExplicitField, FieldByField,
+    FieldsMeaning, FloatBits, KeepsUnknowns, MapField, Member, MessageField, MessageFields,
+    MessageImpl, PackedField, RepeatedField, RepeatedMessageField, Required, Tag, UnknownFields,
+    Unknowns, Visitor, unknown,
 };
 use std::alloc::Global;
 use std::string::String;
@@ -44,10 +45,10 @@ pub struct Measure {
     pub nearby: Vec<Spot>,
     pub note: Option<String>,
     /// The fields that aren't declared, in order.
-    pub rest: UnknownFields,
+    pub unknown_fields: UnknownFields,
 }
 
-impl Fields for Measure {
+impl MessageFields for Measure {
     type Meaning = And10<
         Option<[u8; 0]>,
         Option<u64>,
@@ -58,7 +59,7 @@ impl Fields for Measure {
         Option<<Spot as Blank>::Meaning>,
         [<Spot as Blank>::Meaning; 0],
         Option<[u8; 0]>,
-        KeptFields,
+        Unknowns,
     >;
 
     const COST: usize = 384;
@@ -67,31 +68,31 @@ impl Fields for Measure {
 
     ghost positive = { lit< tt };
 
-    ghost layout = { field 1 (λ m. m.station) ⟦<Optional<Str> as Member>⟧.shape (
-        field 2 (λ m. m.value) ⟦<Optional<Double> as Member>⟧.shape (
-        field_kept 3 (λ m. m.unit) ⟦<Optional<ClosedEnum<Unit>> as Member>⟧.shape
-        ⟦<Optional<ClosedEnum<Unit>> as Keeping>⟧.aside (
-        field 4 (λ m. m.gusts) ⟦<Packed<Float> as Member>⟧.shape (
-        field 5 (λ m. m.levels) ⟦<Repeated<Double> as Member>⟧.shape (
-        field 6 (λ m. m.tides) ⟦<MapOf<Int32, Double> as Member>⟧.shape (
-        field 7 (λ m. m.spot) ⟦<Nested<Spot> as Member>⟧.shape (
-        field 8 (λ m. m.nearby) ⟦<RepeatedNested<Spot> as Member>⟧.shape (
-        field 9 (λ m. m.note) ⟦<Optional<Str> as Member>⟧.shape (
-        keep (λ m. m.rest.records)))))))))) };
+    ghost schema = { field 1 (λ m. m.station) ⟦<ExplicitField<Str> as Member>⟧.shape (
+        field 2 (λ m. m.value) ⟦<ExplicitField<Double> as Member>⟧.shape (
+        field_with_unknowns 3 (λ m. m.unit) ⟦<ExplicitField<ClosedEnum<Unit>> as Member>⟧.shape
+        ⟦<ExplicitField<ClosedEnum<Unit>> as KeepsUnknowns>⟧.unknowns (
+        field 4 (λ m. m.gusts) ⟦<PackedField<Float> as Member>⟧.shape (
+        field 5 (λ m. m.levels) ⟦<RepeatedField<Double> as Member>⟧.shape (
+        field 6 (λ m. m.tides) ⟦<MapField<Int32, Double> as Member>⟧.shape (
+        field 7 (λ m. m.spot) ⟦<MessageField<Spot> as Member>⟧.shape (
+        field 8 (λ m. m.nearby) ⟦<RepeatedMessageField<Spot> as Member>⟧.shape (
+        field 9 (λ m. m.note) ⟦<ExplicitField<Str> as Member>⟧.shape (
+        keep_unknown (λ m. m.unknown_fields.records)))))))))) };
 
     ghost sound = { refl };
 
     fn visit<V: Visitor>(&self, visitor: &mut V) {
-        visitor.visit::<Optional<Str>>(1, &self.station);
-        visitor.visit::<Optional<Double>>(2, &self.value);
-        visitor.visit_keeping::<Optional<ClosedEnum<Unit>>>(3, &self.unit);
-        visitor.visit::<Packed<Float>>(4, &self.gusts);
-        visitor.visit::<Repeated<Double>>(5, &self.levels);
-        visitor.visit::<MapOf<Int32, Double>>(6, &self.tides);
-        visitor.visit::<Nested<Spot>>(7, &self.spot);
-        visitor.visit::<RepeatedNested<Spot>>(8, &self.nearby);
-        visitor.visit::<Optional<Str>>(9, &self.note);
-        visitor.visit_kept(&self.rest);
+        visitor.visit::<ExplicitField<Str>>(1, &self.station);
+        visitor.visit::<ExplicitField<Double>>(2, &self.value);
+        visitor.visit_with_unknowns::<ExplicitField<ClosedEnum<Unit>>>(3, &self.unit);
+        visitor.visit::<PackedField<Float>>(4, &self.gusts);
+        visitor.visit::<RepeatedField<Double>>(5, &self.levels);
+        visitor.visit::<MapField<Int32, Double>>(6, &self.tides);
+        visitor.visit::<MessageField<Spot>>(7, &self.spot);
+        visitor.visit::<RepeatedMessageField<Spot>>(8, &self.nearby);
+        visitor.visit::<ExplicitField<Str>>(9, &self.note);
+        visitor.visit_unknown_fields(&self.unknown_fields);
     }
 
     fn take(
@@ -102,33 +103,33 @@ impl Fields for Measure {
         ctx: DecodeContext<'_>,
     ) -> Result<(), DecodeError> {
         match tag.field_number() {
-            1 => Optional::<Str>::merge(&mut self.station, alloc, tag, buf, ctx),
-            2 => Optional::<Double>::merge(&mut self.value, alloc, tag, buf, ctx),
-            3 => Optional::<ClosedEnum<Unit>>::merge_kept(
+            1 => ExplicitField::<Str>::merge(&mut self.station, alloc, tag, buf, ctx),
+            2 => ExplicitField::<Double>::merge(&mut self.value, alloc, tag, buf, ctx),
+            3 => ExplicitField::<ClosedEnum<Unit>>::merge_with_unknowns(
                 &mut self.unit,
-                &mut self.rest,
+                &mut self.unknown_fields,
                 alloc,
                 tag,
                 buf,
                 ctx,
             ),
-            4 => Packed::<Float>::merge(&mut self.gusts, alloc, tag, buf, ctx),
-            5 => Repeated::<Double>::merge(&mut self.levels, alloc, tag, buf, ctx),
-            6 => MapOf::<Int32, Double>::merge(&mut self.tides, alloc, tag, buf, ctx),
-            7 => Nested::<Spot>::merge(&mut self.spot, alloc, tag, buf, ctx),
-            8 => RepeatedNested::<Spot>::merge(&mut self.nearby, alloc, tag, buf, ctx),
-            9 => Optional::<Str>::merge(&mut self.note, alloc, tag, buf, ctx),
-            _ => kept::keep(alloc, &mut self.rest, tag, buf, ctx),
+            4 => PackedField::<Float>::merge(&mut self.gusts, alloc, tag, buf, ctx),
+            5 => RepeatedField::<Double>::merge(&mut self.levels, alloc, tag, buf, ctx),
+            6 => MapField::<Int32, Double>::merge(&mut self.tides, alloc, tag, buf, ctx),
+            7 => MessageField::<Spot>::merge(&mut self.spot, alloc, tag, buf, ctx),
+            8 => RepeatedMessageField::<Spot>::merge(&mut self.nearby, alloc, tag, buf, ctx),
+            9 => ExplicitField::<Str>::merge(&mut self.note, alloc, tag, buf, ctx),
+            _ => unknown::keep(alloc, &mut self.unknown_fields, tag, buf, ctx),
         }
     }
 }
 
 impl Blank for Measure {
-    type Meaning = <Measure as Fields>::Meaning;
+    type Meaning = <Measure as MessageFields>::Meaning;
 
-    ghost meaning = { ⟦<Measure as Fields>⟧.layout.meaning };
+    ghost meaning = { ⟦<Measure as MessageFields>⟧.schema.meaning };
 
-    ghost blank_is = { ⟦<Measure as Fields>⟧.layout.blank };
+    ghost blank_is = { ⟦<Measure as MessageFields>⟧.schema.blank };
 
     fn blank(alloc: Global) -> Measure {
         Measure {
@@ -141,19 +142,19 @@ impl Blank for Measure {
             spot: None,
             nearby: Vec::new(alloc),
             note: None,
-            rest: UnknownFields::new(alloc),
+            unknown_fields: UnknownFields::new(alloc),
         }
     }
 }
 
-impl Listing for Measure {
+impl FieldsMeaning for Measure {
     ghost means = { λ m. refl };
 
     ghost starts = { refl };
 }
 
-impl Formed for Measure {
-    type Form = Listed;
+impl MessageImpl for Measure {
+    type Impl = FieldByField;
 }
 
 const _: () = prove!(size_of::<Measure>() <= Measure::COST);

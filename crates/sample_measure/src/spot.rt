@@ -2,12 +2,12 @@
 
 ghost use Rattle.std.proofs.Common.{lit<, refl};
 ghost use Rattle.std.specs.Prelude.{is_some, ◌&&◌};
-ghost use Rattle.buffa_fields.specs.Terms.{field, keep};
+ghost use Rattle.buffa_fields.specs.Terms.{field, keep_unknown};
 
 use buffa_fields::map_codec::Float;
 use buffa_fields::{
-    And4, Blank, DecodeContext, DecodeError, Fields, FloatBits, Formed, KeptFields, Listed,
-    Listing, Member, Optional, Required, Tag, UnknownFields, Visitor, kept,
+    And4, Blank, DecodeContext, DecodeError, ExplicitField, FieldByField, FieldsMeaning, FloatBits,
+    Member, MessageFields, MessageImpl, Required, Tag, UnknownFields, Unknowns, Visitor, unknown,
 };
 use std::alloc::Global;
 
@@ -26,11 +26,11 @@ pub struct Spot {
     pub longitude: Option<FloatBits>,
     pub height: Option<FloatBits>,
     /// The fields that aren't declared, in order.
-    pub rest: UnknownFields,
+    pub unknown_fields: UnknownFields,
 }
 
-impl Fields for Spot {
-    type Meaning = And4<Option<u32>, Option<u32>, Option<u32>, KeptFields>;
+impl MessageFields for Spot {
+    type Meaning = And4<Option<u32>, Option<u32>, Option<u32>, Unknowns>;
 
     const COST: usize = 72;
 
@@ -38,18 +38,18 @@ impl Fields for Spot {
 
     ghost positive = { lit< tt };
 
-    ghost layout = { field 1 (λ m. m.latitude) ⟦<Optional<Float> as Member>⟧.shape (
-        field 2 (λ m. m.longitude) ⟦<Optional<Float> as Member>⟧.shape (
-        field 3 (λ m. m.height) ⟦<Optional<Float> as Member>⟧.shape (
-        keep (λ m. m.rest.records)))) };
+    ghost schema = { field 1 (λ m. m.latitude) ⟦<ExplicitField<Float> as Member>⟧.shape (
+        field 2 (λ m. m.longitude) ⟦<ExplicitField<Float> as Member>⟧.shape (
+        field 3 (λ m. m.height) ⟦<ExplicitField<Float> as Member>⟧.shape (
+        keep_unknown (λ m. m.unknown_fields.records)))) };
 
     ghost sound = { refl };
 
     fn visit<V: Visitor>(&self, visitor: &mut V) {
-        visitor.visit::<Optional<Float>>(1, &self.latitude);
-        visitor.visit::<Optional<Float>>(2, &self.longitude);
-        visitor.visit::<Optional<Float>>(3, &self.height);
-        visitor.visit_kept(&self.rest);
+        visitor.visit::<ExplicitField<Float>>(1, &self.latitude);
+        visitor.visit::<ExplicitField<Float>>(2, &self.longitude);
+        visitor.visit::<ExplicitField<Float>>(3, &self.height);
+        visitor.visit_unknown_fields(&self.unknown_fields);
     }
 
     fn take(
@@ -60,39 +60,39 @@ impl Fields for Spot {
         ctx: DecodeContext<'_>,
     ) -> Result<(), DecodeError> {
         match tag.field_number() {
-            1 => Optional::<Float>::merge(&mut self.latitude, alloc, tag, buf, ctx),
-            2 => Optional::<Float>::merge(&mut self.longitude, alloc, tag, buf, ctx),
-            3 => Optional::<Float>::merge(&mut self.height, alloc, tag, buf, ctx),
-            _ => kept::keep(alloc, &mut self.rest, tag, buf, ctx),
+            1 => ExplicitField::<Float>::merge(&mut self.latitude, alloc, tag, buf, ctx),
+            2 => ExplicitField::<Float>::merge(&mut self.longitude, alloc, tag, buf, ctx),
+            3 => ExplicitField::<Float>::merge(&mut self.height, alloc, tag, buf, ctx),
+            _ => unknown::keep(alloc, &mut self.unknown_fields, tag, buf, ctx),
         }
     }
 }
 
 impl Blank for Spot {
-    type Meaning = <Spot as Fields>::Meaning;
+    type Meaning = <Spot as MessageFields>::Meaning;
 
-    ghost meaning = { ⟦<Spot as Fields>⟧.layout.meaning };
+    ghost meaning = { ⟦<Spot as MessageFields>⟧.schema.meaning };
 
-    ghost blank_is = { ⟦<Spot as Fields>⟧.layout.blank };
+    ghost blank_is = { ⟦<Spot as MessageFields>⟧.schema.blank };
 
     fn blank(alloc: Global) -> Spot {
         Spot {
             latitude: None,
             longitude: None,
             height: None,
-            rest: UnknownFields::new(alloc),
+            unknown_fields: UnknownFields::new(alloc),
         }
     }
 }
 
-impl Listing for Spot {
+impl FieldsMeaning for Spot {
     ghost means = { λ m. refl };
 
     ghost starts = { refl };
 }
 
-impl Formed for Spot {
-    type Form = Listed;
+impl MessageImpl for Spot {
+    type Impl = FieldByField;
 }
 
 const _: () = prove!(size_of::<Spot>() <= Spot::COST);

@@ -1,14 +1,14 @@
 //! buffa.sample.Explicit, made of members.proto by protoc-gen-buffa.
 
 ghost use Rattle.std.proofs.Common.{lit<, refl};
-ghost use Rattle.buffa_fields.specs.Terms.{field, keep};
+ghost use Rattle.buffa_fields.specs.Terms.{field, keep_unknown};
 
 use buffa_fields::map_codec::{
     Bool, Fixed32, Fixed64, Int32, Int64, Sfixed32, Sfixed64, Sint32, Sint64, Uint32, Uint64,
 };
 use buffa_fields::{
-    And12, Blank, DecodeContext, DecodeError, Fields, Formed, KeptFields, Listed, Listing, Member,
-    Optional, Tag, UnknownFields, Visitor, kept,
+    And12, Blank, DecodeContext, DecodeError, ExplicitField, FieldByField, FieldsMeaning, Member,
+    MessageFields, MessageImpl, Tag, UnknownFields, Unknowns, Visitor, unknown,
 };
 use std::alloc::Global;
 
@@ -41,10 +41,10 @@ pub struct Explicit {
     pub sfixed32: Option<i32>,
     pub sfixed64: Option<i64>,
     /// The fields that aren't declared, in order.
-    pub rest: UnknownFields,
+    pub unknown_fields: UnknownFields,
 }
 
-impl Fields for Explicit {
+impl MessageFields for Explicit {
     type Meaning = And12<
         Option<i32>,
         Option<i64>,
@@ -57,7 +57,7 @@ impl Fields for Explicit {
         Option<u64>,
         Option<i32>,
         Option<i64>,
-        KeptFields,
+        Unknowns,
     >;
 
     const COST: usize = 160;
@@ -66,34 +66,34 @@ impl Fields for Explicit {
 
     ghost positive = { lit< tt };
 
-    ghost layout = { field 1 (λ m. m.int32) ⟦<Optional<Int32> as Member>⟧.shape (
-        field 2 (λ m. m.int64) ⟦<Optional<Int64> as Member>⟧.shape (
-        field 3 (λ m. m.uint32) ⟦<Optional<Uint32> as Member>⟧.shape (
-        field 4 (λ m. m.uint64) ⟦<Optional<Uint64> as Member>⟧.shape (
-        field 5 (λ m. m.sint32) ⟦<Optional<Sint32> as Member>⟧.shape (
-        field 6 (λ m. m.sint64) ⟦<Optional<Sint64> as Member>⟧.shape (
-        field 7 (λ m. m.truth) ⟦<Optional<Bool> as Member>⟧.shape (
-        field 8 (λ m. m.fixed32) ⟦<Optional<Fixed32> as Member>⟧.shape (
-        field 15 (λ m. m.fixed64) ⟦<Optional<Fixed64> as Member>⟧.shape (
-        field 16 (λ m. m.sfixed32) ⟦<Optional<Sfixed32> as Member>⟧.shape (
-        field 536870911 (λ m. m.sfixed64) ⟦<Optional<Sfixed64> as Member>⟧.shape (
-        keep (λ m. m.rest.records)))))))))))) };
+    ghost schema = { field 1 (λ m. m.int32) ⟦<ExplicitField<Int32> as Member>⟧.shape (
+        field 2 (λ m. m.int64) ⟦<ExplicitField<Int64> as Member>⟧.shape (
+        field 3 (λ m. m.uint32) ⟦<ExplicitField<Uint32> as Member>⟧.shape (
+        field 4 (λ m. m.uint64) ⟦<ExplicitField<Uint64> as Member>⟧.shape (
+        field 5 (λ m. m.sint32) ⟦<ExplicitField<Sint32> as Member>⟧.shape (
+        field 6 (λ m. m.sint64) ⟦<ExplicitField<Sint64> as Member>⟧.shape (
+        field 7 (λ m. m.truth) ⟦<ExplicitField<Bool> as Member>⟧.shape (
+        field 8 (λ m. m.fixed32) ⟦<ExplicitField<Fixed32> as Member>⟧.shape (
+        field 15 (λ m. m.fixed64) ⟦<ExplicitField<Fixed64> as Member>⟧.shape (
+        field 16 (λ m. m.sfixed32) ⟦<ExplicitField<Sfixed32> as Member>⟧.shape (
+        field 536870911 (λ m. m.sfixed64) ⟦<ExplicitField<Sfixed64> as Member>⟧.shape (
+        keep_unknown (λ m. m.unknown_fields.records)))))))))))) };
 
     ghost sound = { refl };
 
     fn visit<V: Visitor>(&self, visitor: &mut V) {
-        visitor.visit::<Optional<Int32>>(1, &self.int32);
-        visitor.visit::<Optional<Int64>>(2, &self.int64);
-        visitor.visit::<Optional<Uint32>>(3, &self.uint32);
-        visitor.visit::<Optional<Uint64>>(4, &self.uint64);
-        visitor.visit::<Optional<Sint32>>(5, &self.sint32);
-        visitor.visit::<Optional<Sint64>>(6, &self.sint64);
-        visitor.visit::<Optional<Bool>>(7, &self.truth);
-        visitor.visit::<Optional<Fixed32>>(8, &self.fixed32);
-        visitor.visit::<Optional<Fixed64>>(15, &self.fixed64);
-        visitor.visit::<Optional<Sfixed32>>(16, &self.sfixed32);
-        visitor.visit::<Optional<Sfixed64>>(536870911, &self.sfixed64);
-        visitor.visit_kept(&self.rest);
+        visitor.visit::<ExplicitField<Int32>>(1, &self.int32);
+        visitor.visit::<ExplicitField<Int64>>(2, &self.int64);
+        visitor.visit::<ExplicitField<Uint32>>(3, &self.uint32);
+        visitor.visit::<ExplicitField<Uint64>>(4, &self.uint64);
+        visitor.visit::<ExplicitField<Sint32>>(5, &self.sint32);
+        visitor.visit::<ExplicitField<Sint64>>(6, &self.sint64);
+        visitor.visit::<ExplicitField<Bool>>(7, &self.truth);
+        visitor.visit::<ExplicitField<Fixed32>>(8, &self.fixed32);
+        visitor.visit::<ExplicitField<Fixed64>>(15, &self.fixed64);
+        visitor.visit::<ExplicitField<Sfixed32>>(16, &self.sfixed32);
+        visitor.visit::<ExplicitField<Sfixed64>>(536870911, &self.sfixed64);
+        visitor.visit_unknown_fields(&self.unknown_fields);
     }
 
     fn take(
@@ -104,28 +104,28 @@ impl Fields for Explicit {
         ctx: DecodeContext<'_>,
     ) -> Result<(), DecodeError> {
         match tag.field_number() {
-            1 => Optional::<Int32>::merge(&mut self.int32, alloc, tag, buf, ctx),
-            2 => Optional::<Int64>::merge(&mut self.int64, alloc, tag, buf, ctx),
-            3 => Optional::<Uint32>::merge(&mut self.uint32, alloc, tag, buf, ctx),
-            4 => Optional::<Uint64>::merge(&mut self.uint64, alloc, tag, buf, ctx),
-            5 => Optional::<Sint32>::merge(&mut self.sint32, alloc, tag, buf, ctx),
-            6 => Optional::<Sint64>::merge(&mut self.sint64, alloc, tag, buf, ctx),
-            7 => Optional::<Bool>::merge(&mut self.truth, alloc, tag, buf, ctx),
-            8 => Optional::<Fixed32>::merge(&mut self.fixed32, alloc, tag, buf, ctx),
-            15 => Optional::<Fixed64>::merge(&mut self.fixed64, alloc, tag, buf, ctx),
-            16 => Optional::<Sfixed32>::merge(&mut self.sfixed32, alloc, tag, buf, ctx),
-            536870911 => Optional::<Sfixed64>::merge(&mut self.sfixed64, alloc, tag, buf, ctx),
-            _ => kept::keep(alloc, &mut self.rest, tag, buf, ctx),
+            1 => ExplicitField::<Int32>::merge(&mut self.int32, alloc, tag, buf, ctx),
+            2 => ExplicitField::<Int64>::merge(&mut self.int64, alloc, tag, buf, ctx),
+            3 => ExplicitField::<Uint32>::merge(&mut self.uint32, alloc, tag, buf, ctx),
+            4 => ExplicitField::<Uint64>::merge(&mut self.uint64, alloc, tag, buf, ctx),
+            5 => ExplicitField::<Sint32>::merge(&mut self.sint32, alloc, tag, buf, ctx),
+            6 => ExplicitField::<Sint64>::merge(&mut self.sint64, alloc, tag, buf, ctx),
+            7 => ExplicitField::<Bool>::merge(&mut self.truth, alloc, tag, buf, ctx),
+            8 => ExplicitField::<Fixed32>::merge(&mut self.fixed32, alloc, tag, buf, ctx),
+            15 => ExplicitField::<Fixed64>::merge(&mut self.fixed64, alloc, tag, buf, ctx),
+            16 => ExplicitField::<Sfixed32>::merge(&mut self.sfixed32, alloc, tag, buf, ctx),
+            536870911 => ExplicitField::<Sfixed64>::merge(&mut self.sfixed64, alloc, tag, buf, ctx),
+            _ => unknown::keep(alloc, &mut self.unknown_fields, tag, buf, ctx),
         }
     }
 }
 
 impl Blank for Explicit {
-    type Meaning = <Explicit as Fields>::Meaning;
+    type Meaning = <Explicit as MessageFields>::Meaning;
 
-    ghost meaning = { ⟦<Explicit as Fields>⟧.layout.meaning };
+    ghost meaning = { ⟦<Explicit as MessageFields>⟧.schema.meaning };
 
-    ghost blank_is = { ⟦<Explicit as Fields>⟧.layout.blank };
+    ghost blank_is = { ⟦<Explicit as MessageFields>⟧.schema.blank };
 
     fn blank(alloc: Global) -> Explicit {
         Explicit {
@@ -140,19 +140,19 @@ impl Blank for Explicit {
             fixed64: None,
             sfixed32: None,
             sfixed64: None,
-            rest: UnknownFields::new(alloc),
+            unknown_fields: UnknownFields::new(alloc),
         }
     }
 }
 
-impl Listing for Explicit {
+impl FieldsMeaning for Explicit {
     ghost means = { λ m. refl };
 
     ghost starts = { refl };
 }
 
-impl Formed for Explicit {
-    type Form = Listed;
+impl MessageImpl for Explicit {
+    type Impl = FieldByField;
 }
 
 impl Explicit {

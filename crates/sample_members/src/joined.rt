@@ -1,14 +1,14 @@
 //! buffa.sample.Joined, made of members.proto by protoc-gen-buffa.
 
 ghost use Rattle.std.proofs.Common.{lit<, refl};
-ghost use Rattle.buffa_fields.specs.Terms.{field, keep};
+ghost use Rattle.buffa_fields.specs.Terms.{field, keep_unknown};
 
 use buffa_fields::map_codec::{
     Bool, Fixed32, Fixed64, Int32, Int64, Sfixed32, Sfixed64, Sint32, Sint64, Uint32, Uint64,
 };
 use buffa_fields::{
-    And12, Blank, DecodeContext, DecodeError, Fields, Formed, KeptFields, Listed, Listing, Member,
-    Packed, Tag, UnknownFields, Visitor, kept,
+    And12, Blank, DecodeContext, DecodeError, FieldByField, FieldsMeaning, Member, MessageFields,
+    MessageImpl, PackedField, Tag, UnknownFields, Unknowns, Visitor, unknown,
 };
 use std::alloc::Global;
 
@@ -41,10 +41,10 @@ pub struct Joined {
     pub sfixed32: Vec<i32>,
     pub sfixed64: Vec<i64>,
     /// The fields that aren't declared, in order.
-    pub rest: UnknownFields,
+    pub unknown_fields: UnknownFields,
 }
 
-impl Fields for Joined {
+impl MessageFields for Joined {
     type Meaning = And12<
         [i32; 0],
         [i64; 0],
@@ -57,7 +57,7 @@ impl Fields for Joined {
         [u64; 0],
         [i32; 0],
         [i64; 0],
-        KeptFields,
+        Unknowns,
     >;
 
     const COST: usize = 288;
@@ -66,34 +66,34 @@ impl Fields for Joined {
 
     ghost positive = { lit< tt };
 
-    ghost layout = { field 1 (λ m. m.int32) ⟦<Packed<Int32> as Member>⟧.shape (
-        field 2 (λ m. m.int64) ⟦<Packed<Int64> as Member>⟧.shape (
-        field 3 (λ m. m.uint32) ⟦<Packed<Uint32> as Member>⟧.shape (
-        field 4 (λ m. m.uint64) ⟦<Packed<Uint64> as Member>⟧.shape (
-        field 5 (λ m. m.sint32) ⟦<Packed<Sint32> as Member>⟧.shape (
-        field 6 (λ m. m.sint64) ⟦<Packed<Sint64> as Member>⟧.shape (
-        field 7 (λ m. m.truth) ⟦<Packed<Bool> as Member>⟧.shape (
-        field 15 (λ m. m.fixed32) ⟦<Packed<Fixed32> as Member>⟧.shape (
-        field 16 (λ m. m.fixed64) ⟦<Packed<Fixed64> as Member>⟧.shape (
-        field 2047 (λ m. m.sfixed32) ⟦<Packed<Sfixed32> as Member>⟧.shape (
-        field 2048 (λ m. m.sfixed64) ⟦<Packed<Sfixed64> as Member>⟧.shape (
-        keep (λ m. m.rest.records)))))))))))) };
+    ghost schema = { field 1 (λ m. m.int32) ⟦<PackedField<Int32> as Member>⟧.shape (
+        field 2 (λ m. m.int64) ⟦<PackedField<Int64> as Member>⟧.shape (
+        field 3 (λ m. m.uint32) ⟦<PackedField<Uint32> as Member>⟧.shape (
+        field 4 (λ m. m.uint64) ⟦<PackedField<Uint64> as Member>⟧.shape (
+        field 5 (λ m. m.sint32) ⟦<PackedField<Sint32> as Member>⟧.shape (
+        field 6 (λ m. m.sint64) ⟦<PackedField<Sint64> as Member>⟧.shape (
+        field 7 (λ m. m.truth) ⟦<PackedField<Bool> as Member>⟧.shape (
+        field 15 (λ m. m.fixed32) ⟦<PackedField<Fixed32> as Member>⟧.shape (
+        field 16 (λ m. m.fixed64) ⟦<PackedField<Fixed64> as Member>⟧.shape (
+        field 2047 (λ m. m.sfixed32) ⟦<PackedField<Sfixed32> as Member>⟧.shape (
+        field 2048 (λ m. m.sfixed64) ⟦<PackedField<Sfixed64> as Member>⟧.shape (
+        keep_unknown (λ m. m.unknown_fields.records)))))))))))) };
 
     ghost sound = { refl };
 
     fn visit<V: Visitor>(&self, visitor: &mut V) {
-        visitor.visit::<Packed<Int32>>(1, &self.int32);
-        visitor.visit::<Packed<Int64>>(2, &self.int64);
-        visitor.visit::<Packed<Uint32>>(3, &self.uint32);
-        visitor.visit::<Packed<Uint64>>(4, &self.uint64);
-        visitor.visit::<Packed<Sint32>>(5, &self.sint32);
-        visitor.visit::<Packed<Sint64>>(6, &self.sint64);
-        visitor.visit::<Packed<Bool>>(7, &self.truth);
-        visitor.visit::<Packed<Fixed32>>(15, &self.fixed32);
-        visitor.visit::<Packed<Fixed64>>(16, &self.fixed64);
-        visitor.visit::<Packed<Sfixed32>>(2047, &self.sfixed32);
-        visitor.visit::<Packed<Sfixed64>>(2048, &self.sfixed64);
-        visitor.visit_kept(&self.rest);
+        visitor.visit::<PackedField<Int32>>(1, &self.int32);
+        visitor.visit::<PackedField<Int64>>(2, &self.int64);
+        visitor.visit::<PackedField<Uint32>>(3, &self.uint32);
+        visitor.visit::<PackedField<Uint64>>(4, &self.uint64);
+        visitor.visit::<PackedField<Sint32>>(5, &self.sint32);
+        visitor.visit::<PackedField<Sint64>>(6, &self.sint64);
+        visitor.visit::<PackedField<Bool>>(7, &self.truth);
+        visitor.visit::<PackedField<Fixed32>>(15, &self.fixed32);
+        visitor.visit::<PackedField<Fixed64>>(16, &self.fixed64);
+        visitor.visit::<PackedField<Sfixed32>>(2047, &self.sfixed32);
+        visitor.visit::<PackedField<Sfixed64>>(2048, &self.sfixed64);
+        visitor.visit_unknown_fields(&self.unknown_fields);
     }
 
     fn take(
@@ -104,28 +104,28 @@ impl Fields for Joined {
         ctx: DecodeContext<'_>,
     ) -> Result<(), DecodeError> {
         match tag.field_number() {
-            1 => Packed::<Int32>::merge(&mut self.int32, alloc, tag, buf, ctx),
-            2 => Packed::<Int64>::merge(&mut self.int64, alloc, tag, buf, ctx),
-            3 => Packed::<Uint32>::merge(&mut self.uint32, alloc, tag, buf, ctx),
-            4 => Packed::<Uint64>::merge(&mut self.uint64, alloc, tag, buf, ctx),
-            5 => Packed::<Sint32>::merge(&mut self.sint32, alloc, tag, buf, ctx),
-            6 => Packed::<Sint64>::merge(&mut self.sint64, alloc, tag, buf, ctx),
-            7 => Packed::<Bool>::merge(&mut self.truth, alloc, tag, buf, ctx),
-            15 => Packed::<Fixed32>::merge(&mut self.fixed32, alloc, tag, buf, ctx),
-            16 => Packed::<Fixed64>::merge(&mut self.fixed64, alloc, tag, buf, ctx),
-            2047 => Packed::<Sfixed32>::merge(&mut self.sfixed32, alloc, tag, buf, ctx),
-            2048 => Packed::<Sfixed64>::merge(&mut self.sfixed64, alloc, tag, buf, ctx),
-            _ => kept::keep(alloc, &mut self.rest, tag, buf, ctx),
+            1 => PackedField::<Int32>::merge(&mut self.int32, alloc, tag, buf, ctx),
+            2 => PackedField::<Int64>::merge(&mut self.int64, alloc, tag, buf, ctx),
+            3 => PackedField::<Uint32>::merge(&mut self.uint32, alloc, tag, buf, ctx),
+            4 => PackedField::<Uint64>::merge(&mut self.uint64, alloc, tag, buf, ctx),
+            5 => PackedField::<Sint32>::merge(&mut self.sint32, alloc, tag, buf, ctx),
+            6 => PackedField::<Sint64>::merge(&mut self.sint64, alloc, tag, buf, ctx),
+            7 => PackedField::<Bool>::merge(&mut self.truth, alloc, tag, buf, ctx),
+            15 => PackedField::<Fixed32>::merge(&mut self.fixed32, alloc, tag, buf, ctx),
+            16 => PackedField::<Fixed64>::merge(&mut self.fixed64, alloc, tag, buf, ctx),
+            2047 => PackedField::<Sfixed32>::merge(&mut self.sfixed32, alloc, tag, buf, ctx),
+            2048 => PackedField::<Sfixed64>::merge(&mut self.sfixed64, alloc, tag, buf, ctx),
+            _ => unknown::keep(alloc, &mut self.unknown_fields, tag, buf, ctx),
         }
     }
 }
 
 impl Blank for Joined {
-    type Meaning = <Joined as Fields>::Meaning;
+    type Meaning = <Joined as MessageFields>::Meaning;
 
-    ghost meaning = { ⟦<Joined as Fields>⟧.layout.meaning };
+    ghost meaning = { ⟦<Joined as MessageFields>⟧.schema.meaning };
 
-    ghost blank_is = { ⟦<Joined as Fields>⟧.layout.blank };
+    ghost blank_is = { ⟦<Joined as MessageFields>⟧.schema.blank };
 
     fn blank(alloc: Global) -> Joined {
         Joined {
@@ -140,19 +140,19 @@ impl Blank for Joined {
             fixed64: Vec::new(alloc),
             sfixed32: Vec::new(alloc),
             sfixed64: Vec::new(alloc),
-            rest: UnknownFields::new(alloc),
+            unknown_fields: UnknownFields::new(alloc),
         }
     }
 }
 
-impl Listing for Joined {
+impl FieldsMeaning for Joined {
     ghost means = { λ m. refl };
 
     ghost starts = { refl };
 }
 
-impl Formed for Joined {
-    type Form = Listed;
+impl MessageImpl for Joined {
+    type Impl = FieldByField;
 }
 
 const _: () = prove!(size_of::<Joined>() <= Joined::COST);

@@ -1,14 +1,14 @@
 //! buffa.sample.Separate, made of members.proto by protoc-gen-buffa.
 
 ghost use Rattle.std.proofs.Common.{lit<, refl};
-ghost use Rattle.buffa_fields.specs.Terms.{field, skip};
+ghost use Rattle.buffa_fields.specs.Terms.{field, skip_unknown};
 
 use buffa_fields::map_codec::{
     Bool, Fixed32, Fixed64, Int32, Int64, Sfixed32, Sfixed64, Sint32, Sint64, Uint32, Uint64,
 };
 use buffa_fields::{
-    And12, Blank, DecodeContext, DecodeError, Fields, Formed, Listed, Listing, Member, Repeated,
-    Tag, Visitor, kept,
+    And12, Blank, DecodeContext, DecodeError, FieldByField, FieldsMeaning, Member, MessageFields,
+    MessageImpl, RepeatedField, Tag, Visitor, unknown,
 };
 use std::alloc::Global;
 
@@ -44,7 +44,7 @@ pub struct Separate {
     pub sfixed64: Vec<i64>,
 }
 
-impl Fields for Separate {
+impl MessageFields for Separate {
     type Meaning = And12<
         [i32; 0],
         [i64; 0],
@@ -66,33 +66,33 @@ impl Fields for Separate {
 
     ghost positive = { lit< tt };
 
-    ghost layout = { field 1 (λ m. m.int32) ⟦<Repeated<Int32> as Member>⟧.shape (
-        field 2 (λ m. m.int64) ⟦<Repeated<Int64> as Member>⟧.shape (
-        field 3 (λ m. m.uint32) ⟦<Repeated<Uint32> as Member>⟧.shape (
-        field 4 (λ m. m.uint64) ⟦<Repeated<Uint64> as Member>⟧.shape (
-        field 5 (λ m. m.sint32) ⟦<Repeated<Sint32> as Member>⟧.shape (
-        field 6 (λ m. m.sint64) ⟦<Repeated<Sint64> as Member>⟧.shape (
-        field 7 (λ m. m.truth) ⟦<Repeated<Bool> as Member>⟧.shape (
-        field 8 (λ m. m.fixed32) ⟦<Repeated<Fixed32> as Member>⟧.shape (
-        field 9 (λ m. m.fixed64) ⟦<Repeated<Fixed64> as Member>⟧.shape (
-        field 10 (λ m. m.sfixed32) ⟦<Repeated<Sfixed32> as Member>⟧.shape (
-        field 11 (λ m. m.sfixed64) ⟦<Repeated<Sfixed64> as Member>⟧.shape (
-        skip))))))))))) };
+    ghost schema = { field 1 (λ m. m.int32) ⟦<RepeatedField<Int32> as Member>⟧.shape (
+        field 2 (λ m. m.int64) ⟦<RepeatedField<Int64> as Member>⟧.shape (
+        field 3 (λ m. m.uint32) ⟦<RepeatedField<Uint32> as Member>⟧.shape (
+        field 4 (λ m. m.uint64) ⟦<RepeatedField<Uint64> as Member>⟧.shape (
+        field 5 (λ m. m.sint32) ⟦<RepeatedField<Sint32> as Member>⟧.shape (
+        field 6 (λ m. m.sint64) ⟦<RepeatedField<Sint64> as Member>⟧.shape (
+        field 7 (λ m. m.truth) ⟦<RepeatedField<Bool> as Member>⟧.shape (
+        field 8 (λ m. m.fixed32) ⟦<RepeatedField<Fixed32> as Member>⟧.shape (
+        field 9 (λ m. m.fixed64) ⟦<RepeatedField<Fixed64> as Member>⟧.shape (
+        field 10 (λ m. m.sfixed32) ⟦<RepeatedField<Sfixed32> as Member>⟧.shape (
+        field 11 (λ m. m.sfixed64) ⟦<RepeatedField<Sfixed64> as Member>⟧.shape (
+        skip_unknown))))))))))) };
 
     ghost sound = { refl };
 
     fn visit<V: Visitor>(&self, visitor: &mut V) {
-        visitor.visit::<Repeated<Int32>>(1, &self.int32);
-        visitor.visit::<Repeated<Int64>>(2, &self.int64);
-        visitor.visit::<Repeated<Uint32>>(3, &self.uint32);
-        visitor.visit::<Repeated<Uint64>>(4, &self.uint64);
-        visitor.visit::<Repeated<Sint32>>(5, &self.sint32);
-        visitor.visit::<Repeated<Sint64>>(6, &self.sint64);
-        visitor.visit::<Repeated<Bool>>(7, &self.truth);
-        visitor.visit::<Repeated<Fixed32>>(8, &self.fixed32);
-        visitor.visit::<Repeated<Fixed64>>(9, &self.fixed64);
-        visitor.visit::<Repeated<Sfixed32>>(10, &self.sfixed32);
-        visitor.visit::<Repeated<Sfixed64>>(11, &self.sfixed64);
+        visitor.visit::<RepeatedField<Int32>>(1, &self.int32);
+        visitor.visit::<RepeatedField<Int64>>(2, &self.int64);
+        visitor.visit::<RepeatedField<Uint32>>(3, &self.uint32);
+        visitor.visit::<RepeatedField<Uint64>>(4, &self.uint64);
+        visitor.visit::<RepeatedField<Sint32>>(5, &self.sint32);
+        visitor.visit::<RepeatedField<Sint64>>(6, &self.sint64);
+        visitor.visit::<RepeatedField<Bool>>(7, &self.truth);
+        visitor.visit::<RepeatedField<Fixed32>>(8, &self.fixed32);
+        visitor.visit::<RepeatedField<Fixed64>>(9, &self.fixed64);
+        visitor.visit::<RepeatedField<Sfixed32>>(10, &self.sfixed32);
+        visitor.visit::<RepeatedField<Sfixed64>>(11, &self.sfixed64);
     }
 
     fn take(
@@ -103,28 +103,28 @@ impl Fields for Separate {
         ctx: DecodeContext<'_>,
     ) -> Result<(), DecodeError> {
         match tag.field_number() {
-            1 => Repeated::<Int32>::merge(&mut self.int32, alloc, tag, buf, ctx),
-            2 => Repeated::<Int64>::merge(&mut self.int64, alloc, tag, buf, ctx),
-            3 => Repeated::<Uint32>::merge(&mut self.uint32, alloc, tag, buf, ctx),
-            4 => Repeated::<Uint64>::merge(&mut self.uint64, alloc, tag, buf, ctx),
-            5 => Repeated::<Sint32>::merge(&mut self.sint32, alloc, tag, buf, ctx),
-            6 => Repeated::<Sint64>::merge(&mut self.sint64, alloc, tag, buf, ctx),
-            7 => Repeated::<Bool>::merge(&mut self.truth, alloc, tag, buf, ctx),
-            8 => Repeated::<Fixed32>::merge(&mut self.fixed32, alloc, tag, buf, ctx),
-            9 => Repeated::<Fixed64>::merge(&mut self.fixed64, alloc, tag, buf, ctx),
-            10 => Repeated::<Sfixed32>::merge(&mut self.sfixed32, alloc, tag, buf, ctx),
-            11 => Repeated::<Sfixed64>::merge(&mut self.sfixed64, alloc, tag, buf, ctx),
-            _ => kept::pass(tag, buf, ctx),
+            1 => RepeatedField::<Int32>::merge(&mut self.int32, alloc, tag, buf, ctx),
+            2 => RepeatedField::<Int64>::merge(&mut self.int64, alloc, tag, buf, ctx),
+            3 => RepeatedField::<Uint32>::merge(&mut self.uint32, alloc, tag, buf, ctx),
+            4 => RepeatedField::<Uint64>::merge(&mut self.uint64, alloc, tag, buf, ctx),
+            5 => RepeatedField::<Sint32>::merge(&mut self.sint32, alloc, tag, buf, ctx),
+            6 => RepeatedField::<Sint64>::merge(&mut self.sint64, alloc, tag, buf, ctx),
+            7 => RepeatedField::<Bool>::merge(&mut self.truth, alloc, tag, buf, ctx),
+            8 => RepeatedField::<Fixed32>::merge(&mut self.fixed32, alloc, tag, buf, ctx),
+            9 => RepeatedField::<Fixed64>::merge(&mut self.fixed64, alloc, tag, buf, ctx),
+            10 => RepeatedField::<Sfixed32>::merge(&mut self.sfixed32, alloc, tag, buf, ctx),
+            11 => RepeatedField::<Sfixed64>::merge(&mut self.sfixed64, alloc, tag, buf, ctx),
+            _ => unknown::pass(tag, buf, ctx),
         }
     }
 }
 
 impl Blank for Separate {
-    type Meaning = <Separate as Fields>::Meaning;
+    type Meaning = <Separate as MessageFields>::Meaning;
 
-    ghost meaning = { ⟦<Separate as Fields>⟧.layout.meaning };
+    ghost meaning = { ⟦<Separate as MessageFields>⟧.schema.meaning };
 
-    ghost blank_is = { ⟦<Separate as Fields>⟧.layout.blank };
+    ghost blank_is = { ⟦<Separate as MessageFields>⟧.schema.blank };
 
     fn blank(alloc: Global) -> Separate {
         Separate {
@@ -143,14 +143,14 @@ impl Blank for Separate {
     }
 }
 
-impl Listing for Separate {
+impl FieldsMeaning for Separate {
     ghost means = { λ m. refl };
 
     ghost starts = { refl };
 }
 
-impl Formed for Separate {
-    type Form = Listed;
+impl MessageImpl for Separate {
+    type Impl = FieldByField;
 }
 
 const _: () = prove!(size_of::<Separate>() <= Separate::COST);

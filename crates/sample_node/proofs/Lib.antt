@@ -1,6 +1,6 @@
 -- The lemmas that this crate hands out.
 mod NodeHeldLemmas
-mod NodeLaidLemmas
+mod NodeSchemaLemmas
 mod NodeReadLemmas
 mod NodeWrittenLemmas
 mod NodeBackLemmas

@@ -5,7 +5,7 @@ use Rattle.std.specs.Option.{option_map}
 use Rattle.buffa_bytes.specs.declared.wire_type.WireType.{WireType}
 use Rattle.buffa_bytes.specs.declared.wire_type.WireType.TheVariants.{EndGroup}
 use Rattle.buffa_bytes.specs.Field.{IsTag}
-use Rattle.buffa_bytes.specs.Front.{tag_at}
+use Rattle.buffa_bytes.specs.Readings.{tag_at}
 use Rattle.buffa_bytes.specs.declared.error.DecodeError.{DecodeError}
 use Rattle.buffa_bytes.specs.declared.error.DecodeError.TheVariants.{OutOfMemory}
 use Rattle.buffa_map.proofs.LowLemmas.{first_taken}
@@ -13,14 +13,14 @@ use Rattle.buffa_wire.proofs.JoinLemmas.{join_records, payload_of_record}
 use Rattle.buffa_wire.proofs.TakesLemmas.{merged_of_fields, merged_of_none}
 use Rattle.buffa_wire.specs.Encoding.{wire_of}
 use Rattle.buffa_wire.specs.BudgetLeft.{BudgetLeft}
-use Rattle.buffa_wire.specs.Message.{IsJudged, MergeFault, Stands}
+use Rattle.buffa_wire.specs.Message.{IsJudged, MergeFault, PartlyMerged}
 use Rattle.buffa_wire.specs.Parse.{Parse}
 use Rattle.buffa_wire.specs.Records.{Records, no_records, one}
 use Rattle.buffa_wire.specs.Takes.{Taker, merged_of}
-use Rattle.buffa_fields.specs.Keep.{keep_takes}
+use Rattle.buffa_fields.specs.UndeclaredFields.{keep_takes}
 use Rattle.buffa_recursive.specs.MapTree.{child_pairs, keys_in, values_in}
 use Rattle.buffa_recursive.specs.RefusedFields.{IsSelfRefused}
-use Rattle.sample_node.proofs.NodeLaidLemmas.{members, members_sound}
+use Rattle.sample_node.proofs.NodeSchemaLemmas.{members, members_sound}
 use Rattle.sample_node.proofs.NodeRefusedLemmas.{node_refused, refused_node}
 use Rattle.sample_node.specs.Branch.{Branch, IsNode, NodeKept, Shades, blank_node, branch}
 use Rattle.sample_node.specs.NodeMeaning.{LevelMeaning, children_take, node_cost, node_field_takes, node_merged, scores_take, shades_take}
@@ -67,15 +67,15 @@ pub blank_is_node : IsNode blank_node
 blank_is_node = ([], [], [], [], refl)
 
 -- ---- a refused merge
-module _ (d : ℕ) (v u : Branch) (bs : List ℕ) (before : BudgetLeft) (e : DecodeError) (old : IsNode v) (new : IsNode u) (h : Stands node_merged node_cost (IsSelfRefused 96 members members_sound) d v bs before e u) where
+module _ (d : ℕ) (v u : Branch) (bs : List ℕ) (before : BudgetLeft) (e : DecodeError) (old : IsNode v) (new : IsNode u) (h : PartlyMerged node_merged node_cost (IsSelfRefused 96 members members_sound) d v bs before e u) where
   mid_is : IsNode h.mid
   mid_is = merged_is_node d v h.mid h.front old h.means
 
   abbrev LeavesNode : Type 0
-  LeavesNode = (front : List ℕ) × (rest : List ℕ) × (bs ≡ front ++ rest) × (node_merged d v front ≡ Some u) × Stands node_merged node_cost IsNodeRefused d v bs before e u
+  LeavesNode = (front : List ℕ) × (rest : List ℕ) × (bs ≡ front ++ rest) × (node_merged d v front ≡ Some u) × PartlyMerged node_merged node_cost IsNodeRefused d v bs before e u
 
-  pub node_stands : LeavesNode
-  node_stands = at h.next
+  pub node_is_partly_merged : LeavesNode
+  node_is_partly_merged = at h.next
     where
       at :
           ((tag_at h.rest ≡ Err e) × (u ≡ h.mid))
@@ -89,11 +89,11 @@ module _ (d : ℕ) (v u : Branch) (bs : List ℕ) (before : BudgetLeft) (e : Dec
         record { front = h.front; rest = h.rest; split = h.split; some = h.some; mid = h.mid; means = h.means; left = h.left; pays = h.pays; next = inl (tag, same) },
       )
       at (inr (n, w, more, tag, refused, full, judged)) =
-          let told = node_refused d h.mid n w more h.left e u mid_is refused in (
+          let semantics = node_refused d h.mid n w more h.left e u mid_is refused in (
             h.front,
             h.rest,
             h.split,
-            h.means ∙ (λ i. Some (sym (told.1 new) i)),
+            h.means ∙ (λ i. Some (sym (semantics.1 new) i)),
             record {
               front = h.front;
               rest = h.rest;

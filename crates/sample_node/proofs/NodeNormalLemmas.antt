@@ -18,8 +18,8 @@ use Rattle.buffa_bytes.proofs.ListLemmas.{AllByRecursion-last}
 use Rattle.buffa_bytes.proofs.DelimitedLemmas.{delimited_taken}
 use Rattle.buffa_bytes.proofs.ScalarLemmas.{int32_fits}
 use Rattle.buffa_bytes.proofs.StepLemmas.{agree_ok}
-use Rattle.buffa_bytes.specs.Content.{Content, HasContent, bytes as content, bytes_in, number, number_in}
-use Rattle.buffa_bytes.specs.Front.{delimited_at, ◌>>=◌}
+use Rattle.buffa_bytes.specs.PayloadValue.{PayloadValue, HasPayloadValue, bytes as content, bytes_in, number, number_in}
+use Rattle.buffa_bytes.specs.Readings.{delimited_at, ◌>>=◌}
 use Rattle.buffa_bytes.specs.Number.{IsNumber}
 use Rattle.buffa_bytes.specs.Values.{int32_of}
 use Rattle.buffa_bytes.specs.Varint.{IsByte}
@@ -32,7 +32,7 @@ use Rattle.buffa_wire.specs.BudgetLeft.{nothing}
 use Rattle.buffa_wire.specs.Encoding.{wire_of}
 use Rattle.buffa_wire.specs.Message.{merged_in}
 use Rattle.buffa_wire.specs.Parse.{IsPayload}
-use Rattle.buffa_wire.specs.Records.{Datum, bytes, fixed32, fixed64, group, varint}
+use Rattle.buffa_wire.specs.Records.{FieldData, bytes, fixed32, fixed64, group, varint}
 use Rattle.buffa_bytes.specs.Scan.{ParsesEach, join}
 use Rattle.buffa_map.proofs.EntryLemmas.{entry_sound}
 use Rattle.buffa_map.proofs.StayLemmas.{all_keep}
@@ -42,17 +42,17 @@ use Rattle.buffa_map.specs.Encoding.{AllHold}
 use Rattle.buffa_map.specs.Entry.{IsEntry, IsEntryField}
 use Rattle.buffa_map.specs.EntryReading.{blanks, entry_of}
 use Rattle.buffa_map.specs.Enums.{ClosedFits}
-use Rattle.buffa_map.specs.Message.{meant}
+use Rattle.buffa_map.specs.Message.{merged_value}
 use Rattle.buffa_map.specs.Run.{undeclared_record}
 use Rattle.buffa_map.specs.Scalars.{IsText, int32_reading, text_reading}
 use Rattle.buffa_map.specs.declared.map_entry.MapEntry.{MapEntry}
 use Rattle.buffa_fields.specs.Entries.{entry_taken}
-use Rattle.buffa_fields.specs.facts.EntryDepthFacts.{undeclared_aside}
-use Rattle.buffa_fields.specs.Keep.{keep_takes}
-use Rattle.buffa_fields.specs.facts.KeepFacts.{kept_record}
-use Rattle.buffa_fields.specs.KeptMaps.{put_or_keep}
+use Rattle.buffa_fields.specs.facts.EntryDepthFacts.{undeclared_among_unknowns}
+use Rattle.buffa_fields.specs.UndeclaredFields.{keep_takes}
+use Rattle.buffa_fields.specs.facts.UndeclaredFieldFacts.{kept_record}
+use Rattle.buffa_fields.specs.ClosedEnumMaps.{put_or_keep}
 use Rattle.buffa_fields.specs.MapFields.{stepped}
-use Rattle.buffa_recursive.specs.MessageTree.{KnotList}
+use Rattle.buffa_recursive.specs.MessageTree.{TreeList}
 use Rattle.buffa_recursive.specs.MapTree.{child_pairs, keys_in, values_in}
 use Rattle.sample_node.proofs.NodeBackLemmas.{are_paired, keys_paired, keys_same}
 use Rattle.sample_node.specs.Branch.{Branch, NodeKept, NodeOwn, Scores, Shades, blank_node, branch, shade_numbers}
@@ -61,8 +61,8 @@ use Rattle.sample_node.specs.NodeMeaning.{LevelMeaning, children_take, node_fiel
 
 -- ---- what an entry says
 module _ {K V : Type 0} (key : Reading K) (val : Reading V) (d : ℕ) (Q : MapEntry K V → Type 0)
-    (on_key : (s : MapEntry K V) (k : K) (known : Bool) (p : List ℕ) (c : Content) → AreBytes p → HasContent key.wire p c → key.reads d s.key c ≡ Ok (k, known) → Q s → Q (record s { key = k }))
-    (on_value : (s : MapEntry K V) (v : V) (known : Bool) (p : List ℕ) (c : Content) → AreBytes p → HasContent val.wire p c → val.reads d s.value c ≡ Ok (v, known) → Q s → Q (record s { value = v; known = known })) where
+    (on_key : (s : MapEntry K V) (k : K) (known : Bool) (p : List ℕ) (c : PayloadValue) → AreBytes p → HasPayloadValue key.wire p c → key.reads d s.key c ≡ Ok (k, known) → Q s → Q (record s { key = k }))
+    (on_value : (s : MapEntry K V) (v : V) (known : Bool) (p : List ℕ) (c : PayloadValue) → AreBytes p → HasPayloadValue val.wire p c → val.reads d s.value c ≡ Ok (v, known) → Q s → Q (record s { value = v; known = known })) where
   part_is : (s t : MapEntry K V) (f : List ℕ) → AreBytes f → IsEntryField key val d s f t → Q s → Q t
   part_is s t f b (inl (k, known, (tag, p, c, is_tag, l, has, reads, split), is)) h = subst (λ z. Q z) (sym is) (on_key s k known p c (all_behind IsByte tag p (as_bytes f (tag ++ p) split b)) has reads h)
   part_is s t f b (inr (inl (v, known, (tag, p, c, is_tag, l, has, reads, split), is))) h = subst (λ z. Q z) (sym is) (on_value s v known p c (all_behind IsByte tag p (as_bytes f (tag ++ p) split b)) has reads h)
@@ -93,7 +93,7 @@ module _ {K V X : Type 0} (key : Reading K) (val : Reading V) (does : X → List
           let none : entry_taken key val does d v n LengthDelimited p ≡ None = rw (alone, k) refl in
           let bad = sym none ∙ taken in cc
 
-  taken_entry : (x : Datum) (p : List ℕ) → AreBytes p → IsPayload d n x p → entry_taken key val does d v n (wire_of x) p ≡ Some u →
+  taken_entry : (x : FieldData) (p : List ℕ) → AreBytes p → IsPayload d n x p → entry_taken key val does d v n (wire_of x) p ≡ Some u →
       (e : List ℕ) × (s : MapEntry K V) × AreBytes e × IsEntry key val d e s × (u ≡ does v e s)
   unfolding entry_taken
   taken_entry (varint y) p b h taken = cc
@@ -134,7 +134,7 @@ put_normal (e ∷ es) k t a f n = by (int_cmp k e.0) (put_normal es k t a.2 f n)
 abbrev IsScore : MapEntry (List ℕ) ℤ → Type 0
 IsScore s = IsText s.key × FitsSigned w32 s.value
 
-text_is : (p : List ℕ) (c : Content) (k : List ℕ) (known : Bool) → HasContent LengthDelimited p c → (b : Bool) → is_utf8 (bytes_in c) ≡ b →
+text_is : (p : List ℕ) (c : PayloadValue) (k : List ℕ) (known : Bool) → HasPayloadValue LengthDelimited p c → (b : Bool) → is_utf8 (bytes_in c) ≡ b →
     ((let r : Result (List ℕ) DecodeError = if b then Ok (bytes_in c) else Err InvalidUtf8 in r) >>= (λ v. let x : List ℕ × Bool = (v, true) in Ok x)) ≡ Ok (k, known) → IsText k
 text_is p (number n) k known has b is reads = absurd has
 text_is p (content v) k known has true is reads =
@@ -174,26 +174,26 @@ module _ (m : LevelMeaning) (stays : KeepsNormal m) (d : ℕ) where
   abbrev IsChildEntry : MapEntry ℤ Branch → Type 0
   IsChildEntry s = FitsSigned w32 s.key × IsNormalNode s.value
 
-  meant_normal : (c : ℕ) (old v : Branch) (bs : List ℕ) (known : Bool) → AreBytes bs → IsNormalNode old → meant (merged_in (λ _. m) c old bs) ≡ Ok (v, known) → IsNormalNode v
-  meant_normal zero old v bs known b n h = cc
-  meant_normal (suc c) old v bs known b n h = by (m old bs) refl h
+  normal_by_meaning : (c : ℕ) (old v : Branch) (bs : List ℕ) (known : Bool) → AreBytes bs → IsNormalNode old → merged_value (merged_in (λ _. m) c old bs) ≡ Ok (v, known) → IsNormalNode v
+  normal_by_meaning zero old v bs known b n h = cc
+  normal_by_meaning (suc c) old v bs known b n h = by (m old bs) refl h
     where
-      by : (o : Option Branch) → m old bs ≡ o → meant o ≡ Ok (v, known) → IsNormalNode v
+      by : (o : Option Branch) → m old bs ≡ o → merged_value o ≡ Ok (v, known) → IsNormalNode v
       by None is h = cc
       by (Some x) is h = let e : x ≡ v = ap (λ z. z.0) (ok_same h) in subst (λ z. IsNormalNode z) e (stays old x bs b n is)
 
-  content_bytes : (p : List ℕ) (c : Content) → AreBytes p → HasContent LengthDelimited p c → AreBytes (bytes_in c)
-  content_bytes p (number n) b has = tt
-  content_bytes p (content v) b (t, var, is) = all_behind IsByte t v (as_bytes p (t ++ v) is b)
+  payload_value_bytes : (p : List ℕ) (c : PayloadValue) → AreBytes p → HasPayloadValue LengthDelimited p c → AreBytes (bytes_in c)
+  payload_value_bytes p (number n) b has = tt
+  payload_value_bytes p (content v) b (t, var, is) = all_behind IsByte t v (as_bytes p (t ++ v) is b)
 
   child_is : (e : List ℕ) (s : MapEntry ℤ Branch) → AreBytes e → IsEntry int32_reading (node_reading m (λ _. nothing)) d e s → IsChildEntry s
   child_is e s b h = entry_is int32_reading (node_reading m (λ _. nothing)) d IsChildEntry
       (λ s k known p c b has reads h. let e : int32_of (number_in c) ≡ k = ap (λ z. z.0) (ok_same reads) in (subst (λ z. FitsSigned w32 z) e (int32_fits (number_in c)), h.1))
-      (λ s v known p c b has reads h. (h.0, meant_normal d s.value v (bytes_in c) known (content_bytes p c b has) h.1 reads))
+      (λ s v known p c b has reads h. (h.0, normal_by_meaning d s.value v (bytes_in c) known (payload_value_bytes p c b has) h.1 reads))
       e s b (int32_fits 0, blank_is_normal) h
 
   -- ---- a field
-  module _ (a : Scores) (ks : List ℤ) (cs : KnotList NodeOwn) (h : Shades) (r : NodeKept) (normal : IsNormalNode (branch a ks cs h r)) where
+  module _ (a : Scores) (ks : List ℤ) (cs : TreeList NodeOwn) (h : Shades) (r : NodeKept) (normal : IsNormalNode (branch a ks cs h r)) where
     with_score : (s : MapEntry (List ℕ) ℤ) → IsScore s → (known : Bool) → IsNormalNode (branch (cond known (insert_entry text_cmp a s.key s.value) a) ks cs h r)
     with_score s is true = (((insert_holds text_cmp IsText (FitsSigned w32) a s.key s.value normal.0.0.0 is.0 is.1, sorted_put nat_list_cmp_total a s.key s.value normal.0.0.1), normal.0.1, normal.0.2), normal.1, normal.2)
     with_score s is false = normal
@@ -202,7 +202,7 @@ module _ (m : LevelMeaning) (stays : KeepsNormal m) (d : ℕ) where
     with_child s is known =
         let paired = are_paired ks cs normal.2 in
         let es = child_pairs ks cs in
-        let inside : AreNormalPairs es = subst (λ (x : List ℤ × KnotList NodeOwn). AreNormalNodes x.0 x.1) (sym paired) normal.2 in
+        let inside : AreNormalPairs es = subst (λ (x : List ℤ × TreeList NodeOwn). AreNormalNodes x.0 x.1) (sym paired) normal.2 in
         let ascend : IsStrictlySortedBy int_cmp (keys_of es) = subst (IsStrictlySortedBy int_cmp) (sym (keys_paired ks cs paired)) normal.1 in
         by known inside ascend
       where
@@ -223,10 +223,10 @@ module _ (m : LevelMeaning) (stays : KeepsNormal m) (d : ℕ) where
       normal.2,
     )
     with_shade n three e s entry key false is fits =
-        let aside = undeclared_aside int32_reading shade_reading (refl, λ k d old c. refl) (refl, λ k d old c. refl) d e (s, entry, is) in
-        ((normal.0.0, normal.0.1, AllByRecursion-last IsKept r (n, bytes e) normal.0.2 (inr (three, aside))), normal.1, normal.2)
+        let unknowns = undeclared_among_unknowns int32_reading shade_reading (refl, λ k d old c. refl) (refl, λ k d old c. refl) d e (s, entry, is) in
+        ((normal.0.0, normal.0.1, AllByRecursion-last IsKept r (n, bytes e) normal.0.2 (inr (three, unknowns))), normal.1, normal.2)
 
-    module _ (u : Branch) (n : ℕ) (x : Datum) (p : List ℕ) (some : IsNumber n) (b : AreBytes p) (payload : IsPayload d n x p) where
+    module _ (u : Branch) (n : ℕ) (x : FieldData) (p : List ℕ) (some : IsNumber n) (b : AreBytes p) (payload : IsPayload d n x p) where
       score_put : option_map (λ z. branch z ks cs h r) (scores_take d a n (wire_of x) p) ≡ Some u → IsNormalNode u
       score_put taken =
           let m = mapped (λ z. branch z ks cs h r) (scores_take d a n (wire_of x) p) u taken in
@@ -263,7 +263,7 @@ module _ (m : LevelMeaning) (stays : KeepsNormal m) (d : ℕ) where
       by_number false false true is_one is_two is_three taken = shade_put (eqb-true n 3 is_three) taken
       by_number false false false no_one no_two no_three taken = other_put (omega (arith, some, eqb-false n 1 no_one, eqb-false n 2 no_two, eqb-false n 3 no_three)) taken
 
-  field_keeps : (v u : Branch) (n : ℕ) (x : Datum) (p : List ℕ) → IsNormalNode v → IsNumber n → AreBytes p → IsPayload d n x p → node_field_takes m d v n (wire_of x) p ≡ Some u → IsNormalNode u
+  field_keeps : (v u : Branch) (n : ℕ) (x : FieldData) (p : List ℕ) → IsNormalNode v → IsNumber n → AreBytes p → IsPayload d n x p → node_field_takes m d v n (wire_of x) p ≡ Some u → IsNormalNode u
   field_keeps (branch a ks cs h r) u n x p normal some b payload taken = by_number a ks cs h r normal u n x p some b payload (n == 1) (n == 2) (n == 3) refl refl refl taken
   field_keeps _ u n x p normal some b payload taken = absurd normal
 

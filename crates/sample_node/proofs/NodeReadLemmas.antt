@@ -8,27 +8,27 @@ use Rattle.buffa_wire.proofs.ByPayloadLemmas.{ByPayload, by_payload}
 use Rattle.buffa_wire.specs.Takes.{cost_of, merged_of}
 use Rattle.buffa_map.specs.Scalars.{int32_reading}
 use Rattle.buffa_wire.specs.BudgetLeft.{BudgetLeft, nothing}
-use Rattle.buffa_wire.specs.Kept.{keep_need}
-use Rattle.buffa_fields.specs.Aside.{kept_among, kept_behind}
-use Rattle.buffa_fields.specs.facts.KeptMapFacts.{kept_pair_behind}
-use Rattle.buffa_fields.specs.Keep.{keep_takes}
-use Rattle.buffa_recursive.specs.MessageTree.{KnotList, head_many, knot}
-use Rattle.buffa_recursive.specs.RecursiveLayout.{whole_takes}
+use Rattle.buffa_wire.specs.Kept.{keep_charge}
+use Rattle.buffa_fields.specs.Unknowns.{kept_among, kept_behind}
+use Rattle.buffa_fields.specs.facts.ClosedEnumMapFacts.{kept_pair_behind}
+use Rattle.buffa_fields.specs.UndeclaredFields.{keep_takes}
+use Rattle.buffa_recursive.specs.MessageTree.{TreeList, head_many, message_tree}
+use Rattle.buffa_recursive.specs.RecursiveSchema.{whole_takes}
 use Rattle.buffa_fields.specs.MapFields.{pair_cost}
 use Rattle.buffa_recursive.specs.facts.MapKindFacts.{pair_cost_alike, pair_taken_alike}
 use Rattle.buffa_recursive.specs.MapShape.{reading_by}
 use Rattle.buffa_recursive.specs.MapTree.{child_pairs, keys_in, pairs_in, values_in}
 use Rattle.buffa_recursive.specs.facts.LayerFacts.{costs_alike, merged_alike}
-use Rattle.buffa_recursive.specs.Fixpoint.{told_layout}
+use Rattle.buffa_recursive.specs.Fixpoint.{message_schema}
 use Rattle.buffa_recursive.specs.facts.FixpointFacts.{blank_is, cost_by_is, cost_is, each_is, merged_by_is, merged_is}
-use Rattle.sample_node.proofs.NodeLaidLemmas.{members, members_sound, node_words}
+use Rattle.sample_node.proofs.NodeSchemaLemmas.{members, members_sound, node_words}
 use Rattle.sample_node.specs.Branch.{Branch, NodeKept, NodeOwn, Scores, Shades, blank_node, branch}
-use Rattle.sample_node.specs.NodeMeaning.{LevelCost, LevelMeaning, children_cost, children_take, node_cost, node_field_need, node_field_takes, node_merged, node_reading, scores_cost, scores_take, shade_reading, shades_cost, shades_take}
+use Rattle.sample_node.specs.NodeMeaning.{LevelCost, LevelMeaning, children_cost, children_take, node_cost, node_field_charge, node_field_takes, node_merged, node_reading, scores_cost, scores_take, shade_reading, shades_cost, shades_take}
 
 -- ---- a field, by what it makes of each member
-module _ (a : Scores) (ks : List ℤ) (cs : KnotList NodeOwn) (h : Shades) (r : NodeKept) where
+module _ (a : Scores) (ks : List ℤ) (cs : TreeList NodeOwn) (h : Shades) (r : NodeKept) where
   abbrev Children : Type 0
-  Children = List ℤ × KnotList NodeOwn
+  Children = List ℤ × TreeList NodeOwn
 
   abbrev Members : Type 0
   Members = Scores × (Children × (Shades × NodeKept))
@@ -65,7 +65,7 @@ module _ (m : LevelMeaning) (d : ℕ) (means_so : (e : ℕ) → suc e ≡ d → 
   below = (blank_is 96 members members_sound, means_so)
 
   field_same : (t : Branch) (n : ℕ) (w : WireType) (p : List ℕ) → whole_takes members node_words d t n w p ≡ node_field_takes m d t n w p
-  field_same (knot (a, (ks, (h, r))) ss) n w p =
+  field_same (message_tree (a, (ks, (h, r))) ss) n w p =
       let cs = head_many ss in
       let one = scores_take d a n w p in
       let three = shades_take d (h, []) n w p in
@@ -84,11 +84,11 @@ module _ (m : LevelMeaning) (d : ℕ) (means_so : (e : ℕ) → suc e ≡ d → 
         pair_cost_alike int32_reading node_words.blank blank_node node_words.merged (λ _. m) node_words.cost (λ _. c) d below costs_so (4 + node_words.each)
         ∙ ap (λ k. pair_cost int32_reading (node_reading m c) (4 + k) d) (each_is 96 members members_sound)
 
-    field_paid : (told_layout 96 members members_sound).need d ≡ node_field_need m c d
-    field_paid = λ i n w bs. if n == 1 then scores_cost d n w bs else if n == 2 then child_paid i n w bs else if n == 3 then shades_cost d n w bs else keep_need d n w bs
+    field_paid : (message_schema 96 members members_sound).charge d ≡ node_field_charge m c d
+    field_paid = λ i n w bs. if n == 1 then scores_cost d n w bs else if n == 2 then child_paid i n w bs else if n == 3 then shades_cost d n w bs else keep_charge d n w bs
 
-    level_paid : node_words.cost d ≡ cost_of (node_field_need m c) d
-    level_paid = cost_is 96 members members_sound d ∙ costs_alike (told_layout 96 members members_sound).need (node_field_need m c) d field_paid
+    level_paid : node_words.cost d ≡ cost_of (node_field_charge m c) d
+    level_paid = cost_is 96 members members_sound d ∙ costs_alike (message_schema 96 members members_sound).charge (node_field_charge m c) d field_paid
 
 -- ---- at each depth
 none_below : (e : ℕ) → suc e ≡ zero → ⊥
@@ -117,7 +117,7 @@ pub in_node_words : (P : (ℕ → Branch → List ℕ → Option Branch) → (�
 in_node_words P h = subst (λ m. P m node_cost) node_merged_is (subst (λ c. P node_words.merged c) node_cost_is h)
 
 -- ---- all bytes mean, and cost, what payloads do
-pub node_by_payloads : ByPayload (whole_takes members node_words) (told_layout 96 members members_sound).need node_merged node_cost
+pub node_by_payloads : ByPayload (whole_takes members node_words) (message_schema 96 members members_sound).charge node_merged node_cost
 node_by_payloads =
-    let all = told_layout 96 members members_sound in
-    in_node_words (λ m c. ByPayload (whole_takes members node_words) all.need m c) (by_payload all.stays (merged_by_is 96 members members_sound) (cost_by_is 96 members members_sound))
+    let all = message_schema 96 members members_sound in
+    in_node_words (λ m c. ByPayload (whole_takes members node_words) all.charge m c) (by_payload all.stays (merged_by_is 96 members members_sound) (cost_by_is 96 members members_sound))

@@ -6,7 +6,7 @@ use Rattle.buffa_bytes.specs.declared.wire_type.WireType.{WireType}
 use Rattle.buffa_bytes.specs.declared.wire_type.WireType.TheVariants.{EndGroup}
 use Rattle.buffa_wire.specs.BudgetLeft.{BudgetLeft}
 use Rattle.buffa_wire.specs.Message.{IsFieldMerged}
-use Rattle.buffa_bytes.specs.Front.{tag_at}
+use Rattle.buffa_bytes.specs.Readings.{tag_at}
 use Rattle.buffa_wire.proofs.MergeLoopLemmas.{CameTo}
 use Rattle.sample_node.specs.Branch.{Branch}
 use Rattle.sample_node.specs.NodeMeaning.{node_cost, node_merged}

@@ -3,8 +3,8 @@
 use Rattle.std.specs.Prelude.{◌≡◌, ℕ, ℤ, List, [], Option, None, Some, if◌then◌else◌, pos}
 use Rattle.std.specs.Ordering.{int_eq}
 use Rattle.buffa_wire.specs.Enums.{Numbers, numbers}
-use Rattle.buffa_wire.specs.Records.{Datum}
-use Rattle.buffa_recursive.specs.MessageTree.{Knot, KnotList, knot, many, no_kid, no_slot}
+use Rattle.buffa_wire.specs.Records.{FieldData}
+use Rattle.buffa_recursive.specs.MessageTree.{MessageTree, TreeList, message_tree, many, no_trees, no_inner}
 use Rattle.buffa_recursive.specs.MapTree.{keys_in, values_in}
 use Rattle.sample_node.specs.declared.shade.Shade.{Shade}
 use Rattle.sample_node.specs.declared.shade.Shade.TheVariants.{A, B}
@@ -28,7 +28,7 @@ abbrev pub Shades : Type 0
 Shades = List (ℤ × ℤ)
 
 abbrev pub NodeKept : Type 0
-NodeKept = List (ℕ × Datum)
+NodeKept = List (ℕ × FieldData)
 
 -- what a node has of its own: all but the children, of which it has the keys
 abbrev pub NodeOwn : Type 0
@@ -36,10 +36,10 @@ NodeOwn = Scores × (List ℤ × (Shades × NodeKept))
 
 -- a node: what it has of its own, and its children in one slot, in the order of their keys
 abbrev pub Branch : Type 0
-Branch = Knot NodeOwn
+Branch = MessageTree NodeOwn
 
-pattern abbrev pub branch : Scores → List ℤ → KnotList NodeOwn → Shades → NodeKept → Branch
-branch a ks cs h r = knot (a, (ks, (h, r))) (many cs no_slot)
+pattern abbrev pub branch : Scores → List ℤ → TreeList NodeOwn → Shades → NodeKept → Branch
+branch a ks cs h r = message_tree (a, (ks, (h, r))) (many cs no_inner)
 
 -- the node of these scores, children, shades, and what is kept
 abbrev pub node_of : Scores → List (ℤ × Branch) → Shades → NodeKept → Branch
@@ -51,4 +51,4 @@ IsNode t = (a : Scores) × (es : List (ℤ × Branch)) × (h : Shades) × (r : N
 
 -- the one with nothing in it
 abbrev pub blank_node : Branch
-blank_node = branch [] [] no_kid [] []
+blank_node = branch [] [] no_trees [] []

@@ -12,13 +12,13 @@ use Rattle.buffa_map.specs.Codec.{Reading}
 use Rattle.buffa_map.specs.Enums.{closed_reading}
 use Rattle.buffa_map.specs.Message.{message_reading}
 use Rattle.buffa_map.specs.Scalars.{int32_reading, text_reading}
-use Rattle.buffa_wire.specs.Kept.{keep_need}
-use Rattle.buffa_fields.specs.Keep.{keep_takes}
-use Rattle.buffa_wire.specs.Takes.{Need, Taker, cost_of, merged_of}
-use Rattle.buffa_fields.specs.KeptMaps.{kept_pair_cost, kept_pair_taken}
+use Rattle.buffa_wire.specs.Kept.{keep_charge}
+use Rattle.buffa_fields.specs.UndeclaredFields.{keep_takes}
+use Rattle.buffa_wire.specs.Takes.{Charge, Taker, cost_of, merged_of}
+use Rattle.buffa_fields.specs.ClosedEnumMaps.{kept_pair_cost, kept_pair_taken}
 use Rattle.buffa_fields.specs.MapFields.{pair_cost, pair_taken}
 use Rattle.buffa_recursive.specs.MapTree.{child_pairs, keys_in, values_in}
-use Rattle.buffa_recursive.specs.MessageTree.{head_many, knot}
+use Rattle.buffa_recursive.specs.MessageTree.{head_many, message_tree}
 use Rattle.sample_node.specs.Branch.{Branch, NodeKept, Scores, Shades, blank_node, branch, shade_numbers}
 
 -- texts are in the order of their bytes
@@ -33,7 +33,7 @@ shade_reading = closed_reading shade_numbers
 abbrev pub scores_take : Taker Scores
 scores_take = pair_taken text_reading int32_reading (insert_entry text_cmp)
 
-abbrev pub scores_cost : Need
+abbrev pub scores_cost : Charge
 scores_cost = pair_cost text_reading int32_reading 28
 
 -- field 2: what a level below makes of a node, what it costs there, and so how a node is read
@@ -49,31 +49,31 @@ node_reading m c = message_reading blank_node (λ _. m) (λ _. c)
 abbrev pub children_take : LevelMeaning → Taker (List (ℤ × Branch))
 children_take m = pair_taken int32_reading (node_reading m (λ _. nothing)) (insert_entry int_cmp)
 
-abbrev pub children_cost : LevelMeaning → LevelCost → Need
+abbrev pub children_cost : LevelMeaning → LevelCost → Charge
 children_cost m c = pair_cost int32_reading (node_reading m c) 100
 
 -- field 3, and what is kept beside it: an entry with an undeclared shade, byte for byte, which costs an unknown field besides
 abbrev pub shades_take : Taker (Shades × NodeKept)
 shades_take = kept_pair_taken int32_reading shade_reading (insert_entry int_cmp)
 
-abbrev pub shades_cost : Need
+abbrev pub shades_cost : Charge
 shades_cost = kept_pair_cost int32_reading shade_reading 8
 
 -- what a field makes of a node, by what a level below does
 abbrev pub node_field_takes : LevelMeaning → Taker Branch
-node_field_takes m d (knot (a, (ks, (h, r))) ss) n w p = let cs = head_many ss in
+node_field_takes m d (message_tree (a, (ks, (h, r))) ss) n w p = let cs = head_many ss in
     if n == 1 then option_map (λ b. branch b ks cs h r) (scores_take d a n w p)
     else if n == 2 then option_map (λ es. branch a (keys_in es) (values_in es) h r) (children_take m d (child_pairs ks cs) n w p)
     else if n == 3 then option_map (λ x. branch a ks cs x.0 x.1) (shades_take d (h, r) n w p)
     else option_map (λ s. branch a ks cs h s) (keep_takes d r n w p)
 
 -- and what it costs
-abbrev pub node_field_need : LevelMeaning → LevelCost → Need
-node_field_need m c d n w bs =
+abbrev pub node_field_charge : LevelMeaning → LevelCost → Charge
+node_field_charge m c d n w bs =
     if n == 1 then scores_cost d n w bs
     else if n == 2 then children_cost m c d n w bs
     else if n == 3 then shades_cost d n w bs
-    else keep_need d n w bs
+    else keep_charge d n w bs
 
 -- what bytes make of a node where so many levels may still open, and what they cost
 abbrev pub node_merged : ℕ → Branch → List ℕ → Option Branch
@@ -81,5 +81,5 @@ node_merged zero v bs = merged_of (node_field_takes (λ _ _. None)) zero v bs
 node_merged (suc d) v bs = merged_of (node_field_takes (node_merged d)) (suc d) v bs
 
 abbrev pub node_cost : ℕ → List ℕ → BudgetLeft
-node_cost zero bs = cost_of (node_field_need (λ _ _. None) (λ _. nothing)) zero bs
-node_cost (suc d) bs = cost_of (node_field_need (node_merged d) (node_cost d)) (suc d) bs
+node_cost zero bs = cost_of (node_field_charge (λ _ _. None) (λ _. nothing)) zero bs
+node_cost (suc d) bs = cost_of (node_field_charge (node_merged d) (node_cost d)) (suc d) bs

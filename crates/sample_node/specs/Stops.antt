@@ -7,7 +7,7 @@ use Rattle.buffa_bytes.specs.declared.wire_type.WireType.TheVariants.{EndGroup}
 use Rattle.buffa_wire.specs.BudgetLeft.{BudgetLeft, Pays}
 use Rattle.buffa_wire.specs.Message.{IsFieldMerged}
 use Rattle.buffa_wire.specs.Pinned.{refusal}
-use Rattle.buffa_bytes.specs.Front.{tag_at}
+use Rattle.buffa_bytes.specs.Readings.{tag_at}
 
 -- why the field at the front of the bytes isn't merged: no tag is there; or the field whose tag is there is refused, and
 -- where memory ran out, that is no end tag

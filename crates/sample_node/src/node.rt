@@ -2,8 +2,8 @@
 
 ghost use Rattle.std.proofs.Common.{lit<, refl};
 ghost use Rattle.std.specs.Prelude.{OnErr, [], IfErr, ◌≢◌};
-ghost use Rattle.buffa_bytes.specs.Front.{FullOnlyIf};
-ghost use Rattle.buffa_wire.specs.Message.{BeginsField, IsFieldMerged, IsMerged, Stands};
+ghost use Rattle.buffa_bytes.specs.Readings.{FullOnlyIf};
+ghost use Rattle.buffa_wire.specs.Message.{BeginsField, IsFieldMerged, IsMerged, PartlyMerged};
 ghost use Rattle.buffa_wire.specs.Passes.{IsNext, IsSized};
 ghost use Rattle.sample_node.specs.Branch.{IsNode};
 ghost use Rattle.sample_node.specs.NodeMeaning.{node_cost, node_merged};
@@ -12,20 +12,20 @@ ghost use Rattle.sample_node.specs.Refused.{IsNodeRefused};
 ghost use Rattle.sample_node.specs.Stops.{Stops};
 
 use crate::shade::Shade;
-use buffa_fields::keeping::Keeping;
-use buffa_fields::kept;
-use buffa_fields::member::Member;
-use buffa_fields::ordered_map::OrderedMapOf;
+use buffa_fields::members::keeps_unknowns::KeepsUnknowns;
+use buffa_fields::members::member::Member;
+use buffa_fields::members::ordered_map_field::OrderedMapField;
+use buffa_fields::unknown;
 use buffa_map::map_codec::{ClosedEnum, Int32, Str};
-use buffa_recursive::fields::SelfFields;
+use buffa_recursive::inner_merger::InnerMerger;
 use buffa_recursive::keyed::{ByKey, Keyed};
-use buffa_recursive::layout::Laid;
-use buffa_recursive::listing::{SelfListed, SelfListing};
 use buffa_recursive::maps::take_map;
-use buffa_recursive::merger::SelfMerger;
-use buffa_recursive::visitor::SelfVisitor;
+use buffa_recursive::recursive_fields::RecursiveFields;
+use buffa_recursive::recursive_meaning::{RecursiveFieldByField, RecursiveMeaning};
+use buffa_recursive::recursive_type::RecursiveType;
+use buffa_recursive::visitor::RecursiveVisitor;
 use buffa_wire::{
-    Blank, Budget, Buf, DecodeContext, DecodeError, EncodeError, EncodeSink, Formed, Message,
+    Blank, Budget, Buf, DecodeContext, DecodeError, EncodeError, EncodeSink, Message, MessageImpl,
     SizeCache, Tag, UnknownFields, WireType,
 };
 use std::alloc::Global;
@@ -47,34 +47,34 @@ pub struct Node {
     /// `map<int32, Shade>`.
     pub shades: BTreeMap<i32, Shade>,
     /// What isn't declared, in the order in which it came.
-    pub rest: UnknownFields,
+    pub unknown_fields: UnknownFields,
 }
 
 impl Model for Node {
     ghost use Rattle.std.specs.Prelude.{string_bytes};
     ghost use Rattle.std.specs.Coded.{coded_list, coded_ℕ, coded_ℤ, coded×};
     ghost use Rattle.std.proofs.Common.{arith};
-    ghost use Rattle.buffa_wire.specs.Code.{coded_datum};
+    ghost use Rattle.buffa_wire.specs.Code.{coded_field_data};
     ghost use Rattle.buffa_map.specs.Pairs.{means};
-    ghost use Rattle.buffa_recursive.specs.MessageTree.{coded_knot, knot_height};
+    ghost use Rattle.buffa_recursive.specs.MessageTree.{coded_tree, tree_height};
     ghost use Rattle.buffa_recursive.specs.MapTree.{most-of_map};
     ghost use Rattle.sample_node.specs.Branch.{Branch, node_of, shade_number};
 
     ghost Value = { Branch };
 
-    ghost coded = { coded_knot (coded× (coded_list (coded× (coded_list coded_ℕ) coded_ℤ)) (coded× (coded_list coded_ℤ) (
-        coded× (coded_list (coded× coded_ℤ coded_ℤ)) (coded_list (coded× coded_ℕ coded_datum))))) };
+    ghost coded = { coded_tree (coded× (coded_list (coded× (coded_list coded_ℕ) coded_ℤ)) (coded× (coded_list coded_ℤ) (
+        coded× (coded_list (coded× coded_ℤ coded_ℤ)) (coded_list (coded× coded_ℕ coded_field_data))))) };
 
     ghost view = { λ t. node_of (means string_bytes (λ v. v) t.scores.entries) (means (λ k. k) (λ m. m) t.children.entries)
-        (means (λ k. k) shade_number t.shades.entries) t.rest.records };
+        (means (λ k. k) shade_number t.shades.entries) t.unknown_fields.records };
 
-    ghost size = { knot_height };
+    ghost size = { tree_height };
 
     ghost size_decreases = { λ t h. omega (arith, most-of_map (λ k. k) t.children.entries) };
 }
 
-impl Laid for Node {
-    ghost use Rattle.buffa_recursive.specs.MemberList.{keeps, knotted, map_inside, member, member_kept};
+impl RecursiveType for Node {
+    ghost use Rattle.buffa_recursive.specs.MemberList.{keeps_unknown, recursive_message, map_inside, member, member_with_unknowns};
 
     const COST: usize = 96;
 
@@ -82,24 +82,24 @@ impl Laid for Node {
 
     ghost positive = { lit< tt };
 
-    ghost laying = { knotted (
-        member 1 ⟦<OrderedMapOf<Str, Int32> as Member>⟧.shape (
+    ghost schema = { recursive_message (
+        member 1 ⟦<OrderedMapField<Str, Int32> as Member>⟧.shape (
         map_inside 2 ⟦<ByKey<Int32> as Keyed>⟧.keys (
-        member_kept 3 ⟦<OrderedMapOf<Int32, ClosedEnum<Shade>> as Member>⟧.shape
-        ⟦<OrderedMapOf<Int32, ClosedEnum<Shade>> as Keeping>⟧.aside keeps))) };
+        member_with_unknowns 3 ⟦<OrderedMapField<Int32, ClosedEnum<Shade>> as Member>⟧.shape
+        ⟦<OrderedMapField<Int32, ClosedEnum<Shade>> as KeepsUnknowns>⟧.unknowns keeps_unknown))) };
 
     ghost sound = { λ w. refl };
 }
 
-impl SelfFields for Node {
-    fn visit<V: SelfVisitor<Node>>(&self, visitor: &mut V) {
-        visitor.visit::<OrderedMapOf<Str, Int32>>(1, &self.scores);
+impl RecursiveFields for Node {
+    fn visit<V: RecursiveVisitor<Node>>(&self, visitor: &mut V) {
+        visitor.visit::<OrderedMapField<Str, Int32>>(1, &self.scores);
         visitor.visit_map::<Int32>(2, &self.children);
-        visitor.visit_keeping::<OrderedMapOf<Int32, ClosedEnum<Shade>>>(3, &self.shades);
-        visitor.visit_kept(&self.rest);
+        visitor.visit_with_unknowns::<OrderedMapField<Int32, ClosedEnum<Shade>>>(3, &self.shades);
+        visitor.visit_unknown_fields(&self.unknown_fields);
     }
 
-    fn take<I: SelfMerger<Node>>(
+    fn take<I: InnerMerger<Node>>(
         &mut self,
         alloc: Global,
         tag: Tag,
@@ -108,17 +108,17 @@ impl SelfFields for Node {
         inner: &I,
     ) -> Result<(), DecodeError> {
         match tag.field_number() {
-            1 => OrderedMapOf::<Str, Int32>::merge(&mut self.scores, alloc, tag, buf, ctx),
+            1 => OrderedMapField::<Str, Int32>::merge(&mut self.scores, alloc, tag, buf, ctx),
             2 => take_map::<Int32, Node, I>(&mut self.children, alloc, tag, buf, ctx, inner),
-            3 => OrderedMapOf::<Int32, ClosedEnum<Shade>>::merge_kept(
+            3 => OrderedMapField::<Int32, ClosedEnum<Shade>>::merge_with_unknowns(
                 &mut self.shades,
-                &mut self.rest,
+                &mut self.unknown_fields,
                 alloc,
                 tag,
                 buf,
                 ctx,
             ),
-            _ => kept::keep(alloc, &mut self.rest, tag, buf, ctx),
+            _ => unknown::keep(alloc, &mut self.unknown_fields, tag, buf, ctx),
         }
     }
 }
@@ -137,19 +137,19 @@ impl Blank for Node {
             scores: BTreeMap::new(alloc),
             children: BTreeMap::new(alloc),
             shades: BTreeMap::new(alloc),
-            rest: UnknownFields::new(alloc),
+            unknown_fields: UnknownFields::new(alloc),
         }
     }
 }
 
-impl SelfListing for Node {
+impl RecursiveMeaning for Node {
     ghost means = { λ m. refl };
 
     ghost starts = { refl };
 }
 
-impl Formed for Node {
-    type Form = SelfListed;
+impl MessageImpl for Node {
+    type Impl = RecursiveFieldByField;
 }
 
 /// The size pass: the length of the encoding, and the slots of the children appended.
@@ -235,7 +235,7 @@ pub fn merge_node(
     ensures merged { IsMerged (node_merged depth node.old bytes.now) (node_cost depth bytes.now) budget.old result node.new
         budget.new }
     ensures full { FullOnlyIf result (BeginsField bytes.now) }
-    ensures stands { IfErr result (λ e. Stands node_merged node_cost IsNodeRefused depth node.old bytes.now budget.old e
+    ensures partly { IfErr result (λ e. PartlyMerged node_merged node_cost IsNodeRefused depth node.old bytes.now budget.old e
         node.new) }
     ensures stops { IfErr result (Stops node_merged node_cost depth node.old bytes.now budget.old node.new budget.new) }
 {

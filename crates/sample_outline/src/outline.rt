@@ -1,18 +1,18 @@
 //! buffa.sample.Outline, made of outline.proto by protoc-gen-buffa.
 
 ghost use Rattle.std.proofs.Common.{lit<, refl};
-ghost use Rattle.buffa_recursive.specs.Terms.{keeps, knotted, list_inside, map_inside, member, member_kept, member_one_of, one_inside, rest_of};
+ghost use Rattle.buffa_recursive.specs.Terms.{keeps_unknown, list_inside, map_inside, member, member_one_of, member_with_unknowns, one_inside, recursive_message, rest_of};
 
 use crate::outline_mark::OutlineMark;
 use crate::outline_source::OutlineSource;
 use buffa_fields::map_codec::{ClosedEnum, Int32, Map, Str};
 use buffa_fields::{
-    Blank, DecodeContext, DecodeError, Formed, Keeping, MapOf, Member, OneOf, Optional, Tag,
-    UnknownFields, kept,
+    Blank, DecodeContext, DecodeError, ExplicitField, KeepsUnknowns, MapField, Member, MessageImpl,
+    OneOf, Tag, UnknownFields, unknown,
 };
 use buffa_recursive::{
-    ByKey, Keyed, Laid, SelfFields, SelfListed, SelfListing, SelfMerger, SelfVisitor, take_list,
-    take_map, take_one, take_one_of,
+    ByKey, InnerMerger, Keyed, RecursiveFieldByField, RecursiveFields, RecursiveMeaning,
+    RecursiveType, RecursiveVisitor, take_list, take_map, take_one, take_one_of,
 };
 use std::alloc::Global;
 use std::collections::BTreeMap;
@@ -47,7 +47,7 @@ pub struct Outline {
     /// Where it is from.
     pub source: Option<OutlineSource>,
     /// The fields that aren't declared, in order.
-    pub rest: UnknownFields,
+    pub unknown_fields: UnknownFields,
 }
 
 impl Model for Outline {
@@ -55,28 +55,28 @@ impl Model for Outline {
     ghost use Rattle.std.specs.Option.{option_map};
     ghost use Rattle.std.specs.Prelude.{List, Option, ℕ, ℤ};
     ghost use Rattle.std.proofs.Common.{arith};
-    ghost use Rattle.buffa_fields.specs.Terms.{Datum, coded_datum, coded_or};
-    ghost use Rattle.buffa_recursive.specs.Terms.{CaseMeaningOf, Knot, coded_knot, has, has_case, has_kept, has_list, has_map, has_one, knot_height, knot_of, most-of_list, most-of_map};
+    ghost use Rattle.buffa_fields.specs.Terms.{FieldData, coded_field_data, coded_or};
+    ghost use Rattle.buffa_recursive.specs.Terms.{CaseMeaningOf, MessageTree, coded_tree, has, has_case, has_list, has_map, has_one, has_unknown_fields, most-of_list, most-of_map, tree_height, tree_of};
 
-    ghost Value = { Knot (
+    ghost Value = { MessageTree (
         Option (List ℕ) × (
         Option ℤ × (
         List ℤ × (
         (List (ℤ × ℤ)) × (
-        CaseMeaningOf ⟦<OutlineSource as OneOf>⟧.cases × List (ℕ × Datum)))))) };
+        CaseMeaningOf ⟦<OutlineSource as OneOf>⟧.cases × List (ℕ × FieldData)))))) };
 
-    ghost coded = { Prim.hlevel (codes, coded_datum, coded_knot, coded_or) };
+    ghost coded = { Prim.hlevel (codes, coded_field_data, coded_tree, coded_or) };
 
-    ghost view = { λ m. knot_of (
-        has (⟦<Optional<Str> as Member>⟧.shape.meaning m.title) (
+    ghost view = { λ m. tree_of (
+        has (⟦<ExplicitField<Str> as Member>⟧.shape.meaning m.title) (
         has_list m.parts.items (
-        has (⟦<Optional<Int32> as Member>⟧.shape.meaning m.width) (
+        has (⟦<ExplicitField<Int32> as Member>⟧.shape.meaning m.width) (
         has_one (option_map (λ b. b.value) m.beside) (
         has_map ⟦<i32 as Blank>⟧.meaning m.by_number.entries (
-        has (⟦<MapOf<Int32, ClosedEnum<OutlineMark>> as Member>⟧.shape.meaning m.marks) (
-        has_case ⟦<OutlineSource as OneOf>⟧.cases m.source (has_kept m.rest.records)))))))) };
+        has (⟦<MapField<Int32, ClosedEnum<OutlineMark>> as Member>⟧.shape.meaning m.marks) (
+        has_case ⟦<OutlineSource as OneOf>⟧.cases m.source (has_unknown_fields m.unknown_fields.records)))))))) };
 
-    ghost size = { knot_height };
+    ghost size = { tree_height };
 
     ghost size_decreases = { λ m h. Prim.grind (
       arith,
@@ -85,38 +85,38 @@ impl Model for Outline {
     ) };
 }
 
-impl Laid for Outline {
+impl RecursiveType for Outline {
     const COST: usize = 304;
 
     ghost COST = { 304 };
 
     ghost positive = { lit< tt };
 
-    ghost laying = { knotted (
-        member 1 ⟦<Optional<Str> as Member>⟧.shape (
+    ghost schema = { recursive_message (
+        member 1 ⟦<ExplicitField<Str> as Member>⟧.shape (
         list_inside 2 (
-        member 3 ⟦<Optional<Int32> as Member>⟧.shape (
+        member 3 ⟦<ExplicitField<Int32> as Member>⟧.shape (
         one_inside 4 (
         map_inside 5 ⟦<ByKey<Int32> as Keyed>⟧.keys (
-        member_kept 6 ⟦<MapOf<Int32, ClosedEnum<OutlineMark>> as Member>⟧.shape ⟦<MapOf<Int32, ClosedEnum<OutlineMark>> as Keeping>⟧.aside (
-        member_one_of ⟦<OutlineSource as OneOf>⟧.cases keeps))))))) };
+        member_with_unknowns 6 ⟦<MapField<Int32, ClosedEnum<OutlineMark>> as Member>⟧.shape ⟦<MapField<Int32, ClosedEnum<OutlineMark>> as KeepsUnknowns>⟧.unknowns (
+        member_one_of ⟦<OutlineSource as OneOf>⟧.cases keeps_unknown))))))) };
 
     ghost sound = { λ w. refl };
 }
 
-impl SelfFields for Outline {
-    fn visit<V: SelfVisitor<Outline>>(&self, visitor: &mut V) {
-        visitor.visit::<Optional<Str>>(1, &self.title);
+impl RecursiveFields for Outline {
+    fn visit<V: RecursiveVisitor<Outline>>(&self, visitor: &mut V) {
+        visitor.visit::<ExplicitField<Str>>(1, &self.title);
         visitor.visit_list(2, &self.parts);
-        visitor.visit::<Optional<Int32>>(3, &self.width);
+        visitor.visit::<ExplicitField<Int32>>(3, &self.width);
         visitor.visit_one(4, &self.beside);
         visitor.visit_map::<Int32>(5, &self.by_number);
-        visitor.visit_keeping::<MapOf<Int32, ClosedEnum<OutlineMark>>>(6, &self.marks);
+        visitor.visit_with_unknowns::<MapField<Int32, ClosedEnum<OutlineMark>>>(6, &self.marks);
         visitor.visit_one_of(&self.source);
-        visitor.visit_kept(&self.rest);
+        visitor.visit_unknown_fields(&self.unknown_fields);
     }
 
-    fn take<I: SelfMerger<Outline>>(
+    fn take<I: InnerMerger<Outline>>(
         &mut self,
         alloc: Global,
         tag: Tag,
@@ -125,14 +125,14 @@ impl SelfFields for Outline {
         inner: &I,
     ) -> Result<(), DecodeError> {
         match tag.field_number() {
-            1 => Optional::<Str>::merge(&mut self.title, alloc, tag, buf, ctx),
+            1 => ExplicitField::<Str>::merge(&mut self.title, alloc, tag, buf, ctx),
             2 => take_list(&mut self.parts, alloc, tag, buf, ctx, inner),
-            3 => Optional::<Int32>::merge(&mut self.width, alloc, tag, buf, ctx),
+            3 => ExplicitField::<Int32>::merge(&mut self.width, alloc, tag, buf, ctx),
             4 => take_one(&mut self.beside, alloc, tag, buf, ctx, inner),
             5 => take_map::<Int32, Outline, I>(&mut self.by_number, alloc, tag, buf, ctx, inner),
-            6 => MapOf::<Int32, ClosedEnum<OutlineMark>>::merge_kept(
+            6 => MapField::<Int32, ClosedEnum<OutlineMark>>::merge_with_unknowns(
                 &mut self.marks,
-                &mut self.rest,
+                &mut self.unknown_fields,
                 alloc,
                 tag,
                 buf,
@@ -141,7 +141,7 @@ impl SelfFields for Outline {
             7 => take_one_of(&mut self.source, alloc, tag, buf, ctx),
             8 => take_one_of(&mut self.source, alloc, tag, buf, ctx),
             9 => take_one_of(&mut self.source, alloc, tag, buf, ctx),
-            _ => kept::keep(alloc, &mut self.rest, tag, buf, ctx),
+            _ => unknown::keep(alloc, &mut self.unknown_fields, tag, buf, ctx),
         }
     }
 }
@@ -151,7 +151,7 @@ impl Blank for Outline {
 
     ghost meaning = { λ m. m };
 
-    ghost blank_is = { ⟦<Outline as Laid>⟧.laying.into ⟦<Outline as Laid>⟧.laying.blank };
+    ghost blank_is = { ⟦<Outline as RecursiveType>⟧.schema.into ⟦<Outline as RecursiveType>⟧.schema.blank };
 
     fn blank(alloc: Global) -> Outline {
         Outline {
@@ -162,19 +162,19 @@ impl Blank for Outline {
             by_number: BTreeMap::new(alloc),
             marks: Map::new(alloc),
             source: None,
-            rest: UnknownFields::new(alloc),
+            unknown_fields: UnknownFields::new(alloc),
         }
     }
 }
 
-impl SelfListing for Outline {
+impl RecursiveMeaning for Outline {
     ghost means = { λ m. refl };
 
     ghost starts = { refl };
 }
 
-impl Formed for Outline {
-    type Form = SelfListed;
+impl MessageImpl for Outline {
+    type Impl = RecursiveFieldByField;
 }
 
 const _: () = prove!(size_of::<Outline>() <= Outline::COST);

@@ -7,8 +7,8 @@ ghost use Rattle.sample_outline.specs.declared.outline_source.OutlineSource.TheV
 use crate::spot::Spot;
 use buffa_fields::map_codec::{Int32, Str};
 use buffa_fields::{
-    Blank, Case, DecodeContext, DecodeError, Nested, OneOf, Optional, Or, Set, Tag, Visitor,
-    case_reads_back,
+    Blank, Case, DecodeContext, DecodeError, ExplicitField, MessageField, OneOf, Or, Set, Tag,
+    Visitor, case_reads_back,
 };
 use std::alloc::Global;
 use std::string::String;
@@ -30,9 +30,9 @@ pub enum OutlineSource {
 impl OneOf for OutlineSource {
     type Meaning = Or<[u8; 0], Or<i32, Or<<Spot as Blank>::Meaning, ()>>>;
 
-    ghost cases = { enum_of (case 7 ⟦<Optional<Str> as Case>⟧.words (
-        case 8 ⟦<Optional<Int32> as Case>⟧.words (
-        case 9 ⟦<Nested<Spot> as Case>⟧.words (
+    ghost cases = { enum_of (case 7 ⟦<ExplicitField<Str> as Case>⟧.words (
+        case 8 ⟦<ExplicitField<Int32> as Case>⟧.words (
+        case 9 ⟦<MessageField<Spot> as Case>⟧.words (
         no_case)))) (λ m. elim m [
           | Book x ↦ This x
           | Page x ↦ Other (This x)
@@ -41,9 +41,9 @@ impl OneOf for OutlineSource {
 
     fn visit<V: Visitor>(&self, visitor: &mut V) {
         match self {
-            OutlineSource::Book(it) => visitor.visit::<Set<Optional<Str>>>(7, it),
-            OutlineSource::Page(it) => visitor.visit::<Set<Optional<Int32>>>(8, it),
-            OutlineSource::Spot(it) => visitor.visit::<Set<Nested<Spot>>>(9, it),
+            OutlineSource::Book(it) => visitor.visit::<Set<ExplicitField<Str>>>(7, it),
+            OutlineSource::Page(it) => visitor.visit::<Set<ExplicitField<Int32>>>(8, it),
+            OutlineSource::Spot(it) => visitor.visit::<Set<MessageField<Spot>>>(9, it),
         }
     }
 
@@ -56,21 +56,21 @@ impl OneOf for OutlineSource {
     ) -> Result<(), DecodeError> {
         match tag.field_number() {
             7 => {
-                let it = Optional::<Str>::read_value(alloc, tag, buf, ctx)?;
+                let it = ExplicitField::<Str>::read_value(alloc, tag, buf, ctx)?;
                 drop(slot.replace(OutlineSource::Book(it)));
                 Ok(())
             }
             8 => {
-                let it = Optional::<Int32>::read_value(alloc, tag, buf, ctx)?;
+                let it = ExplicitField::<Int32>::read_value(alloc, tag, buf, ctx)?;
                 drop(slot.replace(OutlineSource::Page(it)));
                 Ok(())
             }
             9 => match slot {
                 Some(OutlineSource::Spot(it)) => {
-                    Nested::<Spot>::merge_value(it, alloc, tag, buf, ctx)
+                    MessageField::<Spot>::merge_value(it, alloc, tag, buf, ctx)
                 }
                 _ => {
-                    let it = Nested::<Spot>::read_value(alloc, tag, buf, ctx)?;
+                    let it = MessageField::<Spot>::read_value(alloc, tag, buf, ctx)?;
                     drop(slot.replace(OutlineSource::Spot(it)));
                     Ok(())
                 }
@@ -80,8 +80,8 @@ impl OneOf for OutlineSource {
     }
 
     fn reads_back() {
-        case_reads_back::<Optional<Str>>();
-        case_reads_back::<Optional<Int32>>();
-        case_reads_back::<Nested<Spot>>();
+        case_reads_back::<ExplicitField<Str>>();
+        case_reads_back::<ExplicitField<Int32>>();
+        case_reads_back::<MessageField<Spot>>();
     }
 }

@@ -1,12 +1,12 @@
 //! buffa.sample.Spot, made of outline.proto by protoc-gen-buffa.
 
 ghost use Rattle.std.proofs.Common.{lit<, refl};
-ghost use Rattle.buffa_fields.specs.Terms.{field, keep};
+ghost use Rattle.buffa_fields.specs.Terms.{field, keep_unknown};
 
 use buffa_fields::map_codec::Int32;
 use buffa_fields::{
-    And, Blank, DecodeContext, DecodeError, Fields, Formed, KeptFields, Listed, Listing, Member,
-    Optional, Tag, UnknownFields, Visitor, kept,
+    And, Blank, DecodeContext, DecodeError, ExplicitField, FieldByField, FieldsMeaning, Member,
+    MessageFields, MessageImpl, Tag, UnknownFields, Unknowns, Visitor, unknown,
 };
 use std::alloc::Global;
 
@@ -19,11 +19,11 @@ use std::alloc::Global;
 pub struct Spot {
     pub line: Option<i32>,
     /// The fields that aren't declared, in order.
-    pub rest: UnknownFields,
+    pub unknown_fields: UnknownFields,
 }
 
-impl Fields for Spot {
-    type Meaning = And<Option<i32>, KeptFields>;
+impl MessageFields for Spot {
+    type Meaning = And<Option<i32>, Unknowns>;
 
     const COST: usize = 40;
 
@@ -31,14 +31,14 @@ impl Fields for Spot {
 
     ghost positive = { lit< tt };
 
-    ghost layout = { field 1 (λ m. m.line) ⟦<Optional<Int32> as Member>⟧.shape (
-        keep (λ m. m.rest.records)) };
+    ghost schema = { field 1 (λ m. m.line) ⟦<ExplicitField<Int32> as Member>⟧.shape (
+        keep_unknown (λ m. m.unknown_fields.records)) };
 
     ghost sound = { refl };
 
     fn visit<V: Visitor>(&self, visitor: &mut V) {
-        visitor.visit::<Optional<Int32>>(1, &self.line);
-        visitor.visit_kept(&self.rest);
+        visitor.visit::<ExplicitField<Int32>>(1, &self.line);
+        visitor.visit_unknown_fields(&self.unknown_fields);
     }
 
     fn take(
@@ -49,35 +49,35 @@ impl Fields for Spot {
         ctx: DecodeContext<'_>,
     ) -> Result<(), DecodeError> {
         match tag.field_number() {
-            1 => Optional::<Int32>::merge(&mut self.line, alloc, tag, buf, ctx),
-            _ => kept::keep(alloc, &mut self.rest, tag, buf, ctx),
+            1 => ExplicitField::<Int32>::merge(&mut self.line, alloc, tag, buf, ctx),
+            _ => unknown::keep(alloc, &mut self.unknown_fields, tag, buf, ctx),
         }
     }
 }
 
 impl Blank for Spot {
-    type Meaning = <Spot as Fields>::Meaning;
+    type Meaning = <Spot as MessageFields>::Meaning;
 
-    ghost meaning = { ⟦<Spot as Fields>⟧.layout.meaning };
+    ghost meaning = { ⟦<Spot as MessageFields>⟧.schema.meaning };
 
-    ghost blank_is = { ⟦<Spot as Fields>⟧.layout.blank };
+    ghost blank_is = { ⟦<Spot as MessageFields>⟧.schema.blank };
 
     fn blank(alloc: Global) -> Spot {
         Spot {
             line: None,
-            rest: UnknownFields::new(alloc),
+            unknown_fields: UnknownFields::new(alloc),
         }
     }
 }
 
-impl Listing for Spot {
+impl FieldsMeaning for Spot {
     ghost means = { λ m. refl };
 
     ghost starts = { refl };
 }
 
-impl Formed for Spot {
-    type Form = Listed;
+impl MessageImpl for Spot {
+    type Impl = FieldByField;
 }
 
 const _: () = prove!(size_of::<Spot>() <= Spot::COST);

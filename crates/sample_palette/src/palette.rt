@@ -1,15 +1,16 @@
 //! buffa.sample.Palette, made of palette.proto by protoc-gen-buffa.
 
 ghost use Rattle.std.proofs.Common.{lit<, refl};
-ghost use Rattle.buffa_fields.specs.Terms.{field, field_kept, keep};
+ghost use Rattle.buffa_fields.specs.Terms.{field, field_with_unknowns, keep_unknown};
 
 use crate::shade::Shade;
 use crate::swatch::Swatch;
 use buffa_fields::map_codec::{ClosedEnum, Int32, Map};
 use buffa_fields::{
-    And, And9, Blank, DecodeContext, DecodeError, Fields, Formed, Group, Keeping, KeptFields,
-    Listed, Listing, MapOf, Member, Nested, Optional, OrderedMapOf, Packed, Plain, Repeated, Tag,
-    UnknownFields, Visitor, kept,
+    And, And9, Blank, DecodeContext, DecodeError, ExplicitField, FieldByField, FieldsMeaning,
+    GroupField, ImplicitField, KeepsUnknowns, MapField, Member, MessageField, MessageFields,
+    MessageImpl, OrderedMapField, PackedField, RepeatedField, Tag, UnknownFields, Unknowns,
+    Visitor, unknown,
 };
 use std::alloc::Global;
 use std::collections::BTreeMap;
@@ -43,10 +44,10 @@ pub struct Palette {
     pub swatch: Option<Swatch>,
     pub patch: Option<Swatch>,
     /// The fields that aren't declared, in order.
-    pub rest: UnknownFields,
+    pub unknown_fields: UnknownFields,
 }
 
-impl Fields for Palette {
+impl MessageFields for Palette {
     type Meaning = And9<
         i32,
         [And<i32, i32>; 0],
@@ -56,7 +57,7 @@ impl Fields for Palette {
         [And<i32, i32>; 0],
         Option<<Swatch as Blank>::Meaning>,
         Option<<Swatch as Blank>::Meaning>,
-        KeptFields,
+        Unknowns,
     >;
 
     const COST: usize = 256;
@@ -65,33 +66,33 @@ impl Fields for Palette {
 
     ghost positive = { lit< tt };
 
-    ghost layout = { field 1 (λ m. m.total) ⟦<Plain<Int32> as Member>⟧.shape (
-        field_kept 3 (λ m. m.shades) ⟦<MapOf<Int32, ClosedEnum<Shade>> as Member>⟧.shape
-        ⟦<MapOf<Int32, ClosedEnum<Shade>> as Keeping>⟧.aside (
-        field_kept 4 (λ m. m.s) ⟦<Optional<ClosedEnum<Shade>> as Member>⟧.shape
-        ⟦<Optional<ClosedEnum<Shade>> as Keeping>⟧.aside (
-        field_kept 5 (λ m. m.list) ⟦<Repeated<ClosedEnum<Shade>> as Member>⟧.shape
-        ⟦<Repeated<ClosedEnum<Shade>> as Keeping>⟧.aside (
-        field_kept 6 (λ m. m.packed) ⟦<Packed<ClosedEnum<Shade>> as Member>⟧.shape
-        ⟦<Packed<ClosedEnum<Shade>> as Keeping>⟧.aside (
-        field_kept 7 (λ m. m.ordered) ⟦<OrderedMapOf<Int32, ClosedEnum<Shade>> as Member>⟧.shape
-        ⟦<OrderedMapOf<Int32, ClosedEnum<Shade>> as Keeping>⟧.aside (
-        field 8 (λ m. m.swatch) ⟦<Nested<Swatch> as Member>⟧.shape (
-        field 9 (λ m. m.patch) ⟦<Group<Swatch> as Member>⟧.shape (
-        keep (λ m. m.rest.records))))))))) };
+    ghost schema = { field 1 (λ m. m.total) ⟦<ImplicitField<Int32> as Member>⟧.shape (
+        field_with_unknowns 3 (λ m. m.shades) ⟦<MapField<Int32, ClosedEnum<Shade>> as Member>⟧.shape
+        ⟦<MapField<Int32, ClosedEnum<Shade>> as KeepsUnknowns>⟧.unknowns (
+        field_with_unknowns 4 (λ m. m.s) ⟦<ExplicitField<ClosedEnum<Shade>> as Member>⟧.shape
+        ⟦<ExplicitField<ClosedEnum<Shade>> as KeepsUnknowns>⟧.unknowns (
+        field_with_unknowns 5 (λ m. m.list) ⟦<RepeatedField<ClosedEnum<Shade>> as Member>⟧.shape
+        ⟦<RepeatedField<ClosedEnum<Shade>> as KeepsUnknowns>⟧.unknowns (
+        field_with_unknowns 6 (λ m. m.packed) ⟦<PackedField<ClosedEnum<Shade>> as Member>⟧.shape
+        ⟦<PackedField<ClosedEnum<Shade>> as KeepsUnknowns>⟧.unknowns (
+        field_with_unknowns 7 (λ m. m.ordered) ⟦<OrderedMapField<Int32, ClosedEnum<Shade>> as Member>⟧.shape
+        ⟦<OrderedMapField<Int32, ClosedEnum<Shade>> as KeepsUnknowns>⟧.unknowns (
+        field 8 (λ m. m.swatch) ⟦<MessageField<Swatch> as Member>⟧.shape (
+        field 9 (λ m. m.patch) ⟦<GroupField<Swatch> as Member>⟧.shape (
+        keep_unknown (λ m. m.unknown_fields.records))))))))) };
 
     ghost sound = { refl };
 
     fn visit<V: Visitor>(&self, visitor: &mut V) {
-        visitor.visit::<Plain<Int32>>(1, &self.total);
-        visitor.visit_keeping::<MapOf<Int32, ClosedEnum<Shade>>>(3, &self.shades);
-        visitor.visit_keeping::<Optional<ClosedEnum<Shade>>>(4, &self.s);
-        visitor.visit_keeping::<Repeated<ClosedEnum<Shade>>>(5, &self.list);
-        visitor.visit_keeping::<Packed<ClosedEnum<Shade>>>(6, &self.packed);
-        visitor.visit_keeping::<OrderedMapOf<Int32, ClosedEnum<Shade>>>(7, &self.ordered);
-        visitor.visit::<Nested<Swatch>>(8, &self.swatch);
-        visitor.visit::<Group<Swatch>>(9, &self.patch);
-        visitor.visit_kept(&self.rest);
+        visitor.visit::<ImplicitField<Int32>>(1, &self.total);
+        visitor.visit_with_unknowns::<MapField<Int32, ClosedEnum<Shade>>>(3, &self.shades);
+        visitor.visit_with_unknowns::<ExplicitField<ClosedEnum<Shade>>>(4, &self.s);
+        visitor.visit_with_unknowns::<RepeatedField<ClosedEnum<Shade>>>(5, &self.list);
+        visitor.visit_with_unknowns::<PackedField<ClosedEnum<Shade>>>(6, &self.packed);
+        visitor.visit_with_unknowns::<OrderedMapField<Int32, ClosedEnum<Shade>>>(7, &self.ordered);
+        visitor.visit::<MessageField<Swatch>>(8, &self.swatch);
+        visitor.visit::<GroupField<Swatch>>(9, &self.patch);
+        visitor.visit_unknown_fields(&self.unknown_fields);
     }
 
     fn take(
@@ -102,60 +103,60 @@ impl Fields for Palette {
         ctx: DecodeContext<'_>,
     ) -> Result<(), DecodeError> {
         match tag.field_number() {
-            1 => Plain::<Int32>::merge(&mut self.total, alloc, tag, buf, ctx),
-            3 => MapOf::<Int32, ClosedEnum<Shade>>::merge_kept(
+            1 => ImplicitField::<Int32>::merge(&mut self.total, alloc, tag, buf, ctx),
+            3 => MapField::<Int32, ClosedEnum<Shade>>::merge_with_unknowns(
                 &mut self.shades,
-                &mut self.rest,
+                &mut self.unknown_fields,
                 alloc,
                 tag,
                 buf,
                 ctx,
             ),
-            4 => Optional::<ClosedEnum<Shade>>::merge_kept(
+            4 => ExplicitField::<ClosedEnum<Shade>>::merge_with_unknowns(
                 &mut self.s,
-                &mut self.rest,
+                &mut self.unknown_fields,
                 alloc,
                 tag,
                 buf,
                 ctx,
             ),
-            5 => Repeated::<ClosedEnum<Shade>>::merge_kept(
+            5 => RepeatedField::<ClosedEnum<Shade>>::merge_with_unknowns(
                 &mut self.list,
-                &mut self.rest,
+                &mut self.unknown_fields,
                 alloc,
                 tag,
                 buf,
                 ctx,
             ),
-            6 => Packed::<ClosedEnum<Shade>>::merge_kept(
+            6 => PackedField::<ClosedEnum<Shade>>::merge_with_unknowns(
                 &mut self.packed,
-                &mut self.rest,
+                &mut self.unknown_fields,
                 alloc,
                 tag,
                 buf,
                 ctx,
             ),
-            7 => OrderedMapOf::<Int32, ClosedEnum<Shade>>::merge_kept(
+            7 => OrderedMapField::<Int32, ClosedEnum<Shade>>::merge_with_unknowns(
                 &mut self.ordered,
-                &mut self.rest,
+                &mut self.unknown_fields,
                 alloc,
                 tag,
                 buf,
                 ctx,
             ),
-            8 => Nested::<Swatch>::merge(&mut self.swatch, alloc, tag, buf, ctx),
-            9 => Group::<Swatch>::merge(&mut self.patch, alloc, tag, buf, ctx),
-            _ => kept::keep(alloc, &mut self.rest, tag, buf, ctx),
+            8 => MessageField::<Swatch>::merge(&mut self.swatch, alloc, tag, buf, ctx),
+            9 => GroupField::<Swatch>::merge(&mut self.patch, alloc, tag, buf, ctx),
+            _ => unknown::keep(alloc, &mut self.unknown_fields, tag, buf, ctx),
         }
     }
 }
 
 impl Blank for Palette {
-    type Meaning = <Palette as Fields>::Meaning;
+    type Meaning = <Palette as MessageFields>::Meaning;
 
-    ghost meaning = { ⟦<Palette as Fields>⟧.layout.meaning };
+    ghost meaning = { ⟦<Palette as MessageFields>⟧.schema.meaning };
 
-    ghost blank_is = { ⟦<Palette as Fields>⟧.layout.blank };
+    ghost blank_is = { ⟦<Palette as MessageFields>⟧.schema.blank };
 
     fn blank(alloc: Global) -> Palette {
         Palette {
@@ -167,19 +168,19 @@ impl Blank for Palette {
             ordered: BTreeMap::new(alloc),
             swatch: None,
             patch: None,
-            rest: UnknownFields::new(alloc),
+            unknown_fields: UnknownFields::new(alloc),
         }
     }
 }
 
-impl Listing for Palette {
+impl FieldsMeaning for Palette {
     ghost means = { λ m. refl };
 
     ghost starts = { refl };
 }
 
-impl Formed for Palette {
-    type Form = Listed;
+impl MessageImpl for Palette {
+    type Impl = FieldByField;
 }
 
 impl Palette {

@@ -1,13 +1,14 @@
 //! buffa.sample.Swatch, made of palette.proto by protoc-gen-buffa.
 
 ghost use Rattle.std.proofs.Common.{lit<, refl};
-ghost use Rattle.buffa_fields.specs.Terms.{field_kept, keep};
+ghost use Rattle.buffa_fields.specs.Terms.{field_with_unknowns, keep_unknown};
 
 use crate::shade::Shade;
 use buffa_fields::map_codec::ClosedEnum;
 use buffa_fields::{
-    And3, Blank, DecodeContext, DecodeError, Fields, Formed, Keeping, KeptFields, Listed, Listing,
-    Member, Optional, Repeated, Tag, UnknownFields, Visitor, kept,
+    And3, Blank, DecodeContext, DecodeError, ExplicitField, FieldByField, FieldsMeaning,
+    KeepsUnknowns, Member, MessageFields, MessageImpl, RepeatedField, Tag, UnknownFields, Unknowns,
+    Visitor, unknown,
 };
 use std::alloc::Global;
 
@@ -22,11 +23,11 @@ pub struct Swatch {
     pub shade: Option<Shade>,
     pub others: Vec<Shade>,
     /// The fields that aren't declared, in order.
-    pub rest: UnknownFields,
+    pub unknown_fields: UnknownFields,
 }
 
-impl Fields for Swatch {
-    type Meaning = And3<Option<i32>, [i32; 0], KeptFields>;
+impl MessageFields for Swatch {
+    type Meaning = And3<Option<i32>, [i32; 0], Unknowns>;
 
     const COST: usize = 64;
 
@@ -34,18 +35,18 @@ impl Fields for Swatch {
 
     ghost positive = { lit< tt };
 
-    ghost layout = { field_kept 1 (λ m. m.shade) ⟦<Optional<ClosedEnum<Shade>> as Member>⟧.shape
-        ⟦<Optional<ClosedEnum<Shade>> as Keeping>⟧.aside (
-        field_kept 2 (λ m. m.others) ⟦<Repeated<ClosedEnum<Shade>> as Member>⟧.shape
-        ⟦<Repeated<ClosedEnum<Shade>> as Keeping>⟧.aside (
-        keep (λ m. m.rest.records))) };
+    ghost schema = { field_with_unknowns 1 (λ m. m.shade) ⟦<ExplicitField<ClosedEnum<Shade>> as Member>⟧.shape
+        ⟦<ExplicitField<ClosedEnum<Shade>> as KeepsUnknowns>⟧.unknowns (
+        field_with_unknowns 2 (λ m. m.others) ⟦<RepeatedField<ClosedEnum<Shade>> as Member>⟧.shape
+        ⟦<RepeatedField<ClosedEnum<Shade>> as KeepsUnknowns>⟧.unknowns (
+        keep_unknown (λ m. m.unknown_fields.records))) };
 
     ghost sound = { refl };
 
     fn visit<V: Visitor>(&self, visitor: &mut V) {
-        visitor.visit_keeping::<Optional<ClosedEnum<Shade>>>(1, &self.shade);
-        visitor.visit_keeping::<Repeated<ClosedEnum<Shade>>>(2, &self.others);
-        visitor.visit_kept(&self.rest);
+        visitor.visit_with_unknowns::<ExplicitField<ClosedEnum<Shade>>>(1, &self.shade);
+        visitor.visit_with_unknowns::<RepeatedField<ClosedEnum<Shade>>>(2, &self.others);
+        visitor.visit_unknown_fields(&self.unknown_fields);
     }
 
     fn take(
@@ -56,51 +57,51 @@ impl Fields for Swatch {
         ctx: DecodeContext<'_>,
     ) -> Result<(), DecodeError> {
         match tag.field_number() {
-            1 => Optional::<ClosedEnum<Shade>>::merge_kept(
+            1 => ExplicitField::<ClosedEnum<Shade>>::merge_with_unknowns(
                 &mut self.shade,
-                &mut self.rest,
+                &mut self.unknown_fields,
                 alloc,
                 tag,
                 buf,
                 ctx,
             ),
-            2 => Repeated::<ClosedEnum<Shade>>::merge_kept(
+            2 => RepeatedField::<ClosedEnum<Shade>>::merge_with_unknowns(
                 &mut self.others,
-                &mut self.rest,
+                &mut self.unknown_fields,
                 alloc,
                 tag,
                 buf,
                 ctx,
             ),
-            _ => kept::keep(alloc, &mut self.rest, tag, buf, ctx),
+            _ => unknown::keep(alloc, &mut self.unknown_fields, tag, buf, ctx),
         }
     }
 }
 
 impl Blank for Swatch {
-    type Meaning = <Swatch as Fields>::Meaning;
+    type Meaning = <Swatch as MessageFields>::Meaning;
 
-    ghost meaning = { ⟦<Swatch as Fields>⟧.layout.meaning };
+    ghost meaning = { ⟦<Swatch as MessageFields>⟧.schema.meaning };
 
-    ghost blank_is = { ⟦<Swatch as Fields>⟧.layout.blank };
+    ghost blank_is = { ⟦<Swatch as MessageFields>⟧.schema.blank };
 
     fn blank(alloc: Global) -> Swatch {
         Swatch {
             shade: None,
             others: Vec::new(alloc),
-            rest: UnknownFields::new(alloc),
+            unknown_fields: UnknownFields::new(alloc),
         }
     }
 }
 
-impl Listing for Swatch {
+impl FieldsMeaning for Swatch {
     ghost means = { λ m. refl };
 
     ghost starts = { refl };
 }
 
-impl Formed for Swatch {
-    type Form = Listed;
+impl MessageImpl for Swatch {
+    type Impl = FieldByField;
 }
 
 const _: () = prove!(size_of::<Swatch>() <= Swatch::COST);

@@ -7,8 +7,8 @@ ghost use Rattle.sample_payment.specs.declared.method.Method.TheVariants.{Card, 
 use crate::transfer::Transfer;
 use buffa_fields::map_codec::{Int32, Str};
 use buffa_fields::{
-    Blank, Case, DecodeContext, DecodeError, Nested, OneOf, Optional, Or, Set, Tag, Visitor,
-    case_reads_back,
+    Blank, Case, DecodeContext, DecodeError, ExplicitField, MessageField, OneOf, Or, Set, Tag,
+    Visitor, case_reads_back,
 };
 use std::alloc::Global;
 use std::string::String;
@@ -28,9 +28,9 @@ pub enum Method {
 impl OneOf for Method {
     type Meaning = Or<[u8; 0], Or<i32, Or<<Transfer as Blank>::Meaning, ()>>>;
 
-    ghost cases = { enum_of (case 2 ⟦<Optional<Str> as Case>⟧.words (
-        case 3 ⟦<Optional<Int32> as Case>⟧.words (
-        case 4 ⟦<Nested<Transfer> as Case>⟧.words (
+    ghost cases = { enum_of (case 2 ⟦<ExplicitField<Str> as Case>⟧.words (
+        case 3 ⟦<ExplicitField<Int32> as Case>⟧.words (
+        case 4 ⟦<MessageField<Transfer> as Case>⟧.words (
         no_case)))) (λ m. elim m [
           | Card x ↦ This x
           | Cash x ↦ Other (This x)
@@ -39,9 +39,9 @@ impl OneOf for Method {
 
     fn visit<V: Visitor>(&self, visitor: &mut V) {
         match self {
-            Method::Card(it) => visitor.visit::<Set<Optional<Str>>>(2, it),
-            Method::Cash(it) => visitor.visit::<Set<Optional<Int32>>>(3, it),
-            Method::Transfer(it) => visitor.visit::<Set<Nested<Transfer>>>(4, it),
+            Method::Card(it) => visitor.visit::<Set<ExplicitField<Str>>>(2, it),
+            Method::Cash(it) => visitor.visit::<Set<ExplicitField<Int32>>>(3, it),
+            Method::Transfer(it) => visitor.visit::<Set<MessageField<Transfer>>>(4, it),
         }
     }
 
@@ -54,21 +54,21 @@ impl OneOf for Method {
     ) -> Result<(), DecodeError> {
         match tag.field_number() {
             2 => {
-                let it = Optional::<Str>::read_value(alloc, tag, buf, ctx)?;
+                let it = ExplicitField::<Str>::read_value(alloc, tag, buf, ctx)?;
                 drop(slot.replace(Method::Card(it)));
                 Ok(())
             }
             3 => {
-                let it = Optional::<Int32>::read_value(alloc, tag, buf, ctx)?;
+                let it = ExplicitField::<Int32>::read_value(alloc, tag, buf, ctx)?;
                 drop(slot.replace(Method::Cash(it)));
                 Ok(())
             }
             4 => match slot {
                 Some(Method::Transfer(it)) => {
-                    Nested::<Transfer>::merge_value(it, alloc, tag, buf, ctx)
+                    MessageField::<Transfer>::merge_value(it, alloc, tag, buf, ctx)
                 }
                 _ => {
-                    let it = Nested::<Transfer>::read_value(alloc, tag, buf, ctx)?;
+                    let it = MessageField::<Transfer>::read_value(alloc, tag, buf, ctx)?;
                     drop(slot.replace(Method::Transfer(it)));
                     Ok(())
                 }
@@ -78,8 +78,8 @@ impl OneOf for Method {
     }
 
     fn reads_back() {
-        case_reads_back::<Optional<Str>>();
-        case_reads_back::<Optional<Int32>>();
-        case_reads_back::<Nested<Transfer>>();
+        case_reads_back::<ExplicitField<Str>>();
+        case_reads_back::<ExplicitField<Int32>>();
+        case_reads_back::<MessageField<Transfer>>();
     }
 }

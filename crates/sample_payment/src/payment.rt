@@ -1,13 +1,14 @@
 //! buffa.sample.Payment, made of payment.proto by protoc-gen-buffa.
 
 ghost use Rattle.std.proofs.Common.{lit<, refl};
-ghost use Rattle.buffa_fields.specs.Terms.{field, keep, one_of};
+ghost use Rattle.buffa_fields.specs.Terms.{field, keep_unknown, one_of};
 
 use crate::method::Method;
 use buffa_fields::map_codec::{Int32, Str};
 use buffa_fields::{
-    And4, Blank, DecodeContext, DecodeError, Fields, Formed, KeptFields, Listed, Listing, Member,
-    OneOf, Plain, Tag, UnknownFields, Visitor, kept, visit_one_of,
+    And4, Blank, DecodeContext, DecodeError, FieldByField, FieldsMeaning, ImplicitField, Member,
+    MessageFields, MessageImpl, OneOf, Tag, UnknownFields, Unknowns, Visitor, unknown,
+    visit_one_of,
 };
 use std::alloc::Global;
 use std::string::String;
@@ -29,11 +30,11 @@ pub struct Payment {
     pub method: Option<Method>,
     pub note: String,
     /// The fields that aren't declared, in order.
-    pub rest: UnknownFields,
+    pub unknown_fields: UnknownFields,
 }
 
-impl Fields for Payment {
-    type Meaning = And4<i32, Option<<Method as OneOf>::Meaning>, [u8; 0], KeptFields>;
+impl MessageFields for Payment {
+    type Meaning = And4<i32, Option<<Method as OneOf>::Meaning>, [u8; 0], Unknowns>;
 
     const COST: usize = 128;
 
@@ -41,18 +42,18 @@ impl Fields for Payment {
 
     ghost positive = { lit< tt };
 
-    ghost layout = { field 1 (λ m. m.amount) ⟦<Plain<Int32> as Member>⟧.shape (
+    ghost schema = { field 1 (λ m. m.amount) ⟦<ImplicitField<Int32> as Member>⟧.shape (
         one_of (λ m. m.method) ⟦<Method as OneOf>⟧.cases (
-        field 5 (λ m. m.note) ⟦<Plain<Str> as Member>⟧.shape (
-        keep (λ m. m.rest.records)))) };
+        field 5 (λ m. m.note) ⟦<ImplicitField<Str> as Member>⟧.shape (
+        keep_unknown (λ m. m.unknown_fields.records)))) };
 
     ghost sound = { refl };
 
     fn visit<V: Visitor>(&self, visitor: &mut V) {
-        visitor.visit::<Plain<Int32>>(1, &self.amount);
+        visitor.visit::<ImplicitField<Int32>>(1, &self.amount);
         visit_one_of(&self.method, visitor);
-        visitor.visit::<Plain<Str>>(5, &self.note);
-        visitor.visit_kept(&self.rest);
+        visitor.visit::<ImplicitField<Str>>(5, &self.note);
+        visitor.visit_unknown_fields(&self.unknown_fields);
     }
 
     fn take(
@@ -63,39 +64,39 @@ impl Fields for Payment {
         ctx: DecodeContext<'_>,
     ) -> Result<(), DecodeError> {
         match tag.field_number() {
-            1 => Plain::<Int32>::merge(&mut self.amount, alloc, tag, buf, ctx),
+            1 => ImplicitField::<Int32>::merge(&mut self.amount, alloc, tag, buf, ctx),
             2 | 3 | 4 => Method::take(&mut self.method, alloc, tag, buf, ctx),
-            5 => Plain::<Str>::merge(&mut self.note, alloc, tag, buf, ctx),
-            _ => kept::keep(alloc, &mut self.rest, tag, buf, ctx),
+            5 => ImplicitField::<Str>::merge(&mut self.note, alloc, tag, buf, ctx),
+            _ => unknown::keep(alloc, &mut self.unknown_fields, tag, buf, ctx),
         }
     }
 }
 
 impl Blank for Payment {
-    type Meaning = <Payment as Fields>::Meaning;
+    type Meaning = <Payment as MessageFields>::Meaning;
 
-    ghost meaning = { ⟦<Payment as Fields>⟧.layout.meaning };
+    ghost meaning = { ⟦<Payment as MessageFields>⟧.schema.meaning };
 
-    ghost blank_is = { ⟦<Payment as Fields>⟧.layout.blank };
+    ghost blank_is = { ⟦<Payment as MessageFields>⟧.schema.blank };
 
     fn blank(alloc: Global) -> Payment {
         Payment {
             amount: 0,
             method: None,
             note: String::new(alloc),
-            rest: UnknownFields::new(alloc),
+            unknown_fields: UnknownFields::new(alloc),
         }
     }
 }
 
-impl Listing for Payment {
+impl FieldsMeaning for Payment {
     ghost means = { λ m. refl };
 
     ghost starts = { refl };
 }
 
-impl Formed for Payment {
-    type Form = Listed;
+impl MessageImpl for Payment {
+    type Impl = FieldByField;
 }
 
 const _: () = prove!(size_of::<Payment>() <= Payment::COST);

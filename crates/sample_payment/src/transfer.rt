@@ -1,12 +1,12 @@
 //! buffa.sample.Transfer, made of payment.proto by protoc-gen-buffa.
 
 ghost use Rattle.std.proofs.Common.{lit<, refl};
-ghost use Rattle.buffa_fields.specs.Terms.{field, keep};
+ghost use Rattle.buffa_fields.specs.Terms.{field, keep_unknown};
 
 use buffa_fields::map_codec::{Int32, Str};
 use buffa_fields::{
-    And3, Blank, DecodeContext, DecodeError, Fields, Formed, KeptFields, Listed, Listing, Member,
-    Plain, Tag, UnknownFields, Visitor, kept,
+    And3, Blank, DecodeContext, DecodeError, FieldByField, FieldsMeaning, ImplicitField, Member,
+    MessageFields, MessageImpl, Tag, UnknownFields, Unknowns, Visitor, unknown,
 };
 use std::alloc::Global;
 use std::string::String;
@@ -22,11 +22,11 @@ pub struct Transfer {
     pub to: String,
     pub day: i32,
     /// The fields that aren't declared, in order.
-    pub rest: UnknownFields,
+    pub unknown_fields: UnknownFields,
 }
 
-impl Fields for Transfer {
-    type Meaning = And3<[u8; 0], i32, KeptFields>;
+impl MessageFields for Transfer {
+    type Meaning = And3<[u8; 0], i32, Unknowns>;
 
     const COST: usize = 56;
 
@@ -34,16 +34,16 @@ impl Fields for Transfer {
 
     ghost positive = { lit< tt };
 
-    ghost layout = { field 1 (λ m. m.to) ⟦<Plain<Str> as Member>⟧.shape (
-        field 2 (λ m. m.day) ⟦<Plain<Int32> as Member>⟧.shape (
-        keep (λ m. m.rest.records))) };
+    ghost schema = { field 1 (λ m. m.to) ⟦<ImplicitField<Str> as Member>⟧.shape (
+        field 2 (λ m. m.day) ⟦<ImplicitField<Int32> as Member>⟧.shape (
+        keep_unknown (λ m. m.unknown_fields.records))) };
 
     ghost sound = { refl };
 
     fn visit<V: Visitor>(&self, visitor: &mut V) {
-        visitor.visit::<Plain<Str>>(1, &self.to);
-        visitor.visit::<Plain<Int32>>(2, &self.day);
-        visitor.visit_kept(&self.rest);
+        visitor.visit::<ImplicitField<Str>>(1, &self.to);
+        visitor.visit::<ImplicitField<Int32>>(2, &self.day);
+        visitor.visit_unknown_fields(&self.unknown_fields);
     }
 
     fn take(
@@ -54,37 +54,37 @@ impl Fields for Transfer {
         ctx: DecodeContext<'_>,
     ) -> Result<(), DecodeError> {
         match tag.field_number() {
-            1 => Plain::<Str>::merge(&mut self.to, alloc, tag, buf, ctx),
-            2 => Plain::<Int32>::merge(&mut self.day, alloc, tag, buf, ctx),
-            _ => kept::keep(alloc, &mut self.rest, tag, buf, ctx),
+            1 => ImplicitField::<Str>::merge(&mut self.to, alloc, tag, buf, ctx),
+            2 => ImplicitField::<Int32>::merge(&mut self.day, alloc, tag, buf, ctx),
+            _ => unknown::keep(alloc, &mut self.unknown_fields, tag, buf, ctx),
         }
     }
 }
 
 impl Blank for Transfer {
-    type Meaning = <Transfer as Fields>::Meaning;
+    type Meaning = <Transfer as MessageFields>::Meaning;
 
-    ghost meaning = { ⟦<Transfer as Fields>⟧.layout.meaning };
+    ghost meaning = { ⟦<Transfer as MessageFields>⟧.schema.meaning };
 
-    ghost blank_is = { ⟦<Transfer as Fields>⟧.layout.blank };
+    ghost blank_is = { ⟦<Transfer as MessageFields>⟧.schema.blank };
 
     fn blank(alloc: Global) -> Transfer {
         Transfer {
             to: String::new(alloc),
             day: 0,
-            rest: UnknownFields::new(alloc),
+            unknown_fields: UnknownFields::new(alloc),
         }
     }
 }
 
-impl Listing for Transfer {
+impl FieldsMeaning for Transfer {
     ghost means = { λ m. refl };
 
     ghost starts = { refl };
 }
 
-impl Formed for Transfer {
-    type Form = Listed;
+impl MessageImpl for Transfer {
+    type Impl = FieldByField;
 }
 
 const _: () = prove!(size_of::<Transfer>() <= Transfer::COST);

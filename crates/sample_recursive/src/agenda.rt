@@ -1,12 +1,12 @@
 //! buffa.sample.Agenda, made of task.proto by protoc-gen-buffa.
 
 ghost use Rattle.std.proofs.Common.{lit<, refl};
-ghost use Rattle.buffa_fields.specs.Terms.{field, keep};
+ghost use Rattle.buffa_fields.specs.Terms.{field, keep_unknown};
 
 use crate::task::Task;
 use buffa_fields::{
-    And, Blank, DecodeContext, DecodeError, Fields, Formed, KeptFields, Listed, Listing, Member,
-    RepeatedNested, Required, Tag, UnknownFields, Visitor, kept,
+    And, Blank, DecodeContext, DecodeError, FieldByField, FieldsMeaning, Member, MessageFields,
+    MessageImpl, RepeatedMessageField, Required, Tag, UnknownFields, Unknowns, Visitor, unknown,
 };
 use std::alloc::Global;
 
@@ -21,11 +21,11 @@ use std::alloc::Global;
 pub struct Agenda {
     pub tasks: Vec<Task>,
     /// The fields that aren't declared, in order.
-    pub rest: UnknownFields,
+    pub unknown_fields: UnknownFields,
 }
 
-impl Fields for Agenda {
-    type Meaning = And<[<Task as Blank>::Meaning; 0], KeptFields>;
+impl MessageFields for Agenda {
+    type Meaning = And<[<Task as Blank>::Meaning; 0], Unknowns>;
 
     const COST: usize = 48;
 
@@ -33,14 +33,14 @@ impl Fields for Agenda {
 
     ghost positive = { lit< tt };
 
-    ghost layout = { field 1 (λ m. m.tasks) ⟦<RepeatedNested<Task> as Member>⟧.shape (
-        keep (λ m. m.rest.records)) };
+    ghost schema = { field 1 (λ m. m.tasks) ⟦<RepeatedMessageField<Task> as Member>⟧.shape (
+        keep_unknown (λ m. m.unknown_fields.records)) };
 
     ghost sound = { refl };
 
     fn visit<V: Visitor>(&self, visitor: &mut V) {
-        visitor.visit::<RepeatedNested<Task>>(1, &self.tasks);
-        visitor.visit_kept(&self.rest);
+        visitor.visit::<RepeatedMessageField<Task>>(1, &self.tasks);
+        visitor.visit_unknown_fields(&self.unknown_fields);
     }
 
     fn take(
@@ -51,35 +51,35 @@ impl Fields for Agenda {
         ctx: DecodeContext<'_>,
     ) -> Result<(), DecodeError> {
         match tag.field_number() {
-            1 => RepeatedNested::<Task>::merge(&mut self.tasks, alloc, tag, buf, ctx),
-            _ => kept::keep(alloc, &mut self.rest, tag, buf, ctx),
+            1 => RepeatedMessageField::<Task>::merge(&mut self.tasks, alloc, tag, buf, ctx),
+            _ => unknown::keep(alloc, &mut self.unknown_fields, tag, buf, ctx),
         }
     }
 }
 
 impl Blank for Agenda {
-    type Meaning = <Agenda as Fields>::Meaning;
+    type Meaning = <Agenda as MessageFields>::Meaning;
 
-    ghost meaning = { ⟦<Agenda as Fields>⟧.layout.meaning };
+    ghost meaning = { ⟦<Agenda as MessageFields>⟧.schema.meaning };
 
-    ghost blank_is = { ⟦<Agenda as Fields>⟧.layout.blank };
+    ghost blank_is = { ⟦<Agenda as MessageFields>⟧.schema.blank };
 
     fn blank(alloc: Global) -> Agenda {
         Agenda {
             tasks: Vec::new(alloc),
-            rest: UnknownFields::new(alloc),
+            unknown_fields: UnknownFields::new(alloc),
         }
     }
 }
 
-impl Listing for Agenda {
+impl FieldsMeaning for Agenda {
     ghost means = { λ m. refl };
 
     ghost starts = { refl };
 }
 
-impl Formed for Agenda {
-    type Form = Listed;
+impl MessageImpl for Agenda {
+    type Impl = FieldByField;
 }
 
 const _: () = prove!(size_of::<Agenda>() <= Agenda::COST);

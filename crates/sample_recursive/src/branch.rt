@@ -1,14 +1,16 @@
 //! buffa.sample.Branch, made of branch.proto by protoc-gen-buffa.
 
 ghost use Rattle.std.proofs.Common.{lit<, refl};
-ghost use Rattle.buffa_recursive.specs.Terms.{keeps, knotted, list_inside, member};
+ghost use Rattle.buffa_recursive.specs.Terms.{keeps_unknown, list_inside, member, recursive_message};
 
 use buffa_fields::map_codec::{Int32, Str};
 use buffa_fields::{
-    Blank, DecodeContext, DecodeError, Formed, Member, Plain, Repeated, Tag, UnknownFields, kept,
+    Blank, DecodeContext, DecodeError, ImplicitField, Member, MessageImpl, RepeatedField, Tag,
+    UnknownFields, unknown,
 };
 use buffa_recursive::{
-    Laid, SelfFields, SelfListed, SelfListing, SelfMerger, SelfVisitor, take_list,
+    InnerMerger, RecursiveFieldByField, RecursiveFields, RecursiveMeaning, RecursiveType,
+    RecursiveVisitor, take_list,
 };
 use std::alloc::Global;
 use std::marker::Model;
@@ -27,54 +29,54 @@ pub struct Branch {
     pub leaves: Vec<i32>,
     pub branches: Vec<Branch>,
     /// The fields that aren't declared, in order.
-    pub rest: UnknownFields,
+    pub unknown_fields: UnknownFields,
 }
 
 impl Model for Branch {
     ghost use Rattle.std.specs.Coded.{codes};
     ghost use Rattle.std.specs.Prelude.{List, ℕ, ℤ};
     ghost use Rattle.std.proofs.Common.{arith};
-    ghost use Rattle.buffa_fields.specs.Terms.{Datum, coded_datum};
-    ghost use Rattle.buffa_recursive.specs.Terms.{Knot, coded_knot, has, has_kept, has_list, knot_height, knot_of, most-of_list};
+    ghost use Rattle.buffa_fields.specs.Terms.{FieldData, coded_field_data};
+    ghost use Rattle.buffa_recursive.specs.Terms.{MessageTree, coded_tree, has, has_list, has_unknown_fields, most-of_list, tree_height, tree_of};
 
-    ghost Value = { Knot (List ℕ × (List ℤ × List (ℕ × Datum))) };
+    ghost Value = { MessageTree (List ℕ × (List ℤ × List (ℕ × FieldData))) };
 
-    ghost coded = { Prim.hlevel (codes, coded_datum, coded_knot) };
+    ghost coded = { Prim.hlevel (codes, coded_field_data, coded_tree) };
 
-    ghost view = { λ m. knot_of (
-        has (⟦<Plain<Str> as Member>⟧.shape.meaning m.name) (
-        has (⟦<Repeated<Int32> as Member>⟧.shape.meaning m.leaves) (
-        has_list m.branches.items (has_kept m.rest.records)))) };
+    ghost view = { λ m. tree_of (
+        has (⟦<ImplicitField<Str> as Member>⟧.shape.meaning m.name) (
+        has (⟦<RepeatedField<Int32> as Member>⟧.shape.meaning m.leaves) (
+        has_list m.branches.items (has_unknown_fields m.unknown_fields.records)))) };
 
-    ghost size = { knot_height };
+    ghost size = { tree_height };
 
     ghost size_decreases = { λ m h. Prim.grind (arith, most-of_list m.branches.items) };
 }
 
-impl Laid for Branch {
+impl RecursiveType for Branch {
     const COST: usize = 96;
 
     ghost COST = { 96 };
 
     ghost positive = { lit< tt };
 
-    ghost laying = { knotted (
-        member 1 ⟦<Plain<Str> as Member>⟧.shape (
-        member 2 ⟦<Repeated<Int32> as Member>⟧.shape (
-        list_inside 3 keeps))) };
+    ghost schema = { recursive_message (
+        member 1 ⟦<ImplicitField<Str> as Member>⟧.shape (
+        member 2 ⟦<RepeatedField<Int32> as Member>⟧.shape (
+        list_inside 3 keeps_unknown))) };
 
     ghost sound = { λ w. refl };
 }
 
-impl SelfFields for Branch {
-    fn visit<V: SelfVisitor<Branch>>(&self, visitor: &mut V) {
-        visitor.visit::<Plain<Str>>(1, &self.name);
-        visitor.visit::<Repeated<Int32>>(2, &self.leaves);
+impl RecursiveFields for Branch {
+    fn visit<V: RecursiveVisitor<Branch>>(&self, visitor: &mut V) {
+        visitor.visit::<ImplicitField<Str>>(1, &self.name);
+        visitor.visit::<RepeatedField<Int32>>(2, &self.leaves);
         visitor.visit_list(3, &self.branches);
-        visitor.visit_kept(&self.rest);
+        visitor.visit_unknown_fields(&self.unknown_fields);
     }
 
-    fn take<I: SelfMerger<Branch>>(
+    fn take<I: InnerMerger<Branch>>(
         &mut self,
         alloc: Global,
         tag: Tag,
@@ -83,10 +85,10 @@ impl SelfFields for Branch {
         inner: &I,
     ) -> Result<(), DecodeError> {
         match tag.field_number() {
-            1 => Plain::<Str>::merge(&mut self.name, alloc, tag, buf, ctx),
-            2 => Repeated::<Int32>::merge(&mut self.leaves, alloc, tag, buf, ctx),
+            1 => ImplicitField::<Str>::merge(&mut self.name, alloc, tag, buf, ctx),
+            2 => RepeatedField::<Int32>::merge(&mut self.leaves, alloc, tag, buf, ctx),
             3 => take_list(&mut self.branches, alloc, tag, buf, ctx, inner),
-            _ => kept::keep(alloc, &mut self.rest, tag, buf, ctx),
+            _ => unknown::keep(alloc, &mut self.unknown_fields, tag, buf, ctx),
         }
     }
 }
@@ -96,26 +98,26 @@ impl Blank for Branch {
 
     ghost meaning = { λ m. m };
 
-    ghost blank_is = { ⟦<Branch as Laid>⟧.laying.into ⟦<Branch as Laid>⟧.laying.blank };
+    ghost blank_is = { ⟦<Branch as RecursiveType>⟧.schema.into ⟦<Branch as RecursiveType>⟧.schema.blank };
 
     fn blank(alloc: Global) -> Branch {
         Branch {
             name: String::new(alloc),
             leaves: Vec::new(alloc),
             branches: Vec::new(alloc),
-            rest: UnknownFields::new(alloc),
+            unknown_fields: UnknownFields::new(alloc),
         }
     }
 }
 
-impl SelfListing for Branch {
+impl RecursiveMeaning for Branch {
     ghost means = { λ m. refl };
 
     ghost starts = { refl };
 }
 
-impl Formed for Branch {
-    type Form = SelfListed;
+impl MessageImpl for Branch {
+    type Impl = RecursiveFieldByField;
 }
 
 const _: () = prove!(size_of::<Branch>() <= Branch::COST);

@@ -1,14 +1,16 @@
 //! buffa.sample.Failure, made of failure.proto by protoc-gen-buffa.
 
 ghost use Rattle.std.proofs.Common.{lit<, refl};
-ghost use Rattle.buffa_recursive.specs.Terms.{keeps, knotted, member, one_inside};
+ghost use Rattle.buffa_recursive.specs.Terms.{keeps_unknown, member, one_inside, recursive_message};
 
 use buffa_fields::map_codec::{Int32, Str};
 use buffa_fields::{
-    Blank, DecodeContext, DecodeError, Formed, Member, Plain, Repeated, Tag, UnknownFields, kept,
+    Blank, DecodeContext, DecodeError, ImplicitField, Member, MessageImpl, RepeatedField, Tag,
+    UnknownFields, unknown,
 };
 use buffa_recursive::{
-    Laid, SelfFields, SelfListed, SelfListing, SelfMerger, SelfVisitor, take_one,
+    InnerMerger, RecursiveFieldByField, RecursiveFields, RecursiveMeaning, RecursiveType,
+    RecursiveVisitor, take_one,
 };
 use std::alloc::Global;
 use std::marker::Model;
@@ -27,7 +29,7 @@ pub struct Failure {
     pub cause: Option<Box<Failure>>,
     pub lines: Vec<i32>,
     /// The fields that aren't declared, in order.
-    pub rest: UnknownFields,
+    pub unknown_fields: UnknownFields,
 }
 
 impl Model for Failure {
@@ -35,47 +37,47 @@ impl Model for Failure {
     ghost use Rattle.std.specs.Option.{option_map};
     ghost use Rattle.std.specs.Prelude.{List, ℕ, ℤ};
     ghost use Rattle.std.proofs.Common.{arith};
-    ghost use Rattle.buffa_fields.specs.Terms.{Datum, coded_datum};
-    ghost use Rattle.buffa_recursive.specs.Terms.{Knot, coded_knot, has, has_kept, has_one, knot_height, knot_of};
+    ghost use Rattle.buffa_fields.specs.Terms.{FieldData, coded_field_data};
+    ghost use Rattle.buffa_recursive.specs.Terms.{MessageTree, coded_tree, has, has_one, has_unknown_fields, tree_height, tree_of};
 
-    ghost Value = { Knot (List ℕ × (List ℤ × List (ℕ × Datum))) };
+    ghost Value = { MessageTree (List ℕ × (List ℤ × List (ℕ × FieldData))) };
 
-    ghost coded = { Prim.hlevel (codes, coded_datum, coded_knot) };
+    ghost coded = { Prim.hlevel (codes, coded_field_data, coded_tree) };
 
-    ghost view = { λ m. knot_of (
-        has (⟦<Plain<Str> as Member>⟧.shape.meaning m.reason) (
+    ghost view = { λ m. tree_of (
+        has (⟦<ImplicitField<Str> as Member>⟧.shape.meaning m.reason) (
         has_one (option_map (λ b. b.value) m.cause) (
-        has (⟦<Repeated<Int32> as Member>⟧.shape.meaning m.lines) (has_kept m.rest.records)))) };
+        has (⟦<RepeatedField<Int32> as Member>⟧.shape.meaning m.lines) (has_unknown_fields m.unknown_fields.records)))) };
 
-    ghost size = { knot_height };
+    ghost size = { tree_height };
 
     ghost size_decreases = { λ m h. Prim.grind arith };
 }
 
-impl Laid for Failure {
+impl RecursiveType for Failure {
     const COST: usize = 88;
 
     ghost COST = { 88 };
 
     ghost positive = { lit< tt };
 
-    ghost laying = { knotted (
-        member 1 ⟦<Plain<Str> as Member>⟧.shape (
+    ghost schema = { recursive_message (
+        member 1 ⟦<ImplicitField<Str> as Member>⟧.shape (
         one_inside 2 (
-        member 3 ⟦<Repeated<Int32> as Member>⟧.shape keeps))) };
+        member 3 ⟦<RepeatedField<Int32> as Member>⟧.shape keeps_unknown))) };
 
     ghost sound = { λ w. refl };
 }
 
-impl SelfFields for Failure {
-    fn visit<V: SelfVisitor<Failure>>(&self, visitor: &mut V) {
-        visitor.visit::<Plain<Str>>(1, &self.reason);
+impl RecursiveFields for Failure {
+    fn visit<V: RecursiveVisitor<Failure>>(&self, visitor: &mut V) {
+        visitor.visit::<ImplicitField<Str>>(1, &self.reason);
         visitor.visit_one(2, &self.cause);
-        visitor.visit::<Repeated<Int32>>(3, &self.lines);
-        visitor.visit_kept(&self.rest);
+        visitor.visit::<RepeatedField<Int32>>(3, &self.lines);
+        visitor.visit_unknown_fields(&self.unknown_fields);
     }
 
-    fn take<I: SelfMerger<Failure>>(
+    fn take<I: InnerMerger<Failure>>(
         &mut self,
         alloc: Global,
         tag: Tag,
@@ -84,10 +86,10 @@ impl SelfFields for Failure {
         inner: &I,
     ) -> Result<(), DecodeError> {
         match tag.field_number() {
-            1 => Plain::<Str>::merge(&mut self.reason, alloc, tag, buf, ctx),
+            1 => ImplicitField::<Str>::merge(&mut self.reason, alloc, tag, buf, ctx),
             2 => take_one(&mut self.cause, alloc, tag, buf, ctx, inner),
-            3 => Repeated::<Int32>::merge(&mut self.lines, alloc, tag, buf, ctx),
-            _ => kept::keep(alloc, &mut self.rest, tag, buf, ctx),
+            3 => RepeatedField::<Int32>::merge(&mut self.lines, alloc, tag, buf, ctx),
+            _ => unknown::keep(alloc, &mut self.unknown_fields, tag, buf, ctx),
         }
     }
 }
@@ -97,26 +99,26 @@ impl Blank for Failure {
 
     ghost meaning = { λ m. m };
 
-    ghost blank_is = { ⟦<Failure as Laid>⟧.laying.into ⟦<Failure as Laid>⟧.laying.blank };
+    ghost blank_is = { ⟦<Failure as RecursiveType>⟧.schema.into ⟦<Failure as RecursiveType>⟧.schema.blank };
 
     fn blank(alloc: Global) -> Failure {
         Failure {
             reason: String::new(alloc),
             cause: None,
             lines: Vec::new(alloc),
-            rest: UnknownFields::new(alloc),
+            unknown_fields: UnknownFields::new(alloc),
         }
     }
 }
 
-impl SelfListing for Failure {
+impl RecursiveMeaning for Failure {
     ghost means = { λ m. refl };
 
     ghost starts = { refl };
 }
 
-impl Formed for Failure {
-    type Form = SelfListed;
+impl MessageImpl for Failure {
+    type Impl = RecursiveFieldByField;
 }
 
 const _: () = prove!(size_of::<Failure>() <= Failure::COST);

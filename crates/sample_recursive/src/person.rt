@@ -2,12 +2,12 @@
 
 ghost use Rattle.std.proofs.Common.{lit<, refl};
 ghost use Rattle.std.specs.Prelude.{is_some};
-ghost use Rattle.buffa_fields.specs.Terms.{field, keep};
+ghost use Rattle.buffa_fields.specs.Terms.{field, keep_unknown};
 
 use buffa_fields::map_codec::Str;
 use buffa_fields::{
-    And, Blank, DecodeContext, DecodeError, Fields, Formed, KeptFields, Listed, Listing, Member,
-    Optional, Required, Tag, UnknownFields, Visitor, kept,
+    And, Blank, DecodeContext, DecodeError, ExplicitField, FieldByField, FieldsMeaning, Member,
+    MessageFields, MessageImpl, Required, Tag, UnknownFields, Unknowns, Visitor, unknown,
 };
 use buffa_recursive::RequiredMeaning;
 use std::alloc::Global;
@@ -22,11 +22,11 @@ use std::string::String;
 pub struct Person {
     pub name: Option<String>,
     /// The fields that aren't declared, in order.
-    pub rest: UnknownFields,
+    pub unknown_fields: UnknownFields,
 }
 
-impl Fields for Person {
-    type Meaning = And<Option<[u8; 0]>, KeptFields>;
+impl MessageFields for Person {
+    type Meaning = And<Option<[u8; 0]>, Unknowns>;
 
     const COST: usize = 56;
 
@@ -34,14 +34,14 @@ impl Fields for Person {
 
     ghost positive = { lit< tt };
 
-    ghost layout = { field 1 (λ m. m.name) ⟦<Optional<Str> as Member>⟧.shape (
-        keep (λ m. m.rest.records)) };
+    ghost schema = { field 1 (λ m. m.name) ⟦<ExplicitField<Str> as Member>⟧.shape (
+        keep_unknown (λ m. m.unknown_fields.records)) };
 
     ghost sound = { refl };
 
     fn visit<V: Visitor>(&self, visitor: &mut V) {
-        visitor.visit::<Optional<Str>>(1, &self.name);
-        visitor.visit_kept(&self.rest);
+        visitor.visit::<ExplicitField<Str>>(1, &self.name);
+        visitor.visit_unknown_fields(&self.unknown_fields);
     }
 
     fn take(
@@ -52,41 +52,41 @@ impl Fields for Person {
         ctx: DecodeContext<'_>,
     ) -> Result<(), DecodeError> {
         match tag.field_number() {
-            1 => Optional::<Str>::merge(&mut self.name, alloc, tag, buf, ctx),
-            _ => kept::keep(alloc, &mut self.rest, tag, buf, ctx),
+            1 => ExplicitField::<Str>::merge(&mut self.name, alloc, tag, buf, ctx),
+            _ => unknown::keep(alloc, &mut self.unknown_fields, tag, buf, ctx),
         }
     }
 }
 
 impl Blank for Person {
-    type Meaning = <Person as Fields>::Meaning;
+    type Meaning = <Person as MessageFields>::Meaning;
 
-    ghost meaning = { ⟦<Person as Fields>⟧.layout.meaning };
+    ghost meaning = { ⟦<Person as MessageFields>⟧.schema.meaning };
 
-    ghost blank_is = { ⟦<Person as Fields>⟧.layout.blank };
+    ghost blank_is = { ⟦<Person as MessageFields>⟧.schema.blank };
 
     fn blank(alloc: Global) -> Person {
         Person {
             name: None,
-            rest: UnknownFields::new(alloc),
+            unknown_fields: UnknownFields::new(alloc),
         }
     }
 }
 
-impl Listing for Person {
+impl FieldsMeaning for Person {
     ghost means = { λ m. refl };
 
     ghost starts = { refl };
 }
 
-impl Formed for Person {
-    type Form = Listed;
+impl MessageImpl for Person {
+    type Impl = FieldByField;
 }
 
 const _: () = prove!(size_of::<Person>() <= Person::COST);
 
 impl RequiredMeaning for Person {
-    ghost meant = { λ y. is_some y.0 };
+    ghost by_meaning = { λ y. is_some y.0 };
 
     fn meaning_initialized(&self) -> bool {
         self.name.is_some()
@@ -94,7 +94,7 @@ impl RequiredMeaning for Person {
 }
 
 impl Required for Person {
-    ghost initialized = { λ m. ⟦<Person as RequiredMeaning>⟧.meant (⟦<Person as Blank>⟧.meaning m) };
+    ghost initialized = { λ m. ⟦<Person as RequiredMeaning>⟧.by_meaning (⟦<Person as Blank>⟧.meaning m) };
 
     fn is_initialized(&self) -> bool {
         self.meaning_initialized()

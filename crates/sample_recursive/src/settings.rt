@@ -1,14 +1,16 @@
 //! buffa.sample.Settings, made of settings.proto by protoc-gen-buffa.
 
 ghost use Rattle.std.proofs.Common.{lit<, refl};
-ghost use Rattle.buffa_recursive.specs.Terms.{keeps, knotted, map_inside, member};
+ghost use Rattle.buffa_recursive.specs.Terms.{keeps_unknown, map_inside, member, recursive_message};
 
 use buffa_fields::map_codec::{Int32, Str};
 use buffa_fields::{
-    Blank, DecodeContext, DecodeError, Formed, Member, Plain, Repeated, Tag, UnknownFields, kept,
+    Blank, DecodeContext, DecodeError, ImplicitField, Member, MessageImpl, RepeatedField, Tag,
+    UnknownFields, unknown,
 };
 use buffa_recursive::{
-    ByKey, Keyed, Laid, SelfFields, SelfListed, SelfListing, SelfMerger, SelfVisitor, take_map,
+    ByKey, InnerMerger, Keyed, RecursiveFieldByField, RecursiveFields, RecursiveMeaning,
+    RecursiveType, RecursiveVisitor, take_map,
 };
 use std::alloc::Global;
 use std::collections::BTreeMap;
@@ -30,54 +32,54 @@ pub struct Settings {
     pub sections: BTreeMap<String, Settings>,
     pub ports: Vec<i32>,
     /// The fields that aren't declared, in order.
-    pub rest: UnknownFields,
+    pub unknown_fields: UnknownFields,
 }
 
 impl Model for Settings {
     ghost use Rattle.std.specs.Coded.{codes};
     ghost use Rattle.std.specs.Prelude.{List, ℕ, ℤ};
     ghost use Rattle.std.proofs.Common.{arith};
-    ghost use Rattle.buffa_fields.specs.Terms.{Datum, coded_datum};
-    ghost use Rattle.buffa_recursive.specs.Terms.{Knot, coded_knot, has, has_kept, has_map, knot_height, knot_of, most-of_map};
+    ghost use Rattle.buffa_fields.specs.Terms.{FieldData, coded_field_data};
+    ghost use Rattle.buffa_recursive.specs.Terms.{MessageTree, coded_tree, has, has_map, has_unknown_fields, most-of_map, tree_height, tree_of};
 
-    ghost Value = { Knot (List ℕ × (List (List ℕ) × (List ℤ × List (ℕ × Datum)))) };
+    ghost Value = { MessageTree (List ℕ × (List (List ℕ) × (List ℤ × List (ℕ × FieldData)))) };
 
-    ghost coded = { Prim.hlevel (codes, coded_datum, coded_knot) };
+    ghost coded = { Prim.hlevel (codes, coded_field_data, coded_tree) };
 
-    ghost view = { λ m. knot_of (
-        has (⟦<Plain<Str> as Member>⟧.shape.meaning m.value) (
+    ghost view = { λ m. tree_of (
+        has (⟦<ImplicitField<Str> as Member>⟧.shape.meaning m.value) (
         has_map ⟦<String as Blank>⟧.meaning m.sections.entries (
-        has (⟦<Repeated<Int32> as Member>⟧.shape.meaning m.ports) (has_kept m.rest.records)))) };
+        has (⟦<RepeatedField<Int32> as Member>⟧.shape.meaning m.ports) (has_unknown_fields m.unknown_fields.records)))) };
 
-    ghost size = { knot_height };
+    ghost size = { tree_height };
 
     ghost size_decreases = { λ m h. Prim.grind (arith, most-of_map ⟦<String as Blank>⟧.meaning m.sections.entries) };
 }
 
-impl Laid for Settings {
+impl RecursiveType for Settings {
     const COST: usize = 96;
 
     ghost COST = { 96 };
 
     ghost positive = { lit< tt };
 
-    ghost laying = { knotted (
-        member 1 ⟦<Plain<Str> as Member>⟧.shape (
+    ghost schema = { recursive_message (
+        member 1 ⟦<ImplicitField<Str> as Member>⟧.shape (
         map_inside 2 ⟦<ByKey<Str> as Keyed>⟧.keys (
-        member 3 ⟦<Repeated<Int32> as Member>⟧.shape keeps))) };
+        member 3 ⟦<RepeatedField<Int32> as Member>⟧.shape keeps_unknown))) };
 
     ghost sound = { λ w. refl };
 }
 
-impl SelfFields for Settings {
-    fn visit<V: SelfVisitor<Settings>>(&self, visitor: &mut V) {
-        visitor.visit::<Plain<Str>>(1, &self.value);
+impl RecursiveFields for Settings {
+    fn visit<V: RecursiveVisitor<Settings>>(&self, visitor: &mut V) {
+        visitor.visit::<ImplicitField<Str>>(1, &self.value);
         visitor.visit_map::<Str>(2, &self.sections);
-        visitor.visit::<Repeated<Int32>>(3, &self.ports);
-        visitor.visit_kept(&self.rest);
+        visitor.visit::<RepeatedField<Int32>>(3, &self.ports);
+        visitor.visit_unknown_fields(&self.unknown_fields);
     }
 
-    fn take<I: SelfMerger<Settings>>(
+    fn take<I: InnerMerger<Settings>>(
         &mut self,
         alloc: Global,
         tag: Tag,
@@ -86,10 +88,10 @@ impl SelfFields for Settings {
         inner: &I,
     ) -> Result<(), DecodeError> {
         match tag.field_number() {
-            1 => Plain::<Str>::merge(&mut self.value, alloc, tag, buf, ctx),
+            1 => ImplicitField::<Str>::merge(&mut self.value, alloc, tag, buf, ctx),
             2 => take_map::<Str, Settings, I>(&mut self.sections, alloc, tag, buf, ctx, inner),
-            3 => Repeated::<Int32>::merge(&mut self.ports, alloc, tag, buf, ctx),
-            _ => kept::keep(alloc, &mut self.rest, tag, buf, ctx),
+            3 => RepeatedField::<Int32>::merge(&mut self.ports, alloc, tag, buf, ctx),
+            _ => unknown::keep(alloc, &mut self.unknown_fields, tag, buf, ctx),
         }
     }
 }
@@ -99,26 +101,26 @@ impl Blank for Settings {
 
     ghost meaning = { λ m. m };
 
-    ghost blank_is = { ⟦<Settings as Laid>⟧.laying.into ⟦<Settings as Laid>⟧.laying.blank };
+    ghost blank_is = { ⟦<Settings as RecursiveType>⟧.schema.into ⟦<Settings as RecursiveType>⟧.schema.blank };
 
     fn blank(alloc: Global) -> Settings {
         Settings {
             value: String::new(alloc),
             sections: BTreeMap::new(alloc),
             ports: Vec::new(alloc),
-            rest: UnknownFields::new(alloc),
+            unknown_fields: UnknownFields::new(alloc),
         }
     }
 }
 
-impl SelfListing for Settings {
+impl RecursiveMeaning for Settings {
     ghost means = { λ m. refl };
 
     ghost starts = { refl };
 }
 
-impl Formed for Settings {
-    type Form = SelfListed;
+impl MessageImpl for Settings {
+    type Impl = RecursiveFieldByField;
 }
 
 const _: () = prove!(size_of::<Settings>() <= Settings::COST);

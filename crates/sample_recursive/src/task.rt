@@ -2,19 +2,20 @@
 
 ghost use Rattle.std.proofs.Common.{lit<, refl};
 ghost use Rattle.std.specs.Prelude.{is_some, ◌&&◌};
-ghost use Rattle.buffa_recursive.specs.Terms.{each_asked, keeps, knotted, list_inside, map_inside, member, member_one_of, one_inside, rest_of, true_if_there};
+ghost use Rattle.buffa_recursive.specs.Terms.{each_asked, keeps_unknown, list_inside, map_inside, member, member_one_of, one_inside, recursive_message, rest_of, true_if_there};
 
 use crate::person::Person;
 use crate::task_at::TaskAt;
 use buffa_fields::map_codec::{Int32, Str};
 use buffa_fields::{
-    Blank, DecodeContext, DecodeError, Formed, Member, OneOf, Optional, RepeatedNested, Required,
-    Tag, UnknownFields, kept,
+    Blank, DecodeContext, DecodeError, ExplicitField, Member, MessageImpl, OneOf,
+    RepeatedMessageField, Required, Tag, UnknownFields, unknown,
 };
 use buffa_recursive::{
-    ByKey, Keyed, Laid, RequiredCases, RequiredMember, SelfAsked, SelfAsker, SelfFields,
-    SelfListed, SelfListing, SelfMerger, SelfRequired, SelfVisitor, list_initialized,
-    map_initialized, one_initialized, take_list, take_map, take_one, take_one_of, tree_initialized,
+    ByKey, InnerMerger, Keyed, RecursiveFieldByField, RecursiveFields, RecursiveMeaning,
+    RecursiveType, RecursiveVisitor, RequiredCases, RequiredMember, SelfAsked, SelfAsker,
+    SelfRequired, list_initialized, map_initialized, one_initialized, take_list, take_map,
+    take_one, take_one_of, tree_initialized,
 };
 use std::alloc::Global;
 use std::collections::BTreeMap;
@@ -49,7 +50,7 @@ pub struct Task {
     pub people: Vec<Person>,
     pub at: Option<TaskAt>,
     /// The fields that aren't declared, in order.
-    pub rest: UnknownFields,
+    pub unknown_fields: UnknownFields,
 }
 
 impl Model for Task {
@@ -57,26 +58,26 @@ impl Model for Task {
     ghost use Rattle.std.specs.Option.{option_map};
     ghost use Rattle.std.specs.Prelude.{List, Option, ℕ, ℤ};
     ghost use Rattle.std.proofs.Common.{arith};
-    ghost use Rattle.buffa_fields.specs.Terms.{Datum, coded_datum, coded_or};
-    ghost use Rattle.buffa_recursive.specs.Terms.{CaseMeaningOf, Knot, MeaningOf, coded_knot, has, has_case, has_kept, has_list, has_map, has_one, knot_height, knot_of, most-of_list, most-of_map};
+    ghost use Rattle.buffa_fields.specs.Terms.{FieldData, coded_field_data, coded_or};
+    ghost use Rattle.buffa_recursive.specs.Terms.{CaseMeaningOf, MeaningOf, MessageTree, coded_tree, has, has_case, has_list, has_map, has_one, has_unknown_fields, most-of_list, most-of_map, tree_height, tree_of};
 
-    ghost Value = { Knot (
+    ghost Value = { MessageTree (
         Option (List ℕ) × (
         List ℤ × (
-        MeaningOf ⟦<RepeatedNested<Person> as Member>⟧.shape × (
-        CaseMeaningOf ⟦<TaskAt as OneOf>⟧.cases × List (ℕ × Datum))))) };
+        MeaningOf ⟦<RepeatedMessageField<Person> as Member>⟧.shape × (
+        CaseMeaningOf ⟦<TaskAt as OneOf>⟧.cases × List (ℕ × FieldData))))) };
 
-    ghost coded = { Prim.hlevel (codes, coded_datum, coded_knot, coded_or) };
+    ghost coded = { Prim.hlevel (codes, coded_field_data, coded_tree, coded_or) };
 
-    ghost view = { λ m. knot_of (
-        has (⟦<Optional<Str> as Member>⟧.shape.meaning m.title) (
+    ghost view = { λ m. tree_of (
+        has (⟦<ExplicitField<Str> as Member>⟧.shape.meaning m.title) (
         has_list m.parts.items (
         has_one (option_map (λ b. b.value) m.before) (
         has_map ⟦<i32 as Blank>⟧.meaning m.by_day.entries (
-        has (⟦<RepeatedNested<Person> as Member>⟧.shape.meaning m.people) (
-        has_case ⟦<TaskAt as OneOf>⟧.cases m.at (has_kept m.rest.records))))))) };
+        has (⟦<RepeatedMessageField<Person> as Member>⟧.shape.meaning m.people) (
+        has_case ⟦<TaskAt as OneOf>⟧.cases m.at (has_unknown_fields m.unknown_fields.records))))))) };
 
-    ghost size = { knot_height };
+    ghost size = { tree_height };
 
     ghost size_decreases = { λ m h. Prim.grind (
       arith,
@@ -85,36 +86,36 @@ impl Model for Task {
     ) };
 }
 
-impl Laid for Task {
+impl RecursiveType for Task {
     const COST: usize = 216;
 
     ghost COST = { 216 };
 
     ghost positive = { lit< tt };
 
-    ghost laying = { knotted (
-        member 1 ⟦<Optional<Str> as Member>⟧.shape (
+    ghost schema = { recursive_message (
+        member 1 ⟦<ExplicitField<Str> as Member>⟧.shape (
         list_inside 2 (
         one_inside 3 (
         map_inside 4 ⟦<ByKey<Int32> as Keyed>⟧.keys (
-        member 5 ⟦<RepeatedNested<Person> as Member>⟧.shape (
-        member_one_of ⟦<TaskAt as OneOf>⟧.cases keeps)))))) };
+        member 5 ⟦<RepeatedMessageField<Person> as Member>⟧.shape (
+        member_one_of ⟦<TaskAt as OneOf>⟧.cases keeps_unknown)))))) };
 
     ghost sound = { λ w. refl };
 }
 
-impl SelfFields for Task {
-    fn visit<V: SelfVisitor<Task>>(&self, visitor: &mut V) {
-        visitor.visit::<Optional<Str>>(1, &self.title);
+impl RecursiveFields for Task {
+    fn visit<V: RecursiveVisitor<Task>>(&self, visitor: &mut V) {
+        visitor.visit::<ExplicitField<Str>>(1, &self.title);
         visitor.visit_list(2, &self.parts);
         visitor.visit_one(3, &self.before);
         visitor.visit_map::<Int32>(4, &self.by_day);
-        visitor.visit::<RepeatedNested<Person>>(5, &self.people);
+        visitor.visit::<RepeatedMessageField<Person>>(5, &self.people);
         visitor.visit_one_of(&self.at);
-        visitor.visit_kept(&self.rest);
+        visitor.visit_unknown_fields(&self.unknown_fields);
     }
 
-    fn take<I: SelfMerger<Task>>(
+    fn take<I: InnerMerger<Task>>(
         &mut self,
         alloc: Global,
         tag: Tag,
@@ -123,14 +124,14 @@ impl SelfFields for Task {
         inner: &I,
     ) -> Result<(), DecodeError> {
         match tag.field_number() {
-            1 => Optional::<Str>::merge(&mut self.title, alloc, tag, buf, ctx),
+            1 => ExplicitField::<Str>::merge(&mut self.title, alloc, tag, buf, ctx),
             2 => take_list(&mut self.parts, alloc, tag, buf, ctx, inner),
             3 => take_one(&mut self.before, alloc, tag, buf, ctx, inner),
             4 => take_map::<Int32, Task, I>(&mut self.by_day, alloc, tag, buf, ctx, inner),
-            5 => RepeatedNested::<Person>::merge(&mut self.people, alloc, tag, buf, ctx),
+            5 => RepeatedMessageField::<Person>::merge(&mut self.people, alloc, tag, buf, ctx),
             6 => take_one_of(&mut self.at, alloc, tag, buf, ctx),
             7 => take_one_of(&mut self.at, alloc, tag, buf, ctx),
-            _ => kept::keep(alloc, &mut self.rest, tag, buf, ctx),
+            _ => unknown::keep(alloc, &mut self.unknown_fields, tag, buf, ctx),
         }
     }
 }
@@ -140,7 +141,7 @@ impl Blank for Task {
 
     ghost meaning = { λ m. m };
 
-    ghost blank_is = { ⟦<Task as Laid>⟧.laying.into ⟦<Task as Laid>⟧.laying.blank };
+    ghost blank_is = { ⟦<Task as RecursiveType>⟧.schema.into ⟦<Task as RecursiveType>⟧.schema.blank };
 
     fn blank(alloc: Global) -> Task {
         Task {
@@ -150,35 +151,35 @@ impl Blank for Task {
             by_day: BTreeMap::new(alloc),
             people: Vec::new(alloc),
             at: None,
-            rest: UnknownFields::new(alloc),
+            unknown_fields: UnknownFields::new(alloc),
         }
     }
 }
 
-impl SelfListing for Task {
+impl RecursiveMeaning for Task {
     ghost means = { λ m. refl };
 
     ghost starts = { refl };
 }
 
-impl Formed for Task {
-    type Form = SelfListed;
+impl MessageImpl for Task {
+    type Impl = RecursiveFieldByField;
 }
 
 const _: () = prove!(size_of::<Task>() <= Task::COST);
 
 impl SelfAsked for Task {
-    ghost tree = { ⟦<Task as Laid>⟧.laying };
+    ghost tree = { ⟦<Task as RecursiveType>⟧.schema };
 
     ghost asking = { each_asked (λ m. is_some (rest_of m).0.0 &&
-        ⟦<RepeatedNested<Person> as RequiredMember>⟧.meant (rest_of m).0.1.1.0 &&
-        true_if_there ⟦<TaskAt as RequiredCases>⟧.meant (rest_of m).0.1.1.1.0) };
+        ⟦<RepeatedMessageField<Person> as RequiredMember>⟧.by_meaning (rest_of m).0.1.1.0 &&
+        true_if_there ⟦<TaskAt as RequiredCases>⟧.by_meaning (rest_of m).0.1.1.1.0) };
 }
 
 impl SelfRequired for Task {
     fn is_initialized_by<I: SelfAsker<Task>>(&self, inner: &I) -> bool {
         self.title.is_some()
-            & RepeatedNested::<Person>::part_initialized(&self.people)
+            & RepeatedMessageField::<Person>::part_initialized(&self.people)
             & TaskAt::case_initialized(&self.at)
             & list_initialized(&self.parts, inner)
             & one_initialized(&self.before, inner)

@@ -9,8 +9,8 @@ ghost use Rattle.sample_recursive.specs.declared.task_at.TaskAt.TheVariants.{Hos
 use crate::person::Person;
 use buffa_fields::map_codec::Int32;
 use buffa_fields::{
-    Blank, Case, DecodeContext, DecodeError, Nested, OneOf, Optional, Or, Required, Set, Tag,
-    Visitor, case_reads_back,
+    Blank, Case, DecodeContext, DecodeError, ExplicitField, MessageField, OneOf, Or, Required, Set,
+    Tag, Visitor, case_reads_back,
 };
 use buffa_recursive::{RequiredCases, RequiredMeaning};
 use std::alloc::Global;
@@ -28,8 +28,8 @@ pub enum TaskAt {
 impl OneOf for TaskAt {
     type Meaning = Or<i32, Or<<Person as Blank>::Meaning, ()>>;
 
-    ghost cases = { enum_of (case 6 ⟦<Optional<Int32> as Case>⟧.words (
-        case 7 ⟦<Nested<Person> as Case>⟧.words (
+    ghost cases = { enum_of (case 6 ⟦<ExplicitField<Int32> as Case>⟧.words (
+        case 7 ⟦<MessageField<Person> as Case>⟧.words (
         no_case))) (λ m. elim m [
           | Room x ↦ This x
           | Host x ↦ Other (This x)
@@ -37,8 +37,8 @@ impl OneOf for TaskAt {
 
     fn visit<V: Visitor>(&self, visitor: &mut V) {
         match self {
-            TaskAt::Room(it) => visitor.visit::<Set<Optional<Int32>>>(6, it),
-            TaskAt::Host(it) => visitor.visit::<Set<Nested<Person>>>(7, it),
+            TaskAt::Room(it) => visitor.visit::<Set<ExplicitField<Int32>>>(6, it),
+            TaskAt::Host(it) => visitor.visit::<Set<MessageField<Person>>>(7, it),
         }
     }
 
@@ -51,14 +51,16 @@ impl OneOf for TaskAt {
     ) -> Result<(), DecodeError> {
         match tag.field_number() {
             6 => {
-                let it = Optional::<Int32>::read_value(alloc, tag, buf, ctx)?;
+                let it = ExplicitField::<Int32>::read_value(alloc, tag, buf, ctx)?;
                 drop(slot.replace(TaskAt::Room(it)));
                 Ok(())
             }
             7 => match slot {
-                Some(TaskAt::Host(it)) => Nested::<Person>::merge_value(it, alloc, tag, buf, ctx),
+                Some(TaskAt::Host(it)) => {
+                    MessageField::<Person>::merge_value(it, alloc, tag, buf, ctx)
+                }
                 _ => {
-                    let it = Nested::<Person>::read_value(alloc, tag, buf, ctx)?;
+                    let it = MessageField::<Person>::read_value(alloc, tag, buf, ctx)?;
                     drop(slot.replace(TaskAt::Host(it)));
                     Ok(())
                 }
@@ -68,8 +70,8 @@ impl OneOf for TaskAt {
     }
 
     fn reads_back() {
-        case_reads_back::<Optional<Int32>>();
-        case_reads_back::<Nested<Person>>();
+        case_reads_back::<ExplicitField<Int32>>();
+        case_reads_back::<MessageField<Person>>();
     }
 }
 
@@ -88,7 +90,7 @@ impl Required for TaskAt {
 }
 
 impl RequiredCases for TaskAt {
-    ghost meant = { by_case (λ _. true) (by_case ⟦<Person as RequiredMeaning>⟧.meant (λ _. true)) };
+    ghost by_meaning = { by_case (λ _. true) (by_case ⟦<Person as RequiredMeaning>⟧.by_meaning (λ _. true)) };
 
     fn case_initialized(part: &Option<TaskAt>) -> bool {
         match part {

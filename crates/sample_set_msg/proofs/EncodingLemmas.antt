@@ -1,7 +1,7 @@
 -- The encoding of a MessageSet, one record after another.
 use Rattle.std.proofs.Common.{◌≡◌, ℕ, ◌<◌, ◌^◌, nat_lt, true, refl, arith}
 use Rattle.std.proofs.lemmas.Bool.{and_parts, ltb-true}
-use Rattle.buffa_wire.specs.Records.{Datum}
+use Rattle.buffa_wire.specs.Records.{FieldData}
 use Rattle.buffa_wire.proofs.ByValueLemmas.{ByValue}
 use Rattle.buffa_bytes.proofs.ShortestLemmas.{ten_at_most}
 use Rattle.buffa_message_set.specs.Item.{item_size}
@@ -18,5 +18,5 @@ item_fits n len h k =
     omega (arith, ten_at_most n (omega (arith, small)), ten_at_most len (omega (arith, k)), k)
 
 -- ---- records
-abbrev pub set_by_value : ByValue (ℕ × Datum)
+abbrev pub set_by_value : ByValue (ℕ × FieldData)
 set_by_value = record { list = set_encoding; value = λ r. set_record_encoding r.0 r.1; none = refl; next = λ r rs. refl }

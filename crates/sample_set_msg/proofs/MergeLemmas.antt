@@ -1,6 +1,6 @@
 -- Merging fields into a MessageSet, one after another, up to a refused one.
 use Rattle.std.proofs.Common.{◌≡◌, ◌≢◌, inr, ℕ, ◌<◌, List, length, Ok, sym, subst}
-use Rattle.buffa_bytes.specs.Front.{tag_at}
+use Rattle.buffa_bytes.specs.Readings.{tag_at}
 use Rattle.buffa_bytes.specs.declared.wire_type.WireType.{WireType}
 use Rattle.buffa_bytes.specs.declared.wire_type.WireType.TheVariants.{EndGroup}
 use Rattle.buffa_bytes.specs.declared.error.DecodeError.{DecodeError}
@@ -10,16 +10,16 @@ use Rattle.buffa_wire.proofs.TakesLemmas.{cost_by_is, merged_by_is}
 use Rattle.buffa_wire.specs.Takes.{taken_by}
 use Rattle.buffa_wire.specs.BudgetLeft.{BudgetLeft}
 use Rattle.buffa_wire.specs.Message.{BeginsField}
-use Rattle.buffa_wire.specs.Records.{Datum}
+use Rattle.buffa_wire.specs.Records.{FieldData}
 use Rattle.buffa_wire.proofs.MergeLoopLemmas.{CameTo}
-use Rattle.sample_set_msg.specs.Set.{IsSetFieldRefused, NextIsRefused, StopsBehind, set_cost, set_field, set_merged, set_need}
+use Rattle.sample_set_msg.specs.Set.{IsSetFieldRefused, NextIsRefused, StopsBehind, set_cost, set_field, set_merged, set_charge}
 use Rattle.sample_set_msg.specs.SetFacts.{set_same, set_sound, set_stays}
 
 abbrev Values : Type 0
-Values = List (ℕ × Datum)
+Values = List (ℕ × FieldData)
 
-pub by_payloads : ByPayload (λ d. taken_by (set_field d)) set_need set_merged set_cost
-by_payloads = by_payload set_stays (merged_by_is set_field set_sound set_same) (cost_by_is set_need)
+pub by_payloads : ByPayload (λ d. taken_by (set_field d)) set_charge set_merged set_cost
+by_payloads = by_payload set_stays (merged_by_is set_field set_sound set_same) (cost_by_is set_charge)
 
 -- ---- what merge promises of a refusal
 module _ {d : ℕ} {old : Values} {all : List ℕ} {before : BudgetLeft} {v : Values} {bs : List ℕ} {now : BudgetLeft} (came : CameTo set_merged set_cost d old all before v bs now) (e : DecodeError) (some : 0 < length bs) where

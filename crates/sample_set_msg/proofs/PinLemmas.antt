@@ -6,25 +6,25 @@ use Rattle.buffa_bytes.proofs.FieldLemmas.{one_field, tag_complete}
 use Rattle.buffa_bytes.specs.Field.{IsTag, Payload, SomeField}
 use Rattle.buffa_bytes.specs.Join.{Join}
 use Rattle.buffa_bytes.specs.Join.Join.{none, more}
-use Rattle.buffa_bytes.specs.Front.{tag_at}
+use Rattle.buffa_bytes.specs.Readings.{tag_at}
 use Rattle.buffa_bytes.specs.declared.wire_type.WireType.{WireType}
 use Rattle.buffa_bytes.specs.declared.error.DecodeError.{DecodeError}
 use Rattle.buffa_bytes.specs.declared.error.DecodeError.TheVariants.{OutOfMemory}
 use Rattle.buffa_bytes.proofs.SequenceLemmas.{err_same, ok_same}
 use Rattle.buffa_wire.proofs.SpentLemmas.{same_left}
 use Rattle.buffa_wire.specs.BudgetLeft.{BudgetLeft, Lacks, Pays, plus}
-use Rattle.buffa_wire.specs.Records.{Datum}
+use Rattle.buffa_wire.specs.Records.{FieldData}
 use Rattle.buffa_wire.proofs.CostLemmas.{field_alone}
 use Rattle.buffa_wire.specs.ByField.{value_of}
 use Rattle.buffa_wire.proofs.ByFieldLemmas.{Same, refused}
-use Rattle.sample_set_msg.specs.Set.{IsSetFieldRefused, NextIsRefused, StopsBehind, record_of_field, set_cost, set_field, set_merged, set_need}
+use Rattle.sample_set_msg.specs.Set.{IsSetFieldRefused, NextIsRefused, StopsBehind, record_of_field, set_cost, set_field, set_merged, set_charge}
 use Rattle.sample_set_msg.specs.SetFacts.{set_same, set_sound, set_stays}
 use Rattle.sample_set_msg.proofs.MergeLemmas.{by_payloads}
 use Rattle.buffa_wire.proofs.ByPayloadLemmas.{cost_empty, cost_next, merged_empty, merged_next}
 use Rattle.std.proofs.lemmas.Option.{same_Some}
 
 abbrev Values : Type 0
-Values = List (ℕ × Datum)
+Values = List (ℕ × FieldData)
 
 module _ (d : ℕ) where
   -- a field that is merged, and whose cost is there, isn't refused
@@ -33,15 +33,15 @@ module _ (d : ℕ) where
     abbrev rest : List ℕ
     rest = p ++ (q ++ s)
 
-    need : set_need d n w rest ≡ set_cost d (t ++ p)
-    need = set_stays d n w p (q ++ s) payload ∙ sym (field_alone (set_need d) d (set_stays d) t p n w tag payload)
+    charge : set_charge d n w rest ≡ set_cost d (t ++ p)
+    charge = set_stays d n w p (q ++ s) payload ∙ sym (field_alone (set_charge d) d (set_stays d) t p n w tag payload)
 
     costs : set_cost d ((t ++ p) ++ q) ≡ plus (set_cost d (t ++ p)) (set_cost d q)
     costs = cost_next by_payloads d (t ++ p) q (n, w, (t, p, tag, payload, refl))
 
-    enough : Lacks left (set_need d n w rest) → ⊥
-    enough (inl few) = omega (arith, few, pays.0, ap (λ z. z.unknown) need, ap (λ z. z.unknown) costs)
-    enough (inr few) = omega (arith, few, pays.1, ap (λ z. z.memory) need, ap (λ z. z.memory) costs)
+    enough : Lacks left (set_charge d n w rest) → ⊥
+    enough (inl few) = omega (arith, few, pays.0, ap (λ z. z.unknown) charge, ap (λ z. z.unknown) costs)
+    enough (inr few) = omega (arith, few, pays.1, ap (λ z. z.memory) charge, ap (λ z. z.memory) costs)
 
     means_some : Same (set_field d v n w) p → value_of (set_field d v n w rest) ≡ None → ⊥
     means_some (inl (u, k)) nothing_is = let bad = sym (ap value_of (k (q ++ s))) ∙ nothing_is in cc
@@ -120,7 +120,7 @@ one_fault d v bs left e f (inr (n, w, after, tag, why)) (inl b) = let bad = sym 
 one_fault d v bs left e f (inr (n, w, after, tag, why)) (inr (m, u, behind_tag, also, because)) =
     err_same (sym why.1 ∙ ap (λ z. record_of_field d left.unknown z.0 z.1 z.2) (ok_same (sym tag ∙ also)) ∙ because.1)
 
-pub stop_is_pinned : (d : ℕ) (old a b : List (ℕ × Datum)) (bs : List ℕ) (before x y : BudgetLeft) (e f : DecodeError) →
+pub stop_is_pinned : (d : ℕ) (old a b : List (ℕ × FieldData)) (bs : List ℕ) (before x y : BudgetLeft) (e f : DecodeError) →
     StopsBehind d old bs before e a x → StopsBehind d old bs before f b y → e ≢ OutOfMemory → f ≢ OutOfMemory → (a ≡ b) × (x ≡ y) × (e ≡ f)
 stop_is_pinned d old a b bs before x y e h (f, r, j, is, some, ma, px, na, fa) (g, s, k, is2, some2, mb, py, nb, fb) ne nh =
     let same = one_front d f g j k r s old a b before x y e h (sym is ∙ is2) ma mb px py (na ne) (nb nh) in

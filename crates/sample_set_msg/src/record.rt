@@ -2,12 +2,12 @@
 
 ghost use Rattle.std.specs.Prelude.{◌≡◌, ◌≢◌, length, min};
 ghost use Rattle.buffa_bytes.specs.declared.wire_type.WireType.TheVariants.{EndGroup};
-ghost use Rattle.buffa_bytes.specs.Front.{FullOnlyIf, GivesUnlessFull};
-ghost use Rattle.buffa_wire.specs.View.{datum_of, record_of};
+ghost use Rattle.buffa_bytes.specs.Readings.{FullOnlyIf, GivesUnlessFull};
+ghost use Rattle.buffa_wire.specs.View.{field_data_of, record_of};
 ghost use Rattle.buffa_bytes.specs.Written.{UsesRoom, Writes};
 ghost use Rattle.sample_set_msg.specs.Set.{is_type_id, record_of_field, set_record_encoding, starts};
 
-use buffa_fields::kept::read_alone;
+use buffa_fields::messages::unknown::read_alone;
 use buffa_message_set::message_set::{item_encoded_len, merge_item, write_item};
 use buffa_wire::{
     Budget, DecodeContext, DecodeError, EncodeError, EncodeSink, Tag, UnknownField,
@@ -67,7 +67,7 @@ pub(crate) fn read_record(
 
 // The length of a record's encoding, or 2^64 - 1 where it is longer.
 pub(crate) fn record_len(field: &UnknownField) -> u64
-    ensures { result ≡ min (length (set_record_encoding field.now.number (datum_of field.now.payload)))
+    ensures { result ≡ min (length (set_record_encoding field.now.number (field_data_of field.now.payload)))
         18446744073709551615 }
 {
     match &field.payload {
@@ -89,9 +89,9 @@ pub(crate) fn write_record<S: EncodeSink>(
     field: &UnknownField,
     sink: &mut S,
 ) -> Result<(), EncodeError>
-    ensures writes { Writes result (S.written sink.old) (set_record_encoding field.now.number (datum_of field.now.payload))
+    ensures writes { Writes result (S.written sink.old) (set_record_encoding field.now.number (field_data_of field.now.payload))
         (S.written sink.new) }
-    ensures room { UsesRoom result (S.room sink.old) (set_record_encoding field.now.number (datum_of field.now.payload))
+    ensures room { UsesRoom result (S.room sink.old) (set_record_encoding field.now.number (field_data_of field.now.payload))
         (S.room sink.new) }
 {
     match &field.payload {

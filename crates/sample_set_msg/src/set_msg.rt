@@ -3,20 +3,20 @@
 ghost use Rattle.std.specs.Prelude.{◌≡◌, ◌≢◌, [], codes, length, min, refl, IfErr, IsOk, OnOk};
 ghost use Rattle.buffa_bytes.specs.declared.wire_type.WireType.TheVariants.{EndGroup};
 ghost use Rattle.buffa_wire.specs.BudgetLeft.{budget_left};
-ghost use Rattle.buffa_bytes.specs.Front.{FullOnlyIf};
-ghost use Rattle.buffa_bytes.specs.Left.{IsTailOf};
-ghost use Rattle.buffa_wire.specs.Message.{BeginsField, MergesBytes, MergesField, Stands};
+ghost use Rattle.buffa_bytes.specs.Readings.{FullOnlyIf};
+ghost use Rattle.buffa_bytes.specs.Unread.{IsTailOf};
+ghost use Rattle.buffa_wire.specs.Message.{BeginsField, MergesBytes, MergesField, PartlyMerged};
 ghost use Rattle.buffa_wire.specs.Passes.{IsSized, IsWritten};
 ghost use Rattle.buffa_bytes.specs.Written.{UsesRoom, Writes};
 ghost use Rattle.buffa_wire.specs.Takes.{taken_by};
 ghost use Rattle.buffa_wire.proofs.TakesLemmas.{cost_by_is, merged_by_is};
 ghost use Rattle.sample_set_msg.specs.Set.{AreItems, IsSetRefused, StopsBehind, TakesSetField, set_cost, set_levels, set_merged, set_records, set_encoding};
-ghost use Rattle.sample_set_msg.specs.Set.{set_field, set_need};
+ghost use Rattle.sample_set_msg.specs.Set.{set_field, set_charge};
 ghost use Rattle.sample_set_msg.specs.SetFacts.{set_back, set_cost_some, set_encoding_records, set_same, set_sound, set_stays, set_valid};
 
 use crate::record::{read_record, record_len, write_record};
 use buffa_ext::ExtensionSet;
-use buffa_fields::kept::KeptFields;
+use buffa_fields::meaning::Unknowns;
 use buffa_wire::{
     Blank, Budget, Buf, DecodeContext, DecodeError, EncodeError, EncodeSink, Message, MessageSpec,
     SizeCache, Tag, UnknownFields, capped,
@@ -40,7 +40,7 @@ pub struct SetMsg {
 }
 
 impl Blank for SetMsg {
-    type Meaning = KeptFields;
+    type Meaning = Unknowns;
 
     ghost meaning = { λ m. m.fields.records };
 
@@ -88,7 +88,7 @@ impl MessageSpec for SetMsg {
 
     ghost takes = { λ d. taken_by (set_field d) };
 
-    ghost need = { set_need };
+    ghost charge = { set_charge };
 
     ghost merged = { set_merged };
 
@@ -118,7 +118,7 @@ impl MessageSpec for SetMsg {
 
     ghost merged_is = { merged_by_is set_field set_sound set_same };
 
-    ghost cost_is = { cost_by_is set_need };
+    ghost cost_is = { cost_by_is set_charge };
 }
 
 // The length of the encoding, or 2^64 - 1 where it is longer.
@@ -197,7 +197,7 @@ impl Message for SetMsg {
     ) -> Result<(), DecodeError>
         ensures merged { MergesBytes set_merged set_cost ctx.entry.depth self.old.fields.records buf.old.now
             ctx.entry.budget.now result self.new.fields.records (budget_left ctx.exit) }
-        ensures stands { IfErr result (λ e. Stands set_merged set_cost IsSetRefused ctx.entry.depth
+        ensures partly { IfErr result (λ e. PartlyMerged set_merged set_cost IsSetRefused ctx.entry.depth
             self.old.fields.records buf.old.now ctx.entry.budget.now e self.new.fields.records) }
         ensures full { FullOnlyIf result (BeginsField buf.old.now) }
         ensures read { OnOk result (buf.new.now ≡ []) }

@@ -4,11 +4,11 @@ ghost use Rattle.std.specs.Prelude.{◌≡◌, ◌++◌};
 
 use crate::messages::Stock;
 use buffa_fields::map_codec::{Int32, Str};
-use buffa_fields::{MapOf, Member, MessageSpec, Plain};
+use buffa_fields::{ImplicitField, MapField, Member, MessageSpec};
 
 /// Under which numbers the members of a stock are written, and in which order; what is kept comes last. Nothing is left out.
 pub fn stocks_are_written_so()
     ensures { (v : _) → ⟦<Stock as MessageSpec>⟧.records v
-        ≡ ⟦<Plain<Str> as Member>⟧.shape.records 1 v.0
-        ++ (⟦<MapOf<Str, Int32> as Member>⟧.shape.records 5 v.1.0 ++ v.1.1) }
+        ≡ ⟦<ImplicitField<Str> as Member>⟧.shape.records 1 v.0
+        ++ (⟦<MapField<Str, Int32> as Member>⟧.shape.records 5 v.1.0 ++ v.1.1) }
 {}

@@ -2,7 +2,7 @@
 use Rattle.std.proofs.Common.{◌∙◌, ap}
 use Rattle.std.specs.Option.{option_map}
 use Rattle.std.specs.Prelude.{◌≡◌, ℕ, zero, suc, List, [], ◌∷◌, length, Option, Some, None, Result, Ok, Err, refl}
-use Rattle.buffa_bytes.specs.Front.{skip_at, tag_at}
+use Rattle.buffa_bytes.specs.Readings.{skip_at, tag_at}
 use Rattle.buffa_bytes.specs.Scan.{parsed, scan, scan_within, step_then, parse_all, parse_step}
 use Rattle.buffa_bytes.specs.declared.error.DecodeError.{DecodeError}
 use Rattle.buffa_bytes.specs.declared.error.DecodeError.TheVariants.{UnexpectedEof}
@@ -58,6 +58,6 @@ module _ {X Y : Type 0} (to : X → Y) (f : Taker X) (g : Taker Y) (d : ℕ) (sa
   valued (Err e) = refl
 
   -- all bytes make of the one what they make of the other
-  pub merged_as_told : (x : X) (bs : List ℕ) → merged_of g d (to x) bs ≡ option_map to (merged_of f d x bs)
+  pub merged_by_semantics : (x : X) (bs : List ℕ) → merged_of g d (to x) bs ≡ option_map to (merged_of f d x bs)
   unfolding merged_of parse_all scan
-  merged_as_told x bs = ap value_of (within_made (suc (length bs)) x bs) ∙ valued _
+  merged_by_semantics x bs = ap value_of (within_made (suc (length bs)) x bs) ∙ valued _

@@ -8,18 +8,18 @@ use Rattle.buffa_bytes.proofs.StepLemmas.{Agrees, agree_bind, agree_if}
 use Rattle.buffa_bytes.proofs.TailLemmas.{tail_shorter}
 use Rattle.buffa_bytes.proofs.WireLemmas.{check_differs, check_sound, checked_same}
 use Rattle.buffa_bytes.specs.Field.{TakesDelimited}
-use Rattle.buffa_bytes.specs.Front.{check_wire, delimited_at, skip_at, tag_at, ◌>>=◌}
-use Rattle.buffa_bytes.specs.Left.{IsTailOf}
+use Rattle.buffa_bytes.specs.Readings.{check_wire, delimited_at, skip_at, tag_at, ◌>>=◌}
+use Rattle.buffa_bytes.specs.Unread.{IsTailOf}
 use Rattle.buffa_bytes.specs.declared.error.DecodeError.{DecodeError}
 use Rattle.buffa_bytes.specs.declared.error.DecodeError.TheVariants.{WireTypeMismatch}
 use Rattle.buffa_bytes.specs.declared.wire_type.WireType.{WireType}
 use Rattle.buffa_bytes.specs.declared.wire_type.WireType.TheVariants.{LengthDelimited}
 use Rattle.buffa_wire.specs.BudgetLeft.{BudgetLeft, IsLimit, Lacks}
 use Rattle.buffa_map.proofs.EntryLemmas.{entry_complete, entry_faulty, entry_sound}
-use Rattle.buffa_map.proofs.NeedLemmas.{need_free}
+use Rattle.buffa_map.proofs.ChargeLemmas.{charge_free}
 use Rattle.buffa_map.proofs.TailLemmas.{tail_behind}
 use Rattle.buffa_map.specs.Entry.{EntryFault, EntryOf}
-use Rattle.buffa_map.specs.EntryReading.{blanks, entry_of, need_of}
+use Rattle.buffa_map.specs.EntryReading.{blanks, entry_of, charge_of}
 use Rattle.buffa_map.specs.Pairs.{put}
 use Rattle.buffa_map.specs.Run.{step}
 use Rattle.buffa_map.specs.Scalars.{int32_reading, text_reading}
@@ -92,9 +92,9 @@ module _ (d : ℕ) where
     other_passed other skipped is = field_merged (census_field d) census_shortens es bs mid n w tag new rest (rw is (other_kept es mid n w rest other skipped))
 
   -- ---- a refusal
-  no_lack : (cost : ℕ) (left : BudgetLeft) (p : List ℕ) → cost ≤ left.memory → Lacks left (need_of text_reading int32_reading d cost p) → ⊥
+  no_lack : (cost : ℕ) (left : BudgetLeft) (p : List ℕ) → cost ≤ left.memory → Lacks left (charge_of text_reading int32_reading d cost p) → ⊥
   no_lack cost left p enough lacks =
-      let free = need_free text_reading int32_reading d (λ _ _ _. refl) (λ _ _ _. refl) (blanks text_reading int32_reading d) p (refl, refl) in
+      let free = charge_free text_reading int32_reading d (λ _ _ _. refl) (λ _ _ _. refl) (blanks text_reading int32_reading d) p (refl, refl) in
       elim lacks [ inl few ↦ absurd (omega (arith, few, ap (λ z. z.unknown) free)) | inr few ↦ absurd (omega (arith, enough, few, ap (λ z. z.memory) free)) ]
 
   -- an entry that is refused, and for no limit, is none

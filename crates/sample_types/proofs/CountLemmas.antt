@@ -3,7 +3,7 @@ use Rattle.std.proofs.Common.{◌≡◌, ◌≢◌, ℕ, ◌+◌, ◌-◌, ◌^�
 use Rattle.std.proofs.lemmas.Bool.{ne_eqb}
 use Rattle.buffa_bytes.proofs.StepLemmas.{agree_weaker}
 use Rattle.buffa_bytes.proofs.WireLemmas.{check_differs}
-use Rattle.buffa_bytes.specs.Front.{skip_at, varint_at}
+use Rattle.buffa_bytes.specs.Readings.{skip_at, varint_at}
 use Rattle.buffa_bytes.specs.declared.error.DecodeError.{DecodeError}
 use Rattle.buffa_bytes.specs.declared.error.DecodeError.TheVariants.{WireTypeMismatch}
 use Rattle.buffa_bytes.specs.declared.wire_type.WireType.{WireType}

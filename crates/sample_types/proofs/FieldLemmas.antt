@@ -1,7 +1,7 @@
 -- What the samples say of a refused field.
 use Rattle.std.proofs.Common.{◌≡◌, ℕ, List, Result, Ok, Err}
 use Rattle.std.specs.Prelude.{IfErr, OnErr}
-use Rattle.buffa_bytes.specs.Front.{Gives}
+use Rattle.buffa_bytes.specs.Readings.{Gives}
 use Rattle.buffa_bytes.specs.declared.error.DecodeError.{DecodeError}
 use Rattle.buffa_bytes.specs.declared.wire_type.WireType.{WireType}
 use Rattle.buffa_wire.specs.BudgetLeft.{BudgetLeft}

@@ -3,7 +3,7 @@ use Rattle.std.proofs.Common.{◌≡◌, ◌≢◌, ℕ, ◌<◌, ◌≤◌, Lis
 use Rattle.buffa_bytes.proofs.FieldLemmas.{tag_falls, tag_some, tag_sound}
 use Rattle.buffa_bytes.proofs.SequenceLemmas.{Falls, along_err, along_none, along_ok, has_byte}
 use Rattle.buffa_bytes.proofs.StepLemmas.{Agrees, agree_bind, agree_ok, agree_weaker}
-use Rattle.buffa_bytes.specs.Front.{tag_at}
+use Rattle.buffa_bytes.specs.Readings.{tag_at}
 use Rattle.buffa_bytes.specs.declared.error.DecodeError.{DecodeError}
 use Rattle.buffa_bytes.specs.declared.wire_type.WireType.{WireType}
 use Rattle.buffa_wire.specs.ByField.{FieldReader, merged_by, next_at, value_of}

@@ -5,19 +5,19 @@ use Rattle.buffa_bytes.specs.declared.error.DecodeError.{DecodeError}
 use Rattle.buffa_bytes.specs.declared.error.DecodeError.TheVariants.{OutOfMemory}
 use Rattle.buffa_bytes.specs.declared.wire_type.WireType.{WireType}
 use Rattle.buffa_bytes.specs.declared.wire_type.WireType.TheVariants.{Varint, Fixed64, LengthDelimited, StartGroup, EndGroup, Fixed32}
-use Rattle.buffa_bytes.specs.Content.{Content, number_in}
-use Rattle.buffa_bytes.specs.Content.Content.{number}
+use Rattle.buffa_bytes.specs.PayloadValue.{PayloadValue, number_in}
+use Rattle.buffa_bytes.specs.PayloadValue.PayloadValue.{number}
 use Rattle.buffa_bytes.specs.Field.{Payload}
-use Rattle.buffa_bytes.specs.Front.{check_wire, varint_at, ◌>>=◌, FullOnlyIf, Gives}
+use Rattle.buffa_bytes.specs.Readings.{check_wire, varint_at, ◌>>=◌, FullOnlyIf, Gives}
 use Rattle.buffa_bytes.specs.Values.{int32_of}
 use Rattle.buffa_bytes.proofs.VarintLemmas.{varint_complete}
 use Rattle.buffa_bytes.proofs.SequenceLemmas.{err_same}
 use Rattle.buffa_wire.specs.BudgetLeft.{BudgetLeft, nothing}
 use Rattle.buffa_wire.specs.Records.{varint}
 use Rattle.buffa_fields.specs.facts.BlankFacts.{is_zero}
-use Rattle.buffa_fields.specs.MemberRecords.{plain_records}
+use Rattle.buffa_fields.specs.MemberRecords.{implicit_records}
 use Rattle.buffa_wire.specs.Takes.{IsTaken, cost_of, costs_nothing}
-use Rattle.buffa_fields.specs.Layout.{both_need}
+use Rattle.buffa_fields.specs.Schema.{both_charge}
 use Rattle.buffa_wire.proofs.TakesLemmas.{cost_of_free}
 use Rattle.buffa_fields.specs.Values.{RefusesAlone, ValueTakesMemory, free, value_taken}
 use Rattle.sample_types.specs.Fields.{int32_field, number_records}
@@ -37,10 +37,10 @@ module _ {X : Type 0} (put : ℤ → X) (d n : ℕ) (v : ℤ) where
   taken_by EndGroup p rest u h t = cc
   taken_by Fixed32 p rest u h t = cc
 
-  abbrev content : ℕ × List ℕ → Result (Content × List ℕ) DecodeError
+  abbrev content : ℕ × List ℕ → Result (PayloadValue × List ℕ) DecodeError
   content x = Ok (number x.0, x.1)
 
-  abbrev value : Content × List ℕ → Result ((ℤ × Bool) × List ℕ) DecodeError
+  abbrev value : PayloadValue × List ℕ → Result ((ℤ × Bool) × List ℕ) DecodeError
   value x = Ok ((int32_of (number_in x.0), true), x.1)
 
   abbrev int32 : ℕ × List ℕ → Result (ℤ × List ℕ) DecodeError
@@ -65,9 +65,9 @@ module _ {X : Type 0} (put : ℤ → X) (d n : ℕ) (v : ℤ) where
   member_read w bs before (Err e) u after rest (k, why, end) full refused =
       let unknown : after.unknown ≡ before.unknown = omega (arith, k.0, k.1, k.2, k.3) in
       let memory : after.memory ≡ before.memory = omega (arith, k.0, k.1, k.2, k.3) in
-      let told = refused e refl in
+      let semantics = refused e refl in
       let none : e ≢ OutOfMemory = λ is. let asked = (full is).1 in cc in
-      (same_fault (check_wire n Varint w) (varint_at bs) e (told.1 none), ap put (sym told.0), λ i. record { unknown = unknown i; memory = memory i })
+      (same_fault (check_wire n Varint w) (varint_at bs) e (semantics.1 none), ap put (sym semantics.0), λ i. record { unknown = unknown i; memory = memory i })
 
 -- ---- any other field
 pub other_read : {X : Type 0} (v : X) (read : Result (List ℕ) DecodeError) (r : Result (Unit {0}) DecodeError) (before after : BudgetLeft) (rest : List ℕ) →
@@ -86,26 +86,26 @@ abbrev pub TwoIsRead : Result ((ℤ × ℤ) × List ℕ) DecodeError → ℤ × 
 TwoIsRead field old r new before after rest = IsReadAlone field old r new before after rest
 
 -- ---- records
-pub plain_is : (n : ℕ) (v : ℤ) → plain_records is_zero (λ x. varint (cast_unsigned w64 x)) n v ≡ number_records n v
-unfolding plain_records
+pub plain_is : (n : ℕ) (v : ℤ) → implicit_records is_zero (λ x. varint (cast_unsigned w64 x)) n v ≡ number_records n v
+unfolding implicit_records
 plain_is n (pos zero) = refl
 plain_is n (pos (suc k)) = refl
 plain_is n (negsuc k) = refl
 
 -- those of one member, and of two
-pub flat_written : (v : ℤ) → plain_records is_zero (λ x. varint (cast_unsigned w64 x)) 1 v ++ [] ≡ number_records 1 v
-flat_written v = append-nil (plain_records is_zero (λ x. varint (cast_unsigned w64 x)) 1 v) ∙ plain_is 1 v
+pub flat_written : (v : ℤ) → implicit_records is_zero (λ x. varint (cast_unsigned w64 x)) 1 v ++ [] ≡ number_records 1 v
+flat_written v = append-nil (implicit_records is_zero (λ x. varint (cast_unsigned w64 x)) 1 v) ∙ plain_is 1 v
 
-pub two_written : (v u : ℤ) → plain_records is_zero (λ x. varint (cast_unsigned w64 x)) 1 v ++ (plain_records is_zero (λ x. varint (cast_unsigned w64 x)) 2 u ++ []) ≡ number_records 1 v ++ number_records 2 u
-two_written v u = (λ i. plain_is 1 v i ++ (append-nil (plain_records is_zero (λ x. varint (cast_unsigned w64 x)) 2 u) ∙ plain_is 2 u) i)
+pub two_written : (v u : ℤ) → implicit_records is_zero (λ x. varint (cast_unsigned w64 x)) 1 v ++ (implicit_records is_zero (λ x. varint (cast_unsigned w64 x)) 2 u ++ []) ≡ number_records 1 v ++ number_records 2 u
+two_written v u = (λ i. plain_is 1 v i ++ (append-nil (implicit_records is_zero (λ x. varint (cast_unsigned w64 x)) 2 u) ∙ plain_is 2 u) i)
 
 -- ---- costs
 either_free : (t : Bool) (m : BudgetLeft) → m ≡ nothing → (if t then nothing else m) ≡ nothing
 either_free true m h = refl
 either_free false m h = h
 
-pub flat_free : (d : ℕ) (bs : List ℕ) → cost_of (both_need 1 free costs_nothing) d bs ≡ nothing
-flat_free d bs = cost_of_free (both_need 1 free costs_nothing) d (λ n w bs. either_free (n == 1) nothing refl) bs
+pub flat_free : (d : ℕ) (bs : List ℕ) → cost_of (both_charge 1 free costs_nothing) d bs ≡ nothing
+flat_free d bs = cost_of_free (both_charge 1 free costs_nothing) d (λ n w bs. either_free (n == 1) nothing refl) bs
 
-pub two_free : (d : ℕ) (bs : List ℕ) → cost_of (both_need 1 free (both_need 2 free costs_nothing)) d bs ≡ nothing
-two_free d bs = cost_of_free (both_need 1 free (both_need 2 free costs_nothing)) d (λ n w bs. either_free (n == 1) (if n == 2 then nothing else nothing) (either_free (n == 2) nothing refl)) bs
+pub two_free : (d : ℕ) (bs : List ℕ) → cost_of (both_charge 1 free (both_charge 2 free costs_nothing)) d bs ≡ nothing
+two_free d bs = cost_of_free (both_charge 1 free (both_charge 2 free costs_nothing)) d (λ n w bs. either_free (n == 1) (if n == 2 then nothing else nothing) (either_free (n == 2) nothing refl)) bs

@@ -4,7 +4,7 @@ use Rattle.std.specs.Cmp.{IsEquivalence}
 use Rattle.buffa_bytes.specs.declared.error.DecodeError.TheVariants as decode
 use Rattle.buffa_bytes.specs.declared.error.EncodeError.TheVariants as encode
 use Rattle.buffa_wire.specs.BudgetLeft.{defaults, nothing}
-use Rattle.buffa_bytes.specs.Content.{Content}
+use Rattle.buffa_bytes.specs.PayloadValue.{PayloadValue}
 use Rattle.buffa_map.specs.Enums.{ClosedFits, closed_writing}
 use Rattle.buffa_map.specs.Merge.{ReadsRun, state}
 use Rattle.buffa_map.specs.Pairs.{SamePairs}
@@ -16,10 +16,10 @@ use Rattle.sample_types.specs.Passed.{IsRewrittenByOlder, NotRewritten, Proxy}
 use Rattle.sample_types.specs.Pinned.{IsFullRewrite, PassIsPinned}
 
 module _ {K : Type 0} (p : Proxy K) (KeyFits : K → Type 0) (walks : List (K × ℤ) → Type 0) (d n : ℕ) (bytes : List ℕ) (laws : IsEquivalence (p.older d n).same)
-    (key_free : (p.older d n).key.nested ≡ false → (e : ℕ) (c : Content) → (p.older d n).key.cost e c ≡ nothing)
-    (val_free : (p.older d n).val.nested ≡ false → (e : ℕ) (c : Content) → (p.older d n).val.cost e c ≡ nothing)
-    (new_key_free : (p.newer d n).key.nested ≡ false → (e : ℕ) (c : Content) → (p.newer d n).key.cost e c ≡ nothing)
-    (new_val_free : (p.newer d n).val.nested ≡ false → (e : ℕ) (c : Content) → (p.newer d n).val.cost e c ≡ nothing) where
+    (key_free : (p.older d n).key.nested ≡ false → (e : ℕ) (c : PayloadValue) → (p.older d n).key.cost e c ≡ nothing)
+    (val_free : (p.older d n).val.nested ≡ false → (e : ℕ) (c : PayloadValue) → (p.older d n).val.cost e c ≡ nothing)
+    (new_key_free : (p.newer d n).key.nested ≡ false → (e : ℕ) (c : PayloadValue) → (p.newer d n).key.cost e c ≡ nothing)
+    (new_val_free : (p.newer d n).val.nested ≡ false → (e : ℕ) (c : PayloadValue) → (p.newer d n).val.cost e c ≡ nothing) where
   -- two rewrites fill the same map, and are one encoding where one walk was written
   one : (x y : List (K × ℤ)) (v w : List ℕ) (h : IsRewrittenByOlder p KeyFits d n bytes x v) (k : IsRewrittenByOlder p KeyFits d n bytes y w) →
       SamePairs (p.older d n).same x y × (h.rewrites.rewrite.0 ≡ k.rewrites.rewrite.0 → v ≡ w)

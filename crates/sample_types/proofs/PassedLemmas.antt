@@ -3,10 +3,10 @@ use Rattle.std.proofs.Common.{◌≡◌, ◌≢◌, ◌⊎◌, ◌++◌, inl, in
 use Rattle.buffa_bytes.specs.declared.error.DecodeError.{DecodeError}
 use Rattle.buffa_bytes.specs.declared.error.DecodeError.TheVariants.{ElementMemoryLimitExceeded, OutOfMemory, UnknownFieldLimitExceeded}
 use Rattle.buffa_wire.specs.BudgetLeft.{BudgetLeft, Lacks, plus, units, IsLimit}
-use Rattle.buffa_wire.specs.Records.{Datum}
+use Rattle.buffa_wire.specs.Records.{FieldData}
 use Rattle.buffa_map.specs.Codec.{Reading, Writing}
 use Rattle.buffa_map.specs.Entry.{EntryFault}
-use Rattle.buffa_map.specs.EntryReading.{need_of}
+use Rattle.buffa_map.specs.EntryReading.{charge_of}
 use Rattle.buffa_map.specs.Enums.{closed_writing}
 use Rattle.buffa_map_laws.specs.Laws.{OneReading}
 use Rattle.buffa_map.specs.Merge.{ReadsRun, State, RefusesRun, state}
@@ -89,7 +89,7 @@ enough : (left : BudgetLeft) (cost : ℕ) → cost ≤ left.memory → Lacks lef
 enough left cost h (inl x) = omega (arith, x)
 enough left cost h (inr x) = omega (arith, h, x)
 
-module _ {K V : Type 0} (key : Reading K) (val : Reading V) (d n cost extra : ℕ) (plain : (e : List ℕ) → need_of key val d cost e ≡ units cost) where
+module _ {K V : Type 0} (key : Reading K) (val : Reading V) (d n cost extra : ℕ) (plain : (e : List ℕ) → charge_of key val d cost e ≡ units cost) where
   -- a fault that is none of a budget's is one whatever is left
   entry_limit : (left other : BudgetLeft) (bs : List ℕ) (f : DecodeError) → EntryFault key val d cost extra left bs f → IsLimit f ⊎ EntryFault key val d 0 0 other bs f
   entry_limit left other bs f (inl h) = inr (inl h)
@@ -116,7 +116,7 @@ module _ {K V : Type 0} (key : Reading K) (val : Reading V) (d n cost extra : �
             (es, rest, a, (begins.0, begins.1, begins.2, (omega arith, omega arith)), some, k))
       ]
 
-module _ {K : Type 0} (rk : Reading K) (rv : Reading ℤ) (eq : K → K → Bool) (keeps : Bool) (n cost : ℕ) (pairs : List (K × ℤ)) (records : List (ℕ × Datum)) (new : State K ℤ) (unread : List ℕ) (f : DecodeError) where
+module _ {K : Type 0} (rk : Reading K) (rv : Reading ℤ) (eq : K → K → Bool) (keeps : Bool) (n cost : ℕ) (pairs : List (K × ℤ)) (records : List (ℕ × FieldData)) (new : State K ℤ) (unread : List ℕ) (f : DecodeError) where
   -- the same stop, by the names of the clause
   pub stopped : (d e : ℕ) (left given : BudgetLeft) (encoding out : List ℕ) → d ≡ e → left ≡ given → encoding ≡ out →
       RefusesRun (keeping rk rv eq keeps d n cost) (state pairs records left) encoding new unread f → RefusesRun (keeping rk rv eq keeps e n cost) (state pairs records given) out new unread f
@@ -125,14 +125,14 @@ module _ {K : Type 0} (rk : Reading K) (rv : Reading ℤ) (eq : K → K → Bool
       (subst (λ (z : BudgetLeft). RefusesRun (keeping rk rv eq keeps e n cost) (state pairs records z) encoding new unread f) is
       (subst (λ (z : ℕ). RefusesRun (keeping rk rv eq keeps z n cost) (state pairs records left) encoding new unread f) same h))
 
-  pub stop_is_shortage : (d : ℕ) (left : BudgetLeft) (out : List ℕ) (gs : List (EntryRecord K ℤ)) → ((e : List ℕ) → need_of rk rv d cost e ≡ units cost) → OneReading rk rv → Run rk rv d n out gs →
+  pub stop_is_shortage : (d : ℕ) (left : BudgetLeft) (out : List ℕ) (gs : List (EntryRecord K ℤ)) → ((e : List ℕ) → charge_of rk rv d cost e ≡ units cost) → OneReading rk rv → Run rk rv d n out gs →
       RefusesRun (keeping rk rv eq keeps d n cost) (state pairs records left) out new unread f → IsShortage f
   stop_is_shortage d left out gs plain one run h =
       is_shortage f (λ no. stop_is_limit rk rv d n cost 1 plain one left h.between.left out h.rest gs h.read.entries f run (h.front, h.split, h.read.run, h.read.paid) h.some
       (broken (keeping rk rv eq keeps d n cost) (state pairs records left) out new unread f h no))
 
 -- the same reading of the whole, by the names of the clause
-pub read_whole : {K : Type 0} (rk : Reading K) (rv : Reading ℤ) (eq : K → K → Bool) (keeps : Bool) (n cost : ℕ) (pairs : List (K × ℤ)) (records : List (ℕ × Datum)) (new : State K ℤ) (rest : List ℕ)
+pub read_whole : {K : Type 0} (rk : Reading K) (rv : Reading ℤ) (eq : K → K → Bool) (keeps : Bool) (n cost : ℕ) (pairs : List (K × ℤ)) (records : List (ℕ × FieldData)) (new : State K ℤ) (rest : List ℕ)
     (d e : ℕ) (left given : BudgetLeft) (encoding out : List ℕ) → d ≡ e → left ≡ given → encoding ≡ out →
     ReadsRun (keeping rk rv eq keeps d n cost) (state pairs records left) encoding new rest → ReadsRun (keeping rk rv eq keeps e n cost) (state pairs records given) out new []
 read_whole rk rv eq keeps n cost pairs records new rest d e left given encoding out same is whole h =

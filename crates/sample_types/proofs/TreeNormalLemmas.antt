@@ -13,8 +13,8 @@ use Rattle.buffa_bytes.proofs.ListLemmas.{AllByRecursion-weaker}
 use Rattle.buffa_bytes.proofs.ScalarLemmas.{int32_fits}
 use Rattle.buffa_bytes.proofs.SequenceLemmas.{ok_same}
 use Rattle.buffa_bytes.proofs.StepLemmas.{agree_ok}
-use Rattle.buffa_bytes.specs.Content.{bytes_in, number_in}
-use Rattle.buffa_bytes.specs.Front.{delimited_at, skip_at, varint_at, ◌>>=◌, same_wire}
+use Rattle.buffa_bytes.specs.PayloadValue.{bytes_in, number_in}
+use Rattle.buffa_bytes.specs.Readings.{delimited_at, skip_at, varint_at, ◌>>=◌, same_wire}
 use Rattle.buffa_bytes.specs.Scan.{ParsesEach}
 use Rattle.buffa_bytes.specs.Values.{delimited_encoding, int32_of, tag_encoding}
 use Rattle.buffa_bytes.specs.Varint.{varint_encoding}
@@ -26,26 +26,26 @@ use Rattle.buffa_wire.specs.BudgetLeft.{BudgetLeft}
 use Rattle.buffa_wire.specs.ByField.{value_of}
 use Rattle.buffa_wire.specs.Message.{merged_in}
 use Rattle.buffa_wire.specs.Parse.{Fits}
-use Rattle.buffa_wire.specs.Records.{Datum, records_of}
+use Rattle.buffa_wire.specs.Records.{FieldData, records_of}
 use Rattle.buffa_wire.specs.Takes.{Taker, answer, framed, front_of, merged_of}
 use Rattle.buffa_map.proofs.EntryLemmas.{entry_sound}
 use Rattle.buffa_map.proofs.SortedLemmas.{sorted_put}
 use Rattle.buffa_map.specs.Encoding.{AllHold}
 use Rattle.buffa_map.specs.Entry.{IsEntryField}
 use Rattle.buffa_map.specs.EntryReading.{blanks, entry_of}
-use Rattle.buffa_map.specs.Message.{meant}
+use Rattle.buffa_map.specs.Message.{merged_value}
 use Rattle.buffa_map.specs.Scalars.{int32_reading}
 use Rattle.buffa_map.specs.declared.map_entry.MapEntry.{MapEntry}
-use Rattle.buffa_fields.specs.Nested.{FitsInside}
+use Rattle.buffa_fields.specs.Submessages.{FitsInside}
 use Rattle.buffa_fields.specs.OrderedMaps.{KeysAscend}
 use Rattle.buffa_recursive.specs.MapTree.{child_pairs, pairs_again, pairs_in}
 use Rattle.buffa_recursive.specs.facts.FixpointFacts.{is_normal, normal_is}
 use Rattle.buffa_recursive.specs.InnerMessages.{encoding_by}
-use Rattle.sample_types.proofs.TreeLemmas.{Meant, grown_of, into_is, meant_by, out_is, tree_laying, tree_merged_is, tree_records_are, tree_words}
+use Rattle.sample_types.proofs.TreeLemmas.{Meant, grown_of, into_is, by_their_meaning, out_is, tree_schema, tree_merged_is, tree_records_are, tree_words}
 use Rattle.sample_types.specs.FieldsFacts.{Keeps, merged_keeps}
 use Rattle.sample_types.specs.Fields.{value_records}
 use Rattle.sample_types.specs.Trees.{Children, Grown, IsTreeOf, child_entry, child_reading, entry_by, tree_entry_in, grown, label_in, tree_records, tree_takes, whole_of}
-use Rattle.sample_types.specs.contracts.tree.TreeLaid.TheImpl.{ghosts}
+use Rattle.sample_types.specs.contracts.tree.TreeRecursiveType.TheImpl.{ghosts}
 
 -- ---- which trees are normal
 abbrev pub IsInside : Grown → Type 0
@@ -62,30 +62,30 @@ of_each : (es : Children) → AllByRecursion (λ (e : ℤ × Grown). FitsSigned 
 of_each [] h = tt
 of_each (e ∷ es) h = ((h.0.0, tt), h.0.1, of_each es h.1)
 
-abbrev laid_normal : Meant → Type 0
-laid_normal y = (tree_laying.layout tree_words).normal y
+abbrev schema_normal : Meant → Type 0
+schema_normal y = (tree_schema.schema tree_words).normal y
 
 pub normal_says : (l : ℤ) (es : Children) → tree_words.normal (grown l es) → IsTreeOf IsInside l es
 normal_says l es h =
-    let laid = subst laid_normal (out_is l es) (normal_is ghosts.COST tree_laying ghosts.sound (grown l es) h).2 in
-    let pairs = subst (λ (ps : Children). AllHold IsKey (FitsInside tree_words.normal tree_words.records) ps × KeysAscend int_cmp ps) (pairs_again es) laid.1.0.1 in
-    record { label = laid.0.0; ascend = pairs.1; children = each_of es pairs.0 }
+    let schema_of = subst schema_normal (out_is l es) (normal_is ghosts.COST tree_schema ghosts.sound (grown l es) h).2 in
+    let pairs = subst (λ (ps : Children). AllHold IsKey (FitsInside tree_words.normal tree_words.records) ps × KeysAscend int_cmp ps) (pairs_again es) schema_of.1.0.1 in
+    record { label = schema_of.0.0; ascend = pairs.1; children = each_of es pairs.0 }
 
-pub says_normal : tree_laying.Owes → (l : ℤ) (es : Children) → IsTreeOf IsInside l es → tree_words.normal (grown l es)
+pub says_normal : tree_schema.Owes → (l : ℤ) (es : Children) → IsTreeOf IsInside l es → tree_words.normal (grown l es)
 says_normal owes l es h =
     let pairs = subst (λ (ps : Children). AllHold IsKey (FitsInside tree_words.normal tree_words.records) ps × KeysAscend int_cmp ps) (sym (pairs_again es)) (of_each es h.children, h.ascend) in
-    let laid : laid_normal (meant_by l es) = ((h.label, tt), ((ap pairs_in (pairs_again es), pairs), tt, tt), tt) in
-    is_normal ghosts.COST tree_laying ghosts.sound (grown l es) (owes, refl, subst laid_normal (sym (out_is l es)) laid)
+    let schema_of : schema_normal (by_their_meaning l es) = ((h.label, tt), ((ap pairs_in (pairs_again es), pairs), tt, tt), tt) in
+    is_normal ghosts.COST tree_schema ghosts.sound (grown l es) (owes, refl, subst schema_normal (sym (out_is l es)) schema_of)
 
 pub only_grown : (t : Grown) → tree_words.normal t → (l : ℤ) × (es : Children) × (t ≡ grown l es)
 only_grown t h =
-    let laid = normal_is ghosts.COST tree_laying ghosts.sound t h in
-    let y : Meant = tree_laying.out t in
+    let schema_of = normal_is ghosts.COST tree_schema ghosts.sound t h in
+    let y : Meant = tree_schema.out t in
     let es : Children = child_pairs y.1.0.0 y.1.0.1 in
-    (y.0, es, sym laid.1 ∙ (λ i. tree_laying.into (y.0, (sym laid.2.1.0.0 i, tt))) ∙ into_is y.0 es)
+    (y.0, es, sym schema_of.1 ∙ (λ i. tree_schema.into (y.0, (sym schema_of.2.1.0.0 i, tt))) ∙ into_is y.0 es)
 
 -- ---- where the records of a tree fit, so do those of its children
-behind_label : (l : ℤ) (rs : List (ℕ × Datum)) → Fits (records_of (value_records l ++ rs)) → Fits (records_of rs)
+behind_label : (l : ℤ) (rs : List (ℕ × FieldData)) → Fits (records_of (value_records l ++ rs)) → Fits (records_of rs)
 behind_label (pos zero) rs h = h
 behind_label (pos (suc k)) rs h = h.1
 behind_label (negsuc k) rs h = h.1
@@ -104,7 +104,7 @@ module _ (P : Grown → Type 0) where
 
   pub fit_inside : (l : ℤ) (es : Children) → Fits (records_of (tree_words.records (grown l es))) → IsTreeOf P l es → IsTreeOf (λ t. P t × Fits (records_of (tree_words.records t))) l es
   fit_inside l es fits h =
-      let all = subst (λ (rs : List (ℕ × Datum)). Fits (records_of rs)) (tree_records_are l es) fits in
+      let all = subst (λ (rs : List (ℕ × FieldData)). Fits (records_of rs)) (tree_records_are l es) fits in
       record { label = h.label; ascend = h.ascend; children = fit_each es (behind_label l _ all) h.children }
 
 pub tree_of_more : {P Q : Grown → Type 0} → ((t : Grown) → P t → Q t) → (l : ℤ) (es : Children) → IsTreeOf P l es → IsTreeOf Q l es
@@ -173,10 +173,10 @@ module _ (P : Grown → Type 0) (closed : (l : ℤ) (es : Children) → IsTreeOf
     abbrev Said : MapEntry ℤ Grown → Type 0
     Said s = FitsSigned w32 s.key × IsSo s.value
 
-    value_so : (old v : Grown) (bs : List ℕ) (known : Bool) → IsSo old → meant (merged_in m d old bs) ≡ Ok (v, known) → IsSo v
+    value_so : (old v : Grown) (bs : List ℕ) (known : Bool) → IsSo old → merged_value (merged_in m d old bs) ≡ Ok (v, known) → IsSo v
     value_so old v bs known n h = by (merged_in m d old bs) refl h
       where
-        by : (o : Option Grown) → merged_in m d old bs ≡ o → meant o ≡ Ok (v, known) → IsSo v
+        by : (o : Option Grown) → merged_in m d old bs ≡ o → merged_value o ≡ Ok (v, known) → IsSo v
         by None is h = cc
         by (Some x) is h = let e : x ≡ v = ap (λ z. z.0) (ok_same h) in subst (λ z. IsSo z) e (stays old x bs n is)
 
@@ -250,7 +250,7 @@ module _ (P : Grown → Type 0) (closed : (l : ℤ) (es : Children) → IsTreeOf
 abbrev IsBack : Grown → Type 0
 IsBack t = Fits (records_of (tree_words.records t)) → tree_words.normal t
 
-pub tree_stays_normal : tree_laying.Owes → (d : ℕ) (t u : Grown) (bs : List ℕ) → tree_words.normal t → tree_words.merged d t bs ≡ Some u → Fits (records_of (tree_words.records u)) → tree_words.normal u
+pub tree_stays_normal : tree_schema.Owes → (d : ℕ) (t u : Grown) (bs : List ℕ) → tree_words.normal t → tree_words.merged d t bs ≡ Some u → Fits (records_of (tree_words.records u)) → tree_words.normal u
 tree_stays_normal owes d t u bs normal h fits =
     let t_is = only_grown t normal in
     let all = normal_says t_is.0 t_is.1 (subst (λ z. tree_words.normal z) t_is.2 normal) in

@@ -8,9 +8,9 @@ use Rattle.buffa_bytes.proofs.DelimitedLemmas.{delimited_faulty, delimited_taken
 use Rattle.buffa_bytes.proofs.FullLemmas.{varint_full}
 use Rattle.buffa_bytes.proofs.SequenceLemmas.{err_same}
 use Rattle.buffa_bytes.proofs.WireLemmas.{checked_other, checked_same}
-use Rattle.buffa_bytes.specs.Content.{Content, bytes_in, number, number_in}
-use Rattle.buffa_bytes.specs.Front.{check_wire, delimited_at, skip_at, varint_at, ◌>>=◌, FullOnlyIf}
-use Rattle.buffa_bytes.specs.Left.{past_no_payload}
+use Rattle.buffa_bytes.specs.PayloadValue.{PayloadValue, bytes_in, number, number_in}
+use Rattle.buffa_bytes.specs.Readings.{check_wire, delimited_at, skip_at, varint_at, ◌>>=◌, FullOnlyIf}
+use Rattle.buffa_bytes.specs.Unread.{past_no_payload}
 use Rattle.buffa_bytes.specs.Values.{int32_of}
 use Rattle.buffa_bytes.specs.declared.error.DecodeError.{DecodeError}
 use Rattle.buffa_bytes.specs.declared.error.DecodeError.TheVariants as error
@@ -22,23 +22,23 @@ use Rattle.buffa_wire.specs.Message.{merged_in}
 use Rattle.buffa_wire.specs.Pinned.{refusal}
 use Rattle.buffa_wire.specs.Takes.{IsTaken, Untaken}
 use Rattle.buffa_map.proofs.EntryLemmas.{entry_faulty}
-use Rattle.buffa_map.proofs.NeedLemmas.{entry_limited}
+use Rattle.buffa_map.proofs.ChargeLemmas.{entry_limited}
 use Rattle.buffa_map.specs.Codec.{Reading, value_at}
 use Rattle.buffa_map.specs.Entry.{EntryFault, FaultOf}
-use Rattle.buffa_map.specs.EntryReading.{need_of}
+use Rattle.buffa_map.specs.EntryReading.{charge_of}
 use Rattle.buffa_map.specs.Laws.{LimitsAreTrue}
-use Rattle.buffa_map.specs.MessageFacts.{meant_no_limit}
+use Rattle.buffa_map.specs.MessageFacts.{merged_no_limit}
 use Rattle.buffa_map.specs.ScalarFacts.{never_faulty}
 use Rattle.buffa_map.specs.Scalars.{int32_reading}
 use Rattle.buffa_fields.proofs.EntriesLemmas.{entry_wire_err}
 use Rattle.buffa_fields.proofs.InsideLemmas.{alone_is, no_payload}
 use Rattle.buffa_fields.proofs.ValueLemmas.{value_err, wire_err}
-use Rattle.buffa_recursive.specs.TakenThrough.{taken_apart}
-use Rattle.buffa_recursive.specs.facts.TakenThroughFacts.{apart_taken}
+use Rattle.buffa_recursive.specs.TakenThrough.{taken_through}
+use Rattle.buffa_recursive.specs.facts.TakenThroughFacts.{is_taken_through}
 use Rattle.buffa_fields.specs.Entries.{entry_cost, entry_taken}
-use Rattle.buffa_recursive.specs.MessageTree.{KnotList}
-use Rattle.buffa_fields.specs.Layout.{Choice, Layout, Passed, Took}
-use Rattle.buffa_fields.specs.facts.LayoutFacts.{choose}
+use Rattle.buffa_recursive.specs.MessageTree.{TreeList}
+use Rattle.buffa_fields.specs.Schema.{Choice, Schema, Passed, Took}
+use Rattle.buffa_fields.specs.facts.SchemaFacts.{choose}
 use Rattle.buffa_fields.specs.MapFields.{PairTakesMemory, pair_cost, pair_taken, stepped}
 use Rattle.buffa_recursive.specs.MapShape.{reading_by}
 use Rattle.buffa_recursive.specs.MapTree.{child_pairs, pairs_in}
@@ -47,10 +47,10 @@ use Rattle.buffa_recursive.specs.RefusedFields.{IsSelfRefused}
 use Rattle.buffa_recursive.specs.facts.FixpointFacts.{each_is}
 use Rattle.buffa_fields.specs.Values.{RefusesAlone, ValueTakesMemory, field_value_at, free, value_taken}
 use Rattle.sample_types.proofs.NumberLemmas.{member_read}
-use Rattle.sample_types.proofs.TreeLemmas.{Meant, children_again, inside, keys_same, reading_is, rows_same, tree_laying, tree_words}
+use Rattle.sample_types.proofs.TreeLemmas.{Meant, children_again, inside, keys_same, reading_is, rows_same, tree_schema, tree_words}
 use Rattle.sample_types.specs.Fields.{int32_field}
 use Rattle.sample_types.specs.Trees.{Children, Grown, HasChildFault, HasTreeFault, Own, grown, row}
-use Rattle.sample_types.specs.contracts.tree.TreeLaid.TheImpl.{ghosts}
+use Rattle.sample_types.specs.contracts.tree.TreeRecursiveType.TheImpl.{ghosts}
 
 -- how a child is read, and what its entry costs, as the type says it
 abbrev reads : Reading Grown
@@ -60,22 +60,22 @@ abbrev each : ℕ
 each = 4 + tree_words.each
 
 each_same : each ≡ 36
-each_same = ap (λ k. 4 + k) (each_is ghosts.COST tree_laying ghosts.sound)
+each_same = ap (λ k. 4 + k) (each_is ghosts.COST tree_schema ghosts.sound)
 
-abbrev tree_layout : Layout Grown Meant
-tree_layout = tree_laying.layout tree_words
+abbrev tree_members_schema : Schema Grown Meant
+tree_members_schema = tree_schema.schema tree_words
 
 abbrev mean : Grown → Meant
-mean t = tree_layout.meaning t
+mean t = tree_members_schema.meaning t
 
 abbrev pub TreeRefuses : ℕ → Grown → ℕ → WireType → List ℕ → BudgetLeft → DecodeError → Grown → Type 0
-TreeRefuses = IsSelfRefused ghosts.COST tree_laying ghosts.sound
+TreeRefuses = IsSelfRefused ghosts.COST tree_schema ghosts.sound
 
-abbrev Kids : Type 0
-Kids = List ℤ × KnotList Own
+abbrev ChildrenOf : Type 0
+ChildrenOf = List ℤ × TreeList Own
 
-abbrev kids_of : Kids → Children
-kids_of a = child_pairs a.0 a.1
+abbrev children_of : ChildrenOf → Children
+children_of a = child_pairs a.0 a.1
 
 -- ---- what a member says of a refused field
 module _ (d n : ℕ) (w : WireType) (bs : List ℕ) (before : BudgetLeft) (e : DecodeError) where
@@ -86,12 +86,12 @@ module _ (d n : ℕ) (w : WireType) (bs : List ℕ) (before : BudgetLeft) (e : D
       × ((f : DecodeError) → check_wire n Varint w ≡ Err f → (refusal e ≡ Err f) × (a ≡ b) × (bs ≡ rest))
       × ((f : DecodeError) → refusal e ≡ Err f → RefusesAlone int32_reading (λ v. v) d a n w bs f b)
 
-  abbrev KidsRefused : Kids → Kids → BudgetLeft → List ℕ → Type 0
-  KidsRefused a b after rest =
-      IsTaken (taken_apart pairs_in kids_of (pair_taken int32_reading reads (insert_entry int_cmp))) (pair_cost int32_reading reads each) d a n w bs before (refusal e) b after rest
+  abbrev ChildrenRefused : ChildrenOf → ChildrenOf → BudgetLeft → List ℕ → Type 0
+  ChildrenRefused a b after rest =
+      IsTaken (taken_through pairs_in children_of (pair_taken int32_reading reads (insert_entry int_cmp))) (pair_cost int32_reading reads each) d a n w bs before (refusal e) b after rest
       × FullOnlyIf (refusal e) (PairTakesMemory int32_reading reads d n w bs)
       × ((f : DecodeError) → check_wire n LengthDelimited w ≡ Err f → (refusal e ≡ Err f) × (a ≡ b) × (bs ≡ rest))
-      × ((f : DecodeError) → refusal e ≡ Err f → RefusesPair int32_reading reads each d (kids_of a) n w bs before f (kids_of b))
+      × ((f : DecodeError) → refusal e ≡ Err f → RefusesPair int32_reading reads each d (children_of a) n w bs before f (children_of b))
 
 module _ (d : ℕ) (bs : List ℕ) (left : BudgetLeft) (e : DecodeError) where
   here : EntryFault int32_reading reads d each 0 left bs e → EntryFault int32_reading inside d 36 0 left bs e
@@ -103,13 +103,13 @@ module _ (d : ℕ) (bs : List ℕ) (left : BudgetLeft) (e : DecodeError) where
 -- ---- of a refused field the form says no more
 module _ (d n : ℕ) (w : WireType) (bs : List ℕ) (left : BudgetLeft) (e : DecodeError) where
   -- a field of the children
-  child_fault : n ≡ 2 → (a b : Kids) (after : BudgetLeft) (rest : List ℕ) → KidsRefused d n w bs left e a b after rest → HasChildFault tree_words.merged tree_words.cost d w bs left e
+  child_fault : n ≡ 2 → (a b : ChildrenOf) (after : BudgetLeft) (rest : List ℕ) → ChildrenRefused d n w bs left e a b after rest → HasChildFault tree_words.merged tree_words.cost d w bs left e
   child_fault two a b after rest took = by (check_wire 2 LengthDelimited w) refl
     where
       by : (r : Result (Unit {0}) DecodeError) → check_wire 2 LengthDelimited w ≡ r → HasChildFault tree_words.merged tree_words.cost d w bs left e
       by (Err f) is =
-          let told : (let r : Result (Unit {0}) DecodeError = Err e in r ≡ Err f) = (took.2 f (subst (λ z. check_wire z LengthDelimited w ≡ Err f) (sym two) is)).0 in
-          inl (is ∙ sym told)
+          let semantics : (let r : Result (Unit {0}) DecodeError = Err e in r ≡ Err f) = (took.2 f (subst (λ z. check_wire z LengthDelimited w ≡ Err f) (sym two) is)).0 in
+          inl (is ∙ sym semantics)
       by (Ok _) is = inr (
         checked_same 2 LengthDelimited w is,
         λ some. elim ((took.3 e refl).1 some) [
@@ -122,11 +122,11 @@ module _ (d n : ℕ) (w : WireType) (bs : List ℕ) (left : BudgetLeft) (e : Dec
   module _ (l : ℤ) (es : Children) (m : ℤ) (fs : Children) where
     pub tree_refused : TreeRefuses d (grown l es) n w bs left e (grown m fs) → (grown m fs ≡ grown l es) × HasTreeFault tree_words.merged tree_words.cost d n w bs left e
     unfolding Took Passed
-    tree_refused (apart, (a, b, after, rest, was, is, taken)) = choose (n == 1) taken
+    tree_refused (differs_only, (a, b, after, rest, was, is, taken)) = choose (n == 1) taken
         (λ hit both.
         let one = eqb-true n 1 hit in
         let read = member_read (λ v. v) d n (mean a).0 w bs left (refusal e) (mean b).0 after rest both.0.0 both.0.1 both.0.3 in (
-          same read.1 (ap kids_of both.1.0),
+          same read.1 (ap children_of both.1.0),
           record {
             label = λ _. subst (λ z. int32_field z (λ v. v) w bs ≡ Err e) one read.0;
             child = λ two. absurd (omega (arith, one, two));
@@ -147,7 +147,7 @@ module _ (d n : ℕ) (w : WireType) (bs : List ℕ) (left : BudgetLeft) (e : Dec
         ))
         (λ others again.
         let no_two = eqb-false n 2 others in (
-          same both.0 (ap kids_of again.0),
+          same both.0 (ap children_of again.0),
           record {
             label = λ one. absurd (no_one one);
             child = λ two. absurd (no_two two);
@@ -155,11 +155,11 @@ module _ (d n : ℕ) (w : WireType) (bs : List ℕ) (left : BudgetLeft) (e : Dec
           },
         )))
       where
-        same : (mean b).0 ≡ (mean a).0 → kids_of (mean b).1.0 ≡ kids_of (mean a).1.0 → grown m fs ≡ grown l es
+        same : (mean b).0 ≡ (mean a).0 → children_of (mean b).1.0 ≡ children_of (mean a).1.0 → grown m fs ≡ grown l es
         same one two =
             let labels : m ≡ l = sym (ap (λ (y : Meant). y.0) is) ∙ one ∙ ap (λ (y : Meant). y.0) was in
-            let kids : fs ≡ es = sym (children_again fs) ∙ sym (ap (λ (y : Meant). kids_of y.1.0) is) ∙ two ∙ ap (λ (y : Meant). kids_of y.1.0) was ∙ children_again es in
-            λ i. grown (labels i) (kids i)
+            let inner_messages : fs ≡ es = sym (children_again fs) ∙ sym (ap (λ (y : Meant). children_of y.1.0) is) ∙ two ∙ ap (λ (y : Meant). children_of y.1.0) was ∙ children_again es in
+            λ i. grown (labels i) (inner_messages i)
 
 -- ---- and no less
 pick : {A B : Type 0} (t : Bool) → (t ≡ true → A) → (t ≡ false → B) → Choice t A B
@@ -167,10 +167,10 @@ pick true f g = f refl
 pick false f g = g refl
 
 -- ---- a label
-abbrev content : ℕ × List ℕ → Result (Content × List ℕ) DecodeError
+abbrev content : ℕ × List ℕ → Result (PayloadValue × List ℕ) DecodeError
 content x = Ok (number x.0, x.1)
 
-abbrev value : Content × List ℕ → Result ((ℤ × Bool) × List ℕ) DecodeError
+abbrev value : PayloadValue × List ℕ → Result ((ℤ × Bool) × List ℕ) DecodeError
 value x = Ok ((int32_of (number_in x.0), true), x.1)
 
 abbrev int32 : ℕ × List ℕ → Result (ℤ × List ℕ) DecodeError
@@ -185,9 +185,9 @@ same_fault (Err f) r e h = let same : f ≡ e = err_same h in ap (λ z. Err z) s
 same_fault (Ok _) (Err f) e h = let same : f ≡ e = err_same h in ap (λ z. Err z) same
 same_fault (Ok _) (Ok x) e h = cc
 
-module _ (d n : ℕ) (l : ℤ) (w : WireType) (bs : List ℕ) (left : BudgetLeft) (e : DecodeError) (told : int32_field n (λ l. l) w bs ≡ Err e) where
+module _ (d n : ℕ) (l : ℤ) (w : WireType) (bs : List ℕ) (left : BudgetLeft) (e : DecodeError) (semantics : int32_field n (λ l. l) w bs ≡ Err e) where
   read_told : field_value_at int32_reading d l n w bs ≡ Err e
-  read_told = same_fault (check_wire n Varint w) (varint_at bs) e told
+  read_told = same_fault (check_wire n Varint w) (varint_at bs) e semantics
 
   abbrev IsFull : Type 0
   IsFull = e ≡ error.OutOfMemory
@@ -195,8 +195,8 @@ module _ (d n : ℕ) (l : ℤ) (w : WireType) (bs : List ℕ) (left : BudgetLeft
   mismatch : (f : DecodeError) → check_wire n Varint w ≡ Err f → f ≡ e
   mismatch f is = let both : (let r : Result ((ℤ × Bool) × List ℕ) DecodeError = Err f in r ≡ Err e) = rw is at read_told in err_same both
 
-  value_told : check_wire n Varint w ≡ Ok tt → value_at int32_reading d l bs ≡ Err e
-  value_told is = rw is at read_told
+  value_reported : check_wire n Varint w ≡ Ok tt → value_at int32_reading d l bs ≡ Err e
+  value_reported is = rw is at read_told
 
   not_full : IsFull → ⊥
   not_full full = by (check_wire n Varint w) refl
@@ -207,14 +207,14 @@ module _ (d n : ℕ) (l : ℤ) (w : WireType) (bs : List ℕ) (left : BudgetLeft
 
       by : (r : Result (Unit {0}) DecodeError) → check_wire n Varint w ≡ r → ⊥
       by (Err f) is = let two = sym (checked_other n Varint w f is).1 ∙ mismatch f is ∙ full in cc
-      by (Ok _) is = no_varint (varint_at bs) refl (value_told is)
+      by (Ok _) is = no_varint (varint_at bs) refl (value_reported is)
 
   label_taken : IsTaken (value_taken int32_reading) free d l n w bs left (refusal e) l left bs
   label_taken = by (check_wire n Varint w) refl
     where
       by : (r : Result (Unit {0}) DecodeError) → check_wire n Varint w ≡ r → IsTaken (value_taken int32_reading) free d l n w bs left (refusal e) l left bs
       by (Err f) is = wire_err int32_reading refl (λ d v c x h. never_faulty x h) d l n w bs left e (is ∙ ap (λ z. Err z) (mismatch f is))
-      by (Ok _) is = value_err int32_reading refl (λ d v c x h. never_faulty x h) d l n w bs left e l bs left (checked_same n Varint w is) refl (λ _. value_told is) (λ full. absurd (not_full full))
+      by (Ok _) is = value_err int32_reading refl (λ d v c x h. never_faulty x h) d l n w bs left e l bs left (checked_same n Varint w is) refl (λ _. value_reported is) (λ full. absurd (not_full full))
 
   refused_label : LabelRefused d n w bs left e l l left bs
   refused_label = (
@@ -226,7 +226,7 @@ module _ (d n : ℕ) (l : ℤ) (w : WireType) (bs : List ℕ) (left : BudgetLeft
 
 -- ---- an entry of a child
 limited : LimitsAreTrue int32_reading reads
-limited d = entry_limited int32_reading reads d (λ k old c x h. never_faulty x h) (λ k old c x q. meant_no_limit (merged_in tree_words.merged k old (bytes_in c)) x q)
+limited d = entry_limited int32_reading reads d (λ k old c x h. never_faulty x h) (λ k old c x q. merged_no_limit (merged_in tree_words.merged k old (bytes_in c)) x q)
 
 limit_or_not : (f : DecodeError) → IsLimit f ⊎ NoLimit f
 limit_or_not error.UnknownFieldLimitExceeded = inl tt
@@ -241,7 +241,7 @@ module _ (d n : ℕ) (w : WireType) (bs : List ℕ) (left : BudgetLeft) (e : Dec
   Why = Lacks left (pair_cost int32_reading reads each d n w bs) ⊎ (NotTaken × NoLimit e)
 
   module _ (wire : w ≡ LengthDelimited) where
-    lacking : (b more : List ℕ) → delimited_at bs ≡ Ok (b, more) → Lacks left (need_of int32_reading reads d each b) → Lacks left (pair_cost int32_reading reads each d n w bs)
+    lacking : (b more : List ℕ) → delimited_at bs ≡ Ok (b, more) → Lacks left (charge_of int32_reading reads d each b) → Lacks left (pair_cost int32_reading reads each d n w bs)
     unfolding entry_cost
     lacking b more is few = rw (wire, is) few
 
@@ -279,20 +279,20 @@ rest_of w bs = past_no_payload w bs
 
 module _ (d n : ℕ) (w : WireType) (bs : List ℕ) (left : BudgetLeft) (e : DecodeError) where
   module _ (es : Children) where
-    abbrev kids : Kids
-    kids = (keys_of es, row es)
+    abbrev inner_messages : ChildrenOf
+    inner_messages = (keys_of es, row es)
 
     pairs_taken : (two : n ≡ 2) → HasChildFault tree_words.merged tree_words.cost d w bs left e →
-        IsTaken (pair_taken int32_reading reads (insert_entry int_cmp)) (pair_cost int32_reading reads each) d (kids_of kids) n w bs left (refusal e) (kids_of kids) left bs
+        IsTaken (pair_taken int32_reading reads (insert_entry int_cmp)) (pair_cost int32_reading reads each) d (children_of inner_messages) n w bs left (refusal e) (children_of inner_messages) left bs
     pairs_taken two (inl bad) =
-        entry_wire_err int32_reading reads (λ m _ s. stepped (insert_entry int_cmp) m s) d n (λ d b. need_of int32_reading reads d each b) w (kids_of kids) bs bs left e
+        entry_wire_err int32_reading reads (λ m _ s. stepped (insert_entry int_cmp) m s) d n (λ d b. charge_of int32_reading reads d each b) w (children_of inner_messages) bs bs left e
         (subst (λ z. check_wire z LengthDelimited w ≡ Err e) (sym two) bad)
     pairs_taken two (inr (wire, fault, full)) =
-        ((omega arith, omega arith, omega arith, omega arith), (λ some. why d n w bs left e (kids_of kids) wire (there d bs left e (fault some))), λ no end. let both = sym wire ∙ end in cc)
+        ((omega arith, omega arith, omega arith, omega arith), (λ some. why d n w bs left e (children_of inner_messages) wire (there d bs left e (fault some))), λ no end. let both = sym wire ∙ end in cc)
 
-    refused_child : n ≡ 2 → HasChildFault tree_words.merged tree_words.cost d w bs left e → KidsRefused d n w bs left e kids kids left bs
+    refused_child : n ≡ 2 → HasChildFault tree_words.merged tree_words.cost d w bs left e → ChildrenRefused d n w bs left e inner_messages inner_messages left bs
     refused_child two why_not = (
-      apart_taken pairs_in kids_of (pair_taken int32_reading reads (insert_entry int_cmp)) (pair_cost int32_reading reads each) d n w kids kids bs bs left left (refusal e)
+      is_taken_through pairs_in children_of (pair_taken int32_reading reads (insert_entry int_cmp)) (pair_cost int32_reading reads each) d n w inner_messages inner_messages bs bs left left (refusal e)
           (ap pairs_in (children_again es) ∙ (λ i. (sym (keys_same es) i, sym (rows_same es) i))) (pairs_taken two why_not),
       full why_not,
       other why_not,
@@ -303,18 +303,18 @@ module _ (d n : ℕ) (w : WireType) (bs : List ℕ) (left : BudgetLeft) (e : Dec
         full (inl bad) = λ none. let both = sym (checked_other 2 LengthDelimited w e bad).1 ∙ none in cc
         full (inr (wire, fault, asks)) = λ none. subst (λ (z : Reading Grown). PairTakesMemory int32_reading z d 2 w bs) (sym reading_is) (asks none)
 
-        other : HasChildFault tree_words.merged tree_words.cost d w bs left e → (f : DecodeError) → check_wire n LengthDelimited w ≡ Err f → (refusal e ≡ Err f) × (kids ≡ kids) × (bs ≡ bs)
+        other : HasChildFault tree_words.merged tree_words.cost d w bs left e → (f : DecodeError) → check_wire n LengthDelimited w ≡ Err f → (refusal e ≡ Err f) × (inner_messages ≡ inner_messages) × (bs ≡ bs)
         other (inl bad) = λ f is. (ap (λ z. Err z) (err_same (sym (subst (λ z. check_wire z LengthDelimited w ≡ Err e) (sym two) bad) ∙ is)), refl, refl)
         other (inr (wire, fault, asks)) = λ f is. absurd ((checked_other n LengthDelimited w f is).0 wire)
 
-        said : HasChildFault tree_words.merged tree_words.cost d w bs left e → (f : DecodeError) → refusal e ≡ Err f → RefusesPair int32_reading reads each d (kids_of kids) n w bs left f (kids_of kids)
+        said : HasChildFault tree_words.merged tree_words.cost d w bs left e → (f : DecodeError) → refusal e ≡ Err f → RefusesPair int32_reading reads each d (children_of inner_messages) n w bs left f (children_of inner_messages)
         said (inl bad) = λ f is. (refl, λ some. inl (subst (λ z. check_wire z LengthDelimited w ≡ Err e) (sym two) bad ∙ ap (λ z. Err z) (err_same is)))
         said (inr (wire, fault, asks)) = λ f is.
             (refl, λ some. inr (wire, subst (λ z. EntryFault int32_reading reads d each 0 left bs z) (err_same is) (there d bs left e (fault (λ none. some (sym (err_same is) ∙ none))))))
 
   passed : skip_at d n w bs ≡ Err e → Passed d n w bs left (refusal e) left (rest_of w bs)
   unfolding Passed
-  passed told = (told, refl, starts w, ends w)
+  passed semantics = (semantics, refl, starts w, ends w)
     where
       starts : (w : WireType) → w ≡ StartGroup → d ≡ 0 → rest_of w bs ≡ bs
       starts StartGroup is none = refl
@@ -336,20 +336,20 @@ module _ (d n : ℕ) (w : WireType) (bs : List ℕ) (left : BudgetLeft) (e : Dec
     abbrev old : Grown
     old = grown l es
 
-    alike : tree_laying.out old ≡ tree_laying.out (grown m fs)
-    alike = ap tree_laying.out (sym stays)
+    alike : tree_schema.out old ≡ tree_schema.out (grown m fs)
+    alike = ap tree_schema.out (sym stays)
 
-    apart : tree_layout.Apart n (tree_laying.out old) (tree_laying.out (grown m fs))
-    apart = pick (n == 1) (λ _. ap (λ (y : Meant). y.1) alike)
+    differs_only : tree_members_schema.DiffersOnlyAt n (tree_schema.out old) (tree_schema.out (grown m fs))
+    differs_only = pick (n == 1) (λ _. ap (λ (y : Meant). y.1) alike)
         (λ _. (ap (λ (y : Meant). y.0) alike, pick (n == 2) (λ _. ap (λ (y : Meant). y.1.1) alike) (λ _. (ap (λ (y : Meant). y.1.0) alike, tt))))
 
     at_number : (i j : Bool) → (n == 1) ≡ i → (n == 2) ≡ j → TreeRefuses d old n w bs left e (grown m fs)
     unfolding Took
     at_number true j one two =
-        let told : int32_field n (λ v. v) w bs ≡ Err e = subst (λ z. int32_field z (λ v. v) w bs ≡ Err e) (sym (eqb-true n 1 one)) (h.label (eqb-true n 1 one)) in
-        (apart, (old, old, left, bs, refl, alike, rw one (refused_label d n l w bs left e told, (refl, tt))))
-    at_number false true one two = (apart, (old, old, left, bs, refl, alike, rw one (refl, rw two (refused_child es (eqb-true n 2 two) (h.child (eqb-true n 2 two)), tt))))
-    at_number false false one two = (apart, (old, old, left, rest_of w bs, refl, alike, rw one (refl, rw two (refl, passed (h.other (eqb-false n 1 one) (eqb-false n 2 two))))))
+        let semantics : int32_field n (λ v. v) w bs ≡ Err e = subst (λ z. int32_field z (λ v. v) w bs ≡ Err e) (sym (eqb-true n 1 one)) (h.label (eqb-true n 1 one)) in
+        (differs_only, (old, old, left, bs, refl, alike, rw one (refused_label d n l w bs left e semantics, (refl, tt))))
+    at_number false true one two = (differs_only, (old, old, left, bs, refl, alike, rw one (refl, rw two (refused_child es (eqb-true n 2 two) (h.child (eqb-true n 2 two)), tt))))
+    at_number false false one two = (differs_only, (old, old, left, rest_of w bs, refl, alike, rw one (refl, rw two (refl, passed (h.other (eqb-false n 1 one) (eqb-false n 2 two))))))
 
-    pub tree_told : TreeRefuses d old n w bs left e (grown m fs)
-    tree_told = at_number (n == 1) (n == 2) refl refl
+    pub tree_semantics : TreeRefuses d old n w bs left e (grown m fs)
+    tree_semantics = at_number (n == 1) (n == 2) refl refl

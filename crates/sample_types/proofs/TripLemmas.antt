@@ -8,7 +8,7 @@ use Rattle.buffa_bytes.specs.declared.error.DecodeError.TheVariants.{ElementMemo
 use Rattle.buffa_bytes.specs.declared.error.EncodeError.{EncodeError}
 use Rattle.buffa_bytes.specs.declared.error.EncodeError.TheVariants.{MessageTooLarge, GroupRefused, OutOfMemory}
 use Rattle.buffa_wire.specs.BudgetLeft.{BudgetLeft, nothing, units}
-use Rattle.buffa_map.specs.EntryReading.{need_of}
+use Rattle.buffa_map.specs.EntryReading.{charge_of}
 use Rattle.buffa_map.specs.Codec.{Reading, Writing}
 use Rattle.buffa_map.specs.Merge.{ReadsRun, Rules, State, RefusesRun, state, unknown_cost}
 use Rattle.buffa_map.proofs.ReaderRules.{dropping}
@@ -27,7 +27,7 @@ unwritten key val cost n old new l OutOfMemory room h few = λ none. omega (arit
 unwritten key val cost n old new l (GroupRefused e) room h few = h
 
 module _ {K V : Type 0} (key : Reading K) (val : Reading V) (d n : ℕ)
-    (needs : (cost : ℕ) (e : List ℕ) → need_of key val d cost e ≡ units cost) (inner : (es : List (EntryRecord K V)) → cost_inside key val d es ≡ nothing)
+    (needs : (cost : ℕ) (e : List ℕ) → charge_of key val d cost e ≡ units cost) (inner : (es : List (EntryRecord K V)) → cost_inside key val d es ≡ nothing)
     (no_fault : (cost extra : ℕ) (left over : BudgetLeft) (bs : List ℕ) (es : List (EntryRecord K V)) (f : DecodeError) → Run key val d n bs es → ArePaid key val d cost extra left es over → RunFault key val d n cost extra left bs f → ⊥) where
   -- where no unknown field is asked for, the fault of a record is that of the budget, or one that it has at no cost
   at_no_cost : (cost : ℕ) (left : BudgetLeft) (bs : List ℕ) (f : DecodeError) → RecordFault key val d n cost 0 left bs f → (f ≡ ElementMemoryLimitExceeded) ⊎ RecordFault key val d n 0 0 left bs f

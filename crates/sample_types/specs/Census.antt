@@ -1,7 +1,7 @@
 -- What a census writes, and what bytes make of it: a count for each name. Source: the protobuf encoding guide, "Maps".
 use Rattle.std.specs.Prelude.{ℕ, ◌==◌, ℤ, List, String, nat_eq, string_bytes, Option, Ok, if◌then◌else◌}
 use Rattle.std.specs.Cmp.Lexicographic.{pointwise}
-use Rattle.buffa_bytes.specs.Front.{check_wire, delimited_at, ◌>>=◌}
+use Rattle.buffa_bytes.specs.Readings.{check_wire, delimited_at, ◌>>=◌}
 use Rattle.buffa_bytes.specs.declared.wire_type.WireType.TheVariants.{LengthDelimited}
 use Rattle.buffa_wire.specs.ByField.{FieldReader, merged_by}
 use Rattle.buffa_map.specs.EntryReading.{entry_of}

@@ -3,7 +3,7 @@
 use Rattle.std.specs.Prelude.{◌≡◌, ℕ, zero, suc, ◌+◌, ◌-◌, ◌^◌, ◌==◌, List, [], ◌∷◌, ◌++◌, min, Option, Err, if◌then◌else◌}
 use Rattle.buffa_bytes.specs.declared.wire_type.WireType.TheVariants.{Varint}
 use Rattle.buffa_wire.specs.BudgetLeft.{BudgetLeft, nothing}
-use Rattle.buffa_wire.specs.Records.{Datum, varint}
+use Rattle.buffa_wire.specs.Records.{FieldData, varint}
 use Rattle.buffa_bytes.specs.Values.{tag_encoding}
 use Rattle.buffa_bytes.specs.Varint.{varint_encoding}
 use Rattle.buffa_wire.specs.ByField.{FieldReader, merged_by}
@@ -38,6 +38,6 @@ count_encoding zero = []
 count_encoding (suc n) = one_encoding ++ count_encoding n
 
 -- their records
-abbrev pub count_records : ℕ → List (ℕ × Datum)
+abbrev pub count_records : ℕ → List (ℕ × FieldData)
 count_records zero = []
 count_records (suc n) = (9, varint 0) ∷ count_records n

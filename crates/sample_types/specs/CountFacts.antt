@@ -4,7 +4,7 @@ use Rattle.buffa_bytes.proofs.ShortestLemmas.{varint_encoding-last}
 use Rattle.buffa_bytes.proofs.SinkLemmas.{exits_first, writes_then}
 use Rattle.buffa_bytes.proofs.StepLemmas.{agree_if}
 use Rattle.buffa_bytes.proofs.VarintLemmas.{IsVarint-varint_encoding, varint_complete}
-use Rattle.buffa_bytes.specs.Front.{varint_at}
+use Rattle.buffa_bytes.specs.Readings.{varint_at}
 use Rattle.buffa_bytes.specs.Written.{Writes, WritesFront}
 use Rattle.buffa_bytes.specs.declared.error.EncodeError.{EncodeError}
 use Rattle.buffa_bytes.specs.declared.error.EncodeError.TheVariants.{OutOfMemory}

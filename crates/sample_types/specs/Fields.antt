@@ -1,9 +1,9 @@
 -- Single fields of the samples: how each is read, and its encoding.
 -- Source: the protobuf encoding guide, "Message Structure".
 use Rattle.std.specs.Prelude.{ℕ, zero, suc, ◌==◌, ℤ, pos, negsuc, List, [], ◌∷◌, ◌++◌, Result, Ok, if◌then◌else◌}
-use Rattle.buffa_bytes.specs.Front.{check_wire, skip_at, varint_at, ◌>>=◌}
+use Rattle.buffa_bytes.specs.Readings.{check_wire, skip_at, varint_at, ◌>>=◌}
 use Rattle.buffa_wire.specs.ByField.{FieldReader}
-use Rattle.buffa_wire.specs.Records.{Datum, varint}
+use Rattle.buffa_wire.specs.Records.{FieldData, varint}
 use Rattle.buffa_bytes.specs.Values.{int32_at, int32_encoding, tag_encoding}
 use Rattle.std.specs.Int.{cast_unsigned, w64}
 use Rattle.buffa_bytes.specs.declared.wire_type.WireType.{WireType}
@@ -33,7 +33,7 @@ number_encoding n (pos (suc k)) = tag_encoding n Varint ++ int32_encoding (pos (
 number_encoding n (negsuc k) = tag_encoding n Varint ++ int32_encoding (negsuc k)
 
 -- its record
-abbrev pub number_records : ℕ → ℤ → List (ℕ × Datum)
+abbrev pub number_records : ℕ → ℤ → List (ℕ × FieldData)
 number_records n (pos zero) = []
 number_records n (pos (suc k)) = (n, varint (cast_unsigned w64 (pos (suc k)))) ∷ []
 number_records n (negsuc k) = (n, varint (cast_unsigned w64 (negsuc k))) ∷ []
@@ -42,5 +42,5 @@ number_records n (negsuc k) = (n, varint (cast_unsigned w64 (negsuc k))) ∷ []
 abbrev pub value_encoding : ℤ → List ℕ
 value_encoding v = number_encoding 1 v
 
-abbrev pub value_records : ℤ → List (ℕ × Datum)
+abbrev pub value_records : ℤ → List (ℕ × FieldData)
 value_records v = number_records 1 v

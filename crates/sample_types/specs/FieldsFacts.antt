@@ -2,8 +2,8 @@
 use Rattle.std.proofs.Common.{◌≡◌, ◌≢◌, inl, inr, ℤ, pos, negsuc, ℕ, ◌+◌, ◌*◌, zero, suc, ◌<◌, Bool, true, false, List, ◌∷◌, ◌++◌, length, Some, Result, Ok, Err, refl, sym, ap, subst, ◌∙◌, arith, append-nil, if◌then◌else◌}
 use Rattle.buffa_bytes.specs.Field.{IsTag, Payload}
 use Rattle.buffa_bytes.specs.Number.{IsNumber}
-use Rattle.buffa_bytes.specs.Front.{check_wire, tag_at, varint_at, ◌>>=◌, FullOnlyIf, Gives, same_wire}
-use Rattle.buffa_wire.specs.Records.{Datum}
+use Rattle.buffa_bytes.specs.Readings.{check_wire, tag_at, varint_at, ◌>>=◌, FullOnlyIf, Gives, same_wire}
+use Rattle.buffa_wire.specs.Records.{FieldData}
 use Rattle.buffa_wire.specs.Encoding.{records_encoding}
 use Rattle.buffa_bytes.specs.Values.{int32_encoding, tag_encoding}
 use Rattle.buffa_bytes.specs.Varint.{IsVarint, TakesVarint, VarintFault}
@@ -109,7 +109,7 @@ number_encoding_records n (pos (suc k)) = sym (append-nil (tag_encoding n Varint
 number_encoding_records n (negsuc k) = sym (append-nil (tag_encoding n Varint ++ int32_encoding (negsuc k)))
 
 -- the encoding of records and of more records
-pub both_records : (a b : List ℕ) (xs ys : List (ℕ × Datum)) → a ≡ records_encoding xs → b ≡ records_encoding ys → a ++ b ≡ records_encoding (xs ++ ys)
+pub both_records : (a b : List ℕ) (xs ys : List (ℕ × FieldData)) → a ≡ records_encoding xs → b ≡ records_encoding ys → a ++ b ≡ records_encoding (xs ++ ys)
 both_records a b xs ys h k = (λ i. h i ++ k i) ∙ sym (records_encoding-append xs ys)
 
 -- the tag of a small number is one byte

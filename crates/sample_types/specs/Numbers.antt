@@ -3,13 +3,13 @@
 use Rattle.std.specs.Prelude.{◌≡◌, ℕ, ◌==◌, ℤ, List, Result, OnErr, if◌then◌else◌}
 use Rattle.buffa_bytes.specs.declared.error.DecodeError.{DecodeError}
 use Rattle.buffa_bytes.specs.declared.wire_type.WireType.{WireType}
-use Rattle.buffa_bytes.specs.Front.{Gives}
+use Rattle.buffa_bytes.specs.Readings.{Gives}
 use Rattle.buffa_wire.specs.BudgetLeft.{BudgetLeft}
 use Rattle.buffa_wire.specs.ByField.{FieldReader}
 use Rattle.buffa_map.specs.Scalars.{int32_reading}
 use Rattle.buffa_wire.specs.Message.{FieldTaken}
 use Rattle.buffa_wire.specs.Takes.{Taker}
-use Rattle.buffa_fields.specs.Layout.{both_take, passes}
+use Rattle.buffa_fields.specs.Schema.{both_take, passes}
 use Rattle.buffa_fields.specs.Values.{value_taken}
 use Rattle.sample_types.specs.Fields.{int32_field, skipped_field}
 

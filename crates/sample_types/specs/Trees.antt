@@ -8,25 +8,25 @@ use Rattle.std.specs.List.Sorted.{IsStrictlySortedBy}
 use Rattle.std.specs.Map.{keys_of}
 use Rattle.std.specs.Option.{option_map}
 use Rattle.std.specs.Ordering.{int_cmp}
-use Rattle.buffa_bytes.specs.Front.{check_wire, delimited_at, skip_at, same_wire}
+use Rattle.buffa_bytes.specs.Readings.{check_wire, delimited_at, skip_at, same_wire}
 use Rattle.buffa_bytes.specs.Values.{int32_at}
 use Rattle.buffa_bytes.specs.declared.error.DecodeError.{DecodeError}
 use Rattle.buffa_bytes.specs.declared.error.DecodeError.TheVariants.{OutOfMemory}
 use Rattle.buffa_bytes.specs.declared.wire_type.WireType.{WireType}
 use Rattle.buffa_bytes.specs.declared.wire_type.WireType.TheVariants.{LengthDelimited, Varint}
-use Rattle.buffa_wire.specs.BudgetLeft.{BudgetLeft, need_by, nothing}
+use Rattle.buffa_wire.specs.BudgetLeft.{BudgetLeft, charge_by, nothing}
 use Rattle.buffa_wire.specs.ByField.{value_of}
 use Rattle.buffa_wire.specs.Passes.{cap}
-use Rattle.buffa_wire.specs.Records.{Datum, bytes}
-use Rattle.buffa_wire.specs.Takes.{Need, Taker}
+use Rattle.buffa_wire.specs.Records.{FieldData, bytes}
+use Rattle.buffa_wire.specs.Takes.{Charge, Taker}
 use Rattle.buffa_map.specs.Codec.{Reading}
 use Rattle.buffa_map.specs.Encoding.{entry_encoding}
 use Rattle.buffa_map.specs.Entry.{EntryFault, IsEntry, EntryFieldsTakeMemory}
-use Rattle.buffa_map.specs.EntryReading.{entry_of, need_of}
+use Rattle.buffa_map.specs.EntryReading.{entry_of, charge_of}
 use Rattle.buffa_map.specs.Message.{message_reading}
 use Rattle.buffa_map.specs.Scalars.{delimited_writing, int32_reading, int32_writing}
 use Rattle.buffa_map.specs.declared.map_entry.MapEntry.{MapEntry}
-use Rattle.buffa_recursive.specs.MessageTree.{Knot, KnotList, kid, knot, many, no_kid, no_slot}
+use Rattle.buffa_recursive.specs.MessageTree.{MessageTree, TreeList, first_tree, message_tree, many, no_trees, no_inner}
 use Rattle.sample_types.specs.Fields.{int32_field, value_records}
 
 -- a tree has of its own a label, and the keys of its children
@@ -34,19 +34,19 @@ abbrev pub Own : Type 0
 Own = ℤ × (List ℤ × Unit {0})
 
 abbrev pub Grown : Type 0
-Grown = Knot Own
+Grown = MessageTree Own
 
 -- its children by their keys, in order
 abbrev pub Children : Type 0
 Children = List (ℤ × Grown)
 
-abbrev pub row : Children → KnotList Own
-row [] = no_kid
-row (e ∷ es) = kid e.1 (row es)
+abbrev pub row : Children → TreeList Own
+row [] = no_trees
+row (e ∷ es) = first_tree e.1 (row es)
 
 -- the tree of a label and children
 abbrev pub grown : ℤ → Children → Grown
-grown l es = knot (l, (keys_of es, tt)) (many (row es) no_slot)
+grown l es = message_tree (l, (keys_of es, tt)) (many (row es) no_inner)
 
 -- ---- written
 -- the entry of a child, where its encoding is given
@@ -54,7 +54,7 @@ abbrev pub child_entry : ℤ → List ℕ → List ℕ
 child_entry k b = entry_encoding int32_writing (delimited_writing (λ (x : List ℕ). x)) (k, b)
 
 -- the label, and then a record of field 2 for each child
-abbrev pub tree_records : (Grown → List ℕ) → ℤ → Children → List (ℕ × Datum)
+abbrev pub tree_records : (Grown → List ℕ) → ℤ → Children → List (ℕ × FieldData)
 tree_records encoding l es = value_records l ++ map (λ (e : ℤ × Grown). (2, bytes (child_entry e.0 (encoding e.1)))) es
 
 -- for each child the capped length of its encoding, and then its own slots
@@ -103,9 +103,9 @@ module _ (merged : ℕ → Grown → List ℕ → Option Grown) (cost : ℕ → 
       else Some t
 
   -- an entry costs 4 units for the key and 32 for the child, and what the child costs; nothing else costs any
-  abbrev pub tree_need : Need
-  tree_need d n w bs =
-      if n == 2 && same_wire LengthDelimited w then need_by (delimited_at bs) (λ e. need_of int32_reading child_reading d 36 e.0) else nothing
+  abbrev pub tree_charge : Charge
+  tree_charge d n w bs =
+      if n == 2 && same_wire LengthDelimited w then charge_by (delimited_at bs) (λ e. charge_of int32_reading child_reading d 36 e.0) else nothing
 
   -- why the field of a child is refused under a budget: it is of another wire type; or its entry has this fault. Memory runs out only
   -- where a field in the entry takes some, or the child is put. Which error refuses what is inside the child isn't said.

@@ -1,7 +1,7 @@
 //! A census, a worked example of docs/BY_HAND.md: a count for each name, in a map field.
 
 ghost use Rattle.std.specs.Prelude.{◌≡◌, ◌≢◌, [], IfErr, None, OnErr, OnOk, Some};
-ghost use Rattle.buffa_bytes.specs.Left.{IsTailOf};
+ghost use Rattle.buffa_bytes.specs.Unread.{IsTailOf};
 ghost use Rattle.buffa_bytes.specs.declared.error.DecodeError.TheVariants.{OutOfMemory};
 ghost use Rattle.buffa_wire.specs.BudgetLeft.{IsLimit};
 ghost use Rattle.buffa_map.specs.Encoding.{UsesRoomOf, WritesField, field_size, field_encoding, saturated};

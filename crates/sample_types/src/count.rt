@@ -3,7 +3,7 @@
 ghost use Rattle.std.specs.Prelude.{◌≡◌, ◌≢◌, ◌<◌, ◌^◌, [], refl, IfErr, IsOk, OnErr};
 ghost use Rattle.buffa_bytes.specs.declared.wire_type.WireType.TheVariants.{EndGroup};
 ghost use Rattle.buffa_wire.specs.BudgetLeft.{budget_left};
-ghost use Rattle.buffa_bytes.specs.Front.{FullOnlyIf, Gives};
+ghost use Rattle.buffa_bytes.specs.Readings.{FullOnlyIf, Gives};
 ghost use Rattle.buffa_wire.specs.Message.{MergesField};
 ghost use Rattle.buffa_wire.specs.Passes.{IsSized};
 ghost use Rattle.buffa_bytes.specs.Written.{Writes};
@@ -49,7 +49,7 @@ impl MessageSpec for CountMsg {
 
     ghost takes = { λ d. taken_by (count_field d) };
 
-    ghost need = { costs_nothing };
+    ghost charge = { costs_nothing };
 
     ghost merged = { count_merged };
 

@@ -1,17 +1,17 @@
 //! A message of one int32.
 
 ghost use Rattle.std.proofs.Common.{lit<, refl};
-ghost use Rattle.buffa_fields.specs.Members.{field, skip};
+ghost use Rattle.buffa_fields.specs.Members.{field, skip_unknown};
 
-use buffa_fields::fields::Fields;
-use buffa_fields::kept;
 use buffa_fields::meaning::And;
-use buffa_fields::member::Member;
-use buffa_fields::message::{Listed, Listing};
-use buffa_fields::plain::Plain;
-use buffa_fields::visitor::Visitor;
+use buffa_fields::members::implicit_field::ImplicitField;
+use buffa_fields::members::member::Member;
+use buffa_fields::messages::message::{FieldByField, FieldsMeaning};
+use buffa_fields::messages::message_fields::MessageFields;
+use buffa_fields::passes::visitor::Visitor;
+use buffa_fields::unknown;
 use buffa_map::map_codec::Int32;
-use buffa_wire::{Blank, DecodeContext, DecodeError, Formed, Tag};
+use buffa_wire::{Blank, DecodeContext, DecodeError, MessageImpl, Tag};
 use std::alloc::Global;
 
 /// message FlatMsg { int32 value = 1; }
@@ -25,7 +25,7 @@ pub struct FlatMsg {
     pub value: i32,
 }
 
-impl Fields for FlatMsg {
+impl MessageFields for FlatMsg {
     type Meaning = And<i32, ()>;
 
     const COST: usize = 4;
@@ -34,12 +34,12 @@ impl Fields for FlatMsg {
 
     ghost positive = { lit< tt };
 
-    ghost layout = { field 1 (λ m. m.value) ⟦<Plain<Int32> as Member>⟧.shape skip };
+    ghost schema = { field 1 (λ m. m.value) ⟦<ImplicitField<Int32> as Member>⟧.shape skip_unknown };
 
     ghost sound = { refl };
 
     fn visit<V: Visitor>(&self, visitor: &mut V) {
-        visitor.visit::<Plain<Int32>>(1, &self.value);
+        visitor.visit::<ImplicitField<Int32>>(1, &self.value);
     }
 
     fn take(
@@ -50,30 +50,30 @@ impl Fields for FlatMsg {
         ctx: DecodeContext<'_>,
     ) -> Result<(), DecodeError> {
         match tag.field_number() {
-            1 => Plain::<Int32>::merge(&mut self.value, alloc, tag, buf, ctx),
-            _ => kept::pass(tag, buf, ctx),
+            1 => ImplicitField::<Int32>::merge(&mut self.value, alloc, tag, buf, ctx),
+            _ => unknown::pass(tag, buf, ctx),
         }
     }
 }
 
 impl Blank for FlatMsg {
-    type Meaning = <FlatMsg as Fields>::Meaning;
+    type Meaning = <FlatMsg as MessageFields>::Meaning;
 
-    ghost meaning = { ⟦<FlatMsg as Fields>⟧.layout.meaning };
+    ghost meaning = { ⟦<FlatMsg as MessageFields>⟧.schema.meaning };
 
-    ghost blank_is = { ⟦<FlatMsg as Fields>⟧.layout.blank };
+    ghost blank_is = { ⟦<FlatMsg as MessageFields>⟧.schema.blank };
 
     fn blank(_alloc: Global) -> FlatMsg {
         FlatMsg { value: 0 }
     }
 }
 
-impl Listing for FlatMsg {
+impl FieldsMeaning for FlatMsg {
     ghost means = { λ m. refl };
 
     ghost starts = { refl };
 }
 
-impl Formed for FlatMsg {
-    type Form = Listed;
+impl MessageImpl for FlatMsg {
+    type Impl = FieldByField;
 }

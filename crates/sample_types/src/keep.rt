@@ -1,13 +1,13 @@
 //! `BudgetMsg`, a message that declares no field and keeps each.
 
 ghost use Rattle.std.proofs.Common.{lit<, refl};
-ghost use Rattle.buffa_fields.specs.Members.{keep};
+ghost use Rattle.buffa_fields.specs.Members.{keep_unknown};
 
-use buffa_fields::fields::Fields;
-use buffa_fields::kept::{self, KeptFields};
-use buffa_fields::message::{Listed, Listing};
-use buffa_fields::visitor::Visitor;
-use buffa_wire::{Blank, DecodeContext, DecodeError, Formed, Tag, UnknownFields};
+use buffa_fields::messages::message::{FieldByField, FieldsMeaning};
+use buffa_fields::messages::message_fields::MessageFields;
+use buffa_fields::messages::unknown::{self, Unknowns};
+use buffa_fields::passes::visitor::Visitor;
+use buffa_wire::{Blank, DecodeContext, DecodeError, MessageImpl, Tag, UnknownFields};
 use std::alloc::Global;
 
 /// message BudgetMsg {}, of which each field is kept as an unknown field, behind those that it has.
@@ -24,8 +24,8 @@ pub struct BudgetMsg {
     pub fields: UnknownFields,
 }
 
-impl Fields for BudgetMsg {
-    type Meaning = KeptFields;
+impl MessageFields for BudgetMsg {
+    type Meaning = Unknowns;
 
     const COST: usize = 24;
 
@@ -33,12 +33,12 @@ impl Fields for BudgetMsg {
 
     ghost positive = { lit< tt };
 
-    ghost layout = { keep (λ m. m.fields.records) };
+    ghost schema = { keep_unknown (λ m. m.fields.records) };
 
     ghost sound = { refl };
 
     fn visit<V: Visitor>(&self, visitor: &mut V) {
-        visitor.visit_kept(&self.fields);
+        visitor.visit_unknown_fields(&self.fields);
     }
 
     fn take(
@@ -48,16 +48,16 @@ impl Fields for BudgetMsg {
         buf: &mut &[u8],
         ctx: DecodeContext<'_>,
     ) -> Result<(), DecodeError> {
-        kept::keep(alloc, &mut self.fields, tag, buf, ctx)
+        unknown::keep(alloc, &mut self.fields, tag, buf, ctx)
     }
 }
 
 impl Blank for BudgetMsg {
-    type Meaning = <BudgetMsg as Fields>::Meaning;
+    type Meaning = <BudgetMsg as MessageFields>::Meaning;
 
-    ghost meaning = { ⟦<BudgetMsg as Fields>⟧.layout.meaning };
+    ghost meaning = { ⟦<BudgetMsg as MessageFields>⟧.schema.meaning };
 
-    ghost blank_is = { ⟦<BudgetMsg as Fields>⟧.layout.blank };
+    ghost blank_is = { ⟦<BudgetMsg as MessageFields>⟧.schema.blank };
 
     fn blank(alloc: Global) -> BudgetMsg {
         BudgetMsg {
@@ -66,12 +66,12 @@ impl Blank for BudgetMsg {
     }
 }
 
-impl Listing for BudgetMsg {
+impl FieldsMeaning for BudgetMsg {
     ghost means = { λ m. refl };
 
     ghost starts = { refl };
 }
 
-impl Formed for BudgetMsg {
-    type Form = Listed;
+impl MessageImpl for BudgetMsg {
+    type Impl = FieldByField;
 }

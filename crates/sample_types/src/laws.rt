@@ -10,13 +10,13 @@ ghost use Rattle.std.specs.Ordering.{int_cmp, int_eq};
 ghost use Rattle.buffa_bytes.specs.Pinned.{IsCopied, SameIsOne};
 ghost use Rattle.buffa_bytes.specs.Varint.{IsByte};
 ghost use Rattle.buffa_fields.specs.Calls.{KeepsFields};
-ghost use Rattle.buffa_fields.specs.Keep.{keep_takes};
+ghost use Rattle.buffa_fields.specs.UndeclaredFields.{keep_takes};
 ghost use Rattle.buffa_wire.specs.Takes.{cost_of, merged_of};
 ghost use Rattle.buffa_wire.specs.BudgetLeft.{nothing};
 ghost use Rattle.buffa_wire.specs.Enums.{numbers};
-ghost use Rattle.buffa_wire.specs.Kept.{keep_need};
+ghost use Rattle.buffa_wire.specs.Kept.{keep_charge};
 ghost use Rattle.buffa_wire.specs.Parse.{AreValid, Fits};
-ghost use Rattle.buffa_wire.specs.Records.{Datum, height, records_of};
+ghost use Rattle.buffa_wire.specs.Records.{FieldData, height, records_of};
 ghost use Rattle.buffa_wire.specs.Encoding.{records_encoding};
 ghost use Rattle.sample_types.specs.Count.{IsCountRefused, count_cost, count_merged, count_records, count_encoding};
 ghost use Rattle.sample_types.specs.Fields.{number_encoding, number_records, value_encoding, value_field, value_records};
@@ -24,7 +24,7 @@ ghost use Rattle.sample_types.specs.Letters.{lower, same_letters};
 ghost use Rattle.sample_types.specs.Numbers.{ReadsAlone, flat_takes, two_field, two_takes};
 ghost use Rattle.sample_types.specs.Passed.{proxy};
 ghost use Rattle.sample_types.specs.Pinned.{PassIsPinned, TripIsPinned};
-ghost use Rattle.sample_types.specs.Trees.{Children, Grown, HasTreeFault, IsTreeOf, grown, tree_levels, tree_need, tree_records, tree_slots, tree_takes};
+ghost use Rattle.sample_types.specs.Trees.{Children, Grown, HasTreeFault, IsTreeOf, grown, tree_levels, tree_charge, tree_records, tree_slots, tree_takes};
 
 use crate::count::CountMsg;
 use crate::flat::FlatMsg;
@@ -39,8 +39,8 @@ pub use crate::word_laws::{
     fields_are_counted_so, letters_are_these, names_are_their_bytes, proxies_are_these,
     runs_are_passed_on_so, trips_are_refused_so,
 };
-use buffa_fields::fields::Fields;
-use buffa_fields::message::members_read_back;
+use buffa_fields::messages::message::members_read_back;
+use buffa_fields::messages::message_fields::MessageFields;
 use buffa_fields_laws::recursive_messages;
 use buffa_map::map_codec::{MapCodec, MapStorage};
 use buffa_wire::{Blank, Enumeration, MapKey, MessageSpec, ProtoString};
@@ -62,7 +62,7 @@ pub fn trees_are_these(tree: &Tree)
         ≡ option_map (λ t. grown t.0 t.1)
         (merged_of (tree_takes ⟦<Tree as MessageSpec>⟧.merged ⟦<Tree as MessageSpec>⟧.cost) d (l, es) bs) }
     ensures cost { (d : ℕ) (bs : List ℕ) → ⟦<Tree as MessageSpec>⟧.cost d bs
-        ≡ cost_of (tree_need ⟦<Tree as MessageSpec>⟧.merged ⟦<Tree as MessageSpec>⟧.cost) d bs }
+        ≡ cost_of (tree_charge ⟦<Tree as MessageSpec>⟧.merged ⟦<Tree as MessageSpec>⟧.cost) d bs }
     ensures refused { (d : ℕ) (l : ℤ) (es : Children) (n : ℕ) (w : _) (bs : List ℕ) (left : _) (e : _) (m : ℤ)
         (fs : Children) → ⟦<Tree as MessageSpec>⟧.Refused d (grown l es) n w bs left e (grown m fs)
         ↔ ((grown m fs ≡ grown l es)
@@ -97,7 +97,7 @@ pub fn trees_stay_normal(tree: &Tree)
 /// What bytes make of a normal message that keeps its fields is normal, and so is the blank one: the numbers that are read may
 /// be a field's, and the data are in range.
 pub fn kept_fields_stay_normal()
-    ensures merged { (d : ℕ) (rs qs : List (ℕ × Datum)) (bs : List ℕ) → AllByRecursion IsByte bs →
+    ensures merged { (d : ℕ) (rs qs : List (ℕ × FieldData)) (bs : List ℕ) → AllByRecursion IsByte bs →
         ⟦<BudgetMsg as MessageSpec>⟧.normal rs → ⟦<BudgetMsg as MessageSpec>⟧.merged d rs bs ≡ Some qs →
         ⟦<BudgetMsg as MessageSpec>⟧.normal qs }
     ensures blank { ⟦<BudgetMsg as MessageSpec>⟧.normal ⟦<BudgetMsg as Blank>⟧.blank_is }
@@ -116,7 +116,7 @@ pub fn messages_are_these()
     ensures count { (⟦<CountMsg as MessageSpec>⟧.merged ≡ count_merged) × (⟦<CountMsg as MessageSpec>⟧.cost ≡ count_cost) }
     ensures count_encoding { ⟦<CountMsg as MessageSpec>⟧.encoding ≡ count_encoding }
     ensures keep { (⟦<BudgetMsg as MessageSpec>⟧.merged ≡ merged_of keep_takes)
-        × (⟦<BudgetMsg as MessageSpec>⟧.cost ≡ cost_of keep_need) }
+        × (⟦<BudgetMsg as MessageSpec>⟧.cost ≡ cost_of keep_charge) }
     ensures keep_encoding { ⟦<BudgetMsg as MessageSpec>⟧.encoding ≡ records_encoding }
     ensures numbers_slots { (⟦<FlatMsg as MessageSpec>⟧.slots ≡ (λ _. [])) × (⟦<TestMsg as MessageSpec>⟧.slots ≡ (λ _. [])) }
     ensures lists_slots { (⟦<CountMsg as MessageSpec>⟧.slots ≡ (λ _. [])) × (⟦<BudgetMsg as MessageSpec>⟧.slots ≡ (λ _. [])) }
@@ -160,9 +160,9 @@ pub fn trees_hold_these(tree: &Tree) -> (&i32, &BTreeMap<i32, Tree>)
 /// nothing is spent. Where fields are kept, each is, or is refused so. Open is what is unread of a number that is
 /// refused, and where memory runs out.
 pub fn fields_are_read_alone()
-    ensures flat { ReadsAlone ⟦<FlatMsg as Fields>⟧.layout.Taken value_field (λ m. m.value) }
-    ensures two { ReadsAlone ⟦<TestMsg as Fields>⟧.layout.Taken two_field (λ m. (m.a, m.b)) }
-    ensures keep { KeepsFields ⟦<BudgetMsg as Fields>⟧.layout.Taken (λ m. m.fields.records) }
+    ensures flat { ReadsAlone ⟦<FlatMsg as MessageFields>⟧.schema.Taken value_field (λ m. m.value) }
+    ensures two { ReadsAlone ⟦<TestMsg as MessageFields>⟧.schema.Taken two_field (λ m. (m.a, m.b)) }
+    ensures keep { KeepsFields ⟦<BudgetMsg as MessageFields>⟧.schema.Taken (λ m. m.fields.records) }
 {}
 
 /// How deep a value nests is exactly so deep: at no lesser depth are its encoding's bytes merged, so that it isn't read back
@@ -171,7 +171,7 @@ pub fn levels_are_exact()
     ensures tree { (d : ℕ) (old t : Grown) → Fits (records_of (⟦<Tree as MessageSpec>⟧.records t)) →
         ⟦<Tree as MessageSpec>⟧.normal t → d < ⟦<Tree as MessageSpec>⟧.levels t →
         ⟦<Tree as MessageSpec>⟧.merged d old (⟦<Tree as MessageSpec>⟧.encoding t) ≡ None }
-    ensures keep { (d : ℕ) (rs : List (ℕ × Datum)) → Fits (records_of (⟦<BudgetMsg as MessageSpec>⟧.records rs)) →
+    ensures keep { (d : ℕ) (rs : List (ℕ × FieldData)) → Fits (records_of (⟦<BudgetMsg as MessageSpec>⟧.records rs)) →
         ⟦<BudgetMsg as MessageSpec>⟧.normal rs → d < ⟦<BudgetMsg as MessageSpec>⟧.levels rs →
         ⟦<BudgetMsg as MessageSpec>⟧.merged d [] (⟦<BudgetMsg as MessageSpec>⟧.encoding rs) ≡ None }
 {
@@ -184,7 +184,7 @@ pub fn messages_are_read_back(flat: &FlatMsg, two: &TestMsg)
     ensures flat { (v : _) → ⟦<FlatMsg as MessageSpec>⟧.normal v ↔ FitsSigned w32 v.0 }
     ensures two { (v : _) → ⟦<TestMsg as MessageSpec>⟧.normal v ↔ (FitsSigned w32 v.0 × FitsSigned w32 v.1.0) }
     ensures count { (n : ℕ) → ⟦<CountMsg as MessageSpec>⟧.normal n ↔ (n < 2 ^ 64) }
-    ensures keep { (rs : List (ℕ × Datum)) → ⟦<BudgetMsg as MessageSpec>⟧.normal rs ↔ AreValid (records_of rs) }
+    ensures keep { (rs : List (ℕ × FieldData)) → ⟦<BudgetMsg as MessageSpec>⟧.normal rs ↔ AreValid (records_of rs) }
     ensures deep { ⟦<BudgetMsg as MessageSpec>⟧.levels ≡ height }
     ensures flat_levels { (⟦<FlatMsg as MessageSpec>⟧.levels ≡ (λ _. 0)) × (⟦<TestMsg as MessageSpec>⟧.levels ≡ (λ _. 0))
         × (⟦<CountMsg as MessageSpec>⟧.levels ≡ (λ _. 0)) }

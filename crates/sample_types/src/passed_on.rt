@@ -10,7 +10,7 @@ use buffa_map::map_codec::{
     ClosedEnum, MapCodec, MapStorage, MapWrite, RewriteError, read_map_field, rewrite_map_field,
 };
 use buffa_map_laws::map_fields::{
-    newer_enums_take_it_too, one_reading, plain_entries_need_units, rewrite_means,
+    newer_enums_take_it_too, one_reading, plain_entries_charge_units, rewrite_means,
 };
 use buffa_wire::{
     Blank, Budget, DEFAULT_ELEMENT_MEMORY_LIMIT, DEFAULT_UNKNOWN_FIELD_LIMIT, DecodeContext,
@@ -140,7 +140,7 @@ pub fn passed_on<
     rewrite_means::<KC>();
     one_reading::<KC, ClosedEnum<E>>();
     one_reading::<KC, ClosedEnum<F>>();
-    plain_entries_need_units::<KC, ClosedEnum<F>>();
+    plain_entries_charge_units::<KC, ClosedEnum<F>>();
     match read_map_field::<KC, ClosedEnum<F>, D, _>(
         alloc,
         map,

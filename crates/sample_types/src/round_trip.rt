@@ -14,7 +14,7 @@ use buffa_map::map_codec::{
     Bool, MapCodec, MapStorage, MapValueDecode, MapWalk, ProtoStringMap, read_map_field,
     write_field,
 };
-use buffa_map_laws::map_fields::{one_reading, plain_entries_need_units, written_is_read};
+use buffa_map_laws::map_fields::{one_reading, plain_entries_charge_units, written_is_read};
 use buffa_wire::{Budget, DEFAULT_ELEMENT_MEMORY_LIMIT, DecodeContext, DecodeError, EncodeError};
 use std::alloc::Global;
 use std::collections::HashMap;
@@ -77,7 +77,7 @@ where
     let ctx = DecodeContext::new(0, &mut budget);
     written_is_read::<KC, VC, C>();
     one_reading::<KC, VC>();
-    plain_entries_need_units::<KC, VC>();
+    plain_entries_charge_units::<KC, VC>();
     match read_map_field::<KC, VC, C, _>(alloc, copy, number, &mut rest, ctx, None) {
         Ok(()) => Ok(()),
         Err(error) => Err(TripFault::Decode(error)),

@@ -1,26 +1,26 @@
-//! A message that holds itself: a plain struct with a map of its own type, in the form [`SelfListed`]. The functions are those
+//! A message that holds itself: a plain struct with a map of its own type, in the form [`RecursiveFieldByField`]. The functions are those
 //! of [`Message`]; what a tree is as a message its type says, and the law `trees_are_these`.
 
 ghost use Rattle.std.specs.Prelude.{IfErr, OnErr, [], ◌≢◌};
 ghost use Rattle.std.proofs.Common.{lit<, refl};
-ghost use Rattle.buffa_bytes.specs.Front.{FullOnlyIf};
-ghost use Rattle.buffa_wire.specs.Message.{BeginsField, IsMerged, Stands};
+ghost use Rattle.buffa_bytes.specs.Readings.{FullOnlyIf};
+ghost use Rattle.buffa_wire.specs.Message.{BeginsField, IsMerged, PartlyMerged};
 ghost use Rattle.buffa_wire.specs.Passes.{IsNext, IsSized, IsWritten};
-ghost use Rattle.buffa_recursive.specs.MemberList.{knotted, map_inside, member, skips};
+ghost use Rattle.buffa_recursive.specs.MemberList.{recursive_message, map_inside, member, skips_unknown};
 
-use buffa_fields::kept;
-use buffa_fields::member::Member;
-use buffa_fields::plain::Plain;
+use buffa_fields::members::implicit_field::ImplicitField;
+use buffa_fields::members::member::Member;
+use buffa_fields::unknown;
 use buffa_map::map_codec::Int32;
-use buffa_recursive::fields::SelfFields;
+use buffa_recursive::inner_merger::InnerMerger;
 use buffa_recursive::keyed::{ByKey, Keyed};
-use buffa_recursive::layout::Laid;
-use buffa_recursive::listing::{SelfListed, SelfListing};
 use buffa_recursive::maps::take_map;
-use buffa_recursive::merger::SelfMerger;
-use buffa_recursive::visitor::SelfVisitor;
+use buffa_recursive::recursive_fields::RecursiveFields;
+use buffa_recursive::recursive_meaning::{RecursiveFieldByField, RecursiveMeaning};
+use buffa_recursive::recursive_type::RecursiveType;
+use buffa_recursive::visitor::RecursiveVisitor;
 use buffa_wire::{
-    Blank, Budget, DecodeContext, DecodeError, EncodeError, EncodeSink, Formed, Message,
+    Blank, Budget, DecodeContext, DecodeError, EncodeError, EncodeSink, Message, MessageImpl,
     MessageSpec, SizeCache, Tag,
 };
 use std::alloc::Global;
@@ -46,42 +46,42 @@ impl Model for Tree {
     ghost use Rattle.std.proofs.Common.{arith};
     ghost use Rattle.buffa_map.specs.Pairs.{means};
     ghost use Rattle.buffa_recursive.specs.MapTree.{keys_in, most-of_map, values_in};
-    ghost use Rattle.buffa_recursive.specs.MessageTree.{Knot, coded_knot, knot, knot_height, many, no_slot};
+    ghost use Rattle.buffa_recursive.specs.MessageTree.{MessageTree, coded_tree, message_tree, tree_height, many, no_inner};
     ghost use base.Stored.{coded_unit};
 
-    ghost Value = { Knot (ℤ × (List ℤ × Unit {0})) };
+    ghost Value = { MessageTree (ℤ × (List ℤ × Unit {0})) };
 
-    ghost coded = { coded_knot (coded× coded_ℤ (coded× (coded_list coded_ℤ) coded_unit)) };
+    ghost coded = { coded_tree (coded× coded_ℤ (coded× (coded_list coded_ℤ) coded_unit)) };
 
     ghost view = { λ t. let pairs = means (λ k. k) (λ m. m) t.children.entries in
-        knot (t.label, (keys_in pairs, tt)) (many (values_in pairs) no_slot) };
+        message_tree (t.label, (keys_in pairs, tt)) (many (values_in pairs) no_inner) };
 
-    ghost size = { knot_height };
+    ghost size = { tree_height };
 
     ghost size_decreases = { λ t h. omega (arith, most-of_map (λ k. k) t.children.entries) };
 }
 
-impl Laid for Tree {
+impl RecursiveType for Tree {
     const COST: usize = 32;
 
     ghost COST = { 32 };
 
     ghost positive = { lit< tt };
 
-    ghost laying = { knotted (
-        member 1 ⟦<Plain<Int32> as Member>⟧.shape (
-        map_inside 2 ⟦<ByKey<Int32> as Keyed>⟧.keys skips)) };
+    ghost schema = { recursive_message (
+        member 1 ⟦<ImplicitField<Int32> as Member>⟧.shape (
+        map_inside 2 ⟦<ByKey<Int32> as Keyed>⟧.keys skips_unknown)) };
 
     ghost sound = { λ w. refl };
 }
 
-impl SelfFields for Tree {
-    fn visit<V: SelfVisitor<Tree>>(&self, visitor: &mut V) {
-        visitor.visit::<Plain<Int32>>(1, &self.label);
+impl RecursiveFields for Tree {
+    fn visit<V: RecursiveVisitor<Tree>>(&self, visitor: &mut V) {
+        visitor.visit::<ImplicitField<Int32>>(1, &self.label);
         visitor.visit_map::<Int32>(2, &self.children);
     }
 
-    fn take<I: SelfMerger<Tree>>(
+    fn take<I: InnerMerger<Tree>>(
         &mut self,
         alloc: Global,
         tag: Tag,
@@ -90,9 +90,9 @@ impl SelfFields for Tree {
         inner: &I,
     ) -> Result<(), DecodeError> {
         match tag.field_number() {
-            1 => Plain::<Int32>::merge(&mut self.label, alloc, tag, buf, ctx),
+            1 => ImplicitField::<Int32>::merge(&mut self.label, alloc, tag, buf, ctx),
             2 => take_map::<Int32, Tree, I>(&mut self.children, alloc, tag, buf, ctx, inner),
-            _ => kept::pass(tag, buf, ctx),
+            _ => unknown::pass(tag, buf, ctx),
         }
     }
 }
@@ -102,7 +102,7 @@ impl Blank for Tree {
 
     ghost meaning = { λ m. m };
 
-    ghost blank_is = { ⟦<Tree as Laid>⟧.laying.into ⟦<Tree as Laid>⟧.laying.blank };
+    ghost blank_is = { ⟦<Tree as RecursiveType>⟧.schema.into ⟦<Tree as RecursiveType>⟧.schema.blank };
 
     fn blank(alloc: Global) -> Tree {
         Tree {
@@ -112,14 +112,14 @@ impl Blank for Tree {
     }
 }
 
-impl SelfListing for Tree {
+impl RecursiveMeaning for Tree {
     ghost means = { λ m. refl };
 
     ghost starts = { refl };
 }
 
-impl Formed for Tree {
-    type Form = SelfListed;
+impl MessageImpl for Tree {
+    type Impl = RecursiveFieldByField;
 }
 
 /// The size pass: the length of the encoding, and the slots of the children appended.
@@ -173,7 +173,7 @@ pub fn merge_tree(
 ) -> Result<(), DecodeError>
     ensures merged { IsMerged (⟦<Tree as MessageSpec>⟧.merged depth tree.old bytes.now)
         (⟦<Tree as MessageSpec>⟧.cost depth bytes.now) budget.old result tree.new budget.new }
-    ensures stands { IfErr result (λ e. Stands ⟦<Tree as MessageSpec>⟧.merged ⟦<Tree as MessageSpec>⟧.cost
+    ensures partly { IfErr result (λ e. PartlyMerged ⟦<Tree as MessageSpec>⟧.merged ⟦<Tree as MessageSpec>⟧.cost
         ⟦<Tree as MessageSpec>⟧.Refused depth tree.old bytes.now budget.old e tree.new) }
     ensures full { FullOnlyIf result (BeginsField bytes.now) }
 {

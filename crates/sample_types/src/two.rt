@@ -1,17 +1,17 @@
 //! A message of two int32.
 
 ghost use Rattle.std.proofs.Common.{lit<, refl};
-ghost use Rattle.buffa_fields.specs.Members.{field, skip};
+ghost use Rattle.buffa_fields.specs.Members.{field, skip_unknown};
 
-use buffa_fields::fields::Fields;
-use buffa_fields::kept;
 use buffa_fields::meaning::And3;
-use buffa_fields::member::Member;
-use buffa_fields::message::{Listed, Listing};
-use buffa_fields::plain::Plain;
-use buffa_fields::visitor::Visitor;
+use buffa_fields::members::implicit_field::ImplicitField;
+use buffa_fields::members::member::Member;
+use buffa_fields::messages::message::{FieldByField, FieldsMeaning};
+use buffa_fields::messages::message_fields::MessageFields;
+use buffa_fields::passes::visitor::Visitor;
+use buffa_fields::unknown;
 use buffa_map::map_codec::Int32;
-use buffa_wire::{Blank, DecodeContext, DecodeError, Formed, Tag};
+use buffa_wire::{Blank, DecodeContext, DecodeError, MessageImpl, Tag};
 use std::alloc::Global;
 
 /// message TestMsg { int32 a = 1; int32 b = 2; }
@@ -27,7 +27,7 @@ pub struct TestMsg {
     pub b: i32,
 }
 
-impl Fields for TestMsg {
+impl MessageFields for TestMsg {
     type Meaning = And3<i32, i32, ()>;
 
     const COST: usize = 32;
@@ -36,15 +36,15 @@ impl Fields for TestMsg {
 
     ghost positive = { lit< tt };
 
-    ghost layout = { field 1 (λ m. m.a) ⟦<Plain<Int32> as Member>⟧.shape (
-        field 2 (λ m. m.b) ⟦<Plain<Int32> as Member>⟧.shape (
-        skip)) };
+    ghost schema = { field 1 (λ m. m.a) ⟦<ImplicitField<Int32> as Member>⟧.shape (
+        field 2 (λ m. m.b) ⟦<ImplicitField<Int32> as Member>⟧.shape (
+        skip_unknown)) };
 
     ghost sound = { refl };
 
     fn visit<V: Visitor>(&self, visitor: &mut V) {
-        visitor.visit::<Plain<Int32>>(1, &self.a);
-        visitor.visit::<Plain<Int32>>(2, &self.b);
+        visitor.visit::<ImplicitField<Int32>>(1, &self.a);
+        visitor.visit::<ImplicitField<Int32>>(2, &self.b);
     }
 
     fn take(
@@ -55,31 +55,31 @@ impl Fields for TestMsg {
         ctx: DecodeContext<'_>,
     ) -> Result<(), DecodeError> {
         match tag.field_number() {
-            1 => Plain::<Int32>::merge(&mut self.a, alloc, tag, buf, ctx),
-            2 => Plain::<Int32>::merge(&mut self.b, alloc, tag, buf, ctx),
-            _ => kept::pass(tag, buf, ctx),
+            1 => ImplicitField::<Int32>::merge(&mut self.a, alloc, tag, buf, ctx),
+            2 => ImplicitField::<Int32>::merge(&mut self.b, alloc, tag, buf, ctx),
+            _ => unknown::pass(tag, buf, ctx),
         }
     }
 }
 
 impl Blank for TestMsg {
-    type Meaning = <TestMsg as Fields>::Meaning;
+    type Meaning = <TestMsg as MessageFields>::Meaning;
 
-    ghost meaning = { ⟦<TestMsg as Fields>⟧.layout.meaning };
+    ghost meaning = { ⟦<TestMsg as MessageFields>⟧.schema.meaning };
 
-    ghost blank_is = { ⟦<TestMsg as Fields>⟧.layout.blank };
+    ghost blank_is = { ⟦<TestMsg as MessageFields>⟧.schema.blank };
 
     fn blank(_alloc: Global) -> TestMsg {
         TestMsg { a: 0, b: 0 }
     }
 }
 
-impl Listing for TestMsg {
+impl FieldsMeaning for TestMsg {
     ghost means = { λ m. refl };
 
     ghost starts = { refl };
 }
 
-impl Formed for TestMsg {
-    type Form = Listed;
+impl MessageImpl for TestMsg {
+    type Impl = FieldByField;
 }

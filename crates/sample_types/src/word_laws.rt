@@ -4,7 +4,7 @@
 ghost use Rattle.std.specs.Prelude.{◌≡◌, ◌≢◌, ◌↔◌, ◌⊎◌, ◌+◌, ◌-◌, ◌*◌, ◌^◌, ◌<◌, ◌≤◌, ℕ, ℤ, Bool, true, Err, List, [], ◌∷◌, ◌++◌, None, Ok, Some, length, map, min, nat_eq, string_bytes};
 ghost use Rattle.std.specs.Char.{to_ascii_lowercase};
 ghost use Rattle.std.specs.Cmp.Lexicographic.{pointwise};
-ghost use Rattle.buffa_bytes.specs.Front.{delimited_at, skip_at, tag_at, varint_at};
+ghost use Rattle.buffa_bytes.specs.Readings.{delimited_at, skip_at, tag_at, varint_at};
 ghost use Rattle.buffa_bytes.specs.declared.error.DecodeError.{DecodeError};
 ghost use Rattle.buffa_bytes.specs.declared.error.DecodeError.TheVariants as decode;
 ghost use Rattle.buffa_bytes.specs.declared.error.EncodeError.{EncodeError};
@@ -13,7 +13,7 @@ ghost use Rattle.buffa_bytes.specs.declared.wire_type.WireType.{WireType};
 ghost use Rattle.buffa_bytes.specs.declared.wire_type.WireType.TheVariants as wire;
 ghost use Rattle.buffa_wire.specs.BudgetLeft.{BudgetLeft};
 ghost use Rattle.buffa_wire.specs.Enums.{numbers};
-ghost use Rattle.buffa_wire.specs.Records.{Datum, Held};
+ghost use Rattle.buffa_wire.specs.Records.{FieldData, Held};
 ghost use Rattle.buffa_map.specs.Encoding.{HasEncoding, entry_encoding, field_encoding};
 ghost use Rattle.buffa_map.specs.EntryReading.{entry_of};
 ghost use Rattle.buffa_map.specs.Enums.{ClosedFits, closed_reading, closed_writing};
@@ -242,7 +242,7 @@ pub fn runs_are_passed_on_so<
     ensures not_read { (p : Proxy KC.Value.Meaning) (d n : ℕ) (bytes : List ℕ) (scratch : C)
         (pairs : List (KC.Value.Meaning × ℤ)) (f : DecodeError) →
         NotRewritten p KC.fits d n bytes (C.walks scratch) pairs (rewrite.Decode f)
-        ↔ ((over : BudgetLeft) × (rest : List ℕ) × (kept : List (ℕ × Datum))
+        ↔ ((over : BudgetLeft) × (rest : List ℕ) × (kept : List (ℕ × FieldData))
         × RefusesRun (p.older d n) (state [] [] (record { unknown = 1000000; memory = 2 ^ 28 })) bytes
         (state pairs kept over) rest f) }
     ensures not_written { (p : Proxy KC.Value.Meaning) (d n : ℕ) (bytes : List ℕ) (scratch : C)

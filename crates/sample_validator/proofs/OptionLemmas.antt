@@ -3,7 +3,7 @@ use Rattle.std.proofs.Common.{◌≡◌, ◌⊎◌, inl, inr, ℕ, List, [], ◌
 use Rattle.std.specs.List.{cons_option, filter_map, last_or}
 use Rattle.std.specs.Result.{IfErr, IsOk, OnErr}
 use Rattle.std.specs.declared.alloc.AllocError.{AllocError}
-use Rattle.buffa_wire.specs.Records.{Datum}
+use Rattle.buffa_wire.specs.Records.{FieldData}
 use Rattle.buffa_codec.specs.Decoded.{HasByte, HasLast, last_read}
 use Rattle.buffa_bytes.specs.declared.error.DecodeError.{DecodeError}
 use Rattle.buffa_codec.specs.Strict.{IsFaultOrFull}
@@ -37,7 +37,7 @@ pub made_or : {V : Type 0} {reads : Option V → Type 0} {Q : Global → V → T
 made_or r d h is says = default_of r d h is (made d says)
 
 -- no record's reading takes memory, and making the default is never refused
-pub never_refused : {V E M : Type 0} {Q : Global → AllocError → Type 0} (reads : Type 0) (one : Datum → Option M) (r : Result V E) (ds : List Datum)
+pub never_refused : {V E M : Type 0} {Q : Global → AllocError → Type 0} (reads : Type 0) (one : FieldData → Option M) (r : Result V E) (ds : List FieldData)
     → OnErr r (HasLast (λ d. ⊥) one ds ⊎ (reads × ((a : Global) × (e : AllocError) × Q a e))) → ((a : Global) (e : AllocError) → Q a e → ⊥)
     → IsOk r
 never_refused reads one (Ok v) ds h made_it = refl
@@ -54,12 +54,12 @@ byte_behind : (o found : Option (List ℕ)) (xs : List (List ℕ)) → ((p : Opt
 byte_behind o None xs h = h o
 byte_behind o (Some v) xs h = h (Some v)
 
-byte_of : (one : Datum → Option (List ℕ)) (front : List Datum) (d : Datum) (back : List Datum) (o : Option (List ℕ)) → filter_map one back ≡ []
+byte_of : (one : FieldData → Option (List ℕ)) (front : List FieldData) (d : FieldData) (back : List FieldData) (o : Option (List ℕ)) → filter_map one back ≡ []
     → HasByte (one d) → HasByte (last_or o (filter_map one (front ++ d ∷ back)))
 byte_of one [] d back o none h = byte_there o (one d) (filter_map one back) none h
 byte_of one (x ∷ front) d back o none h = byte_behind o (one x) (filter_map one (front ++ d ∷ back)) (λ p. byte_of one front d back p none h)
 
-pub last_has_byte : (one : Datum → Option (List ℕ)) (ds : List Datum) → HasLast (λ d. HasByte (one d)) one ds → HasByte (last_read one ds)
+pub last_has_byte : (one : FieldData → Option (List ℕ)) (ds : List FieldData) → HasLast (λ d. HasByte (one d)) one ds → HasByte (last_read one ds)
 last_has_byte one ds (front, d, back, h, none, e) = subst (λ l. HasByte (last_read one l)) (sym e) (byte_of one front d back None none h)
 
 -- a fault is told where no memory is asked for

@@ -4,7 +4,7 @@ use Rattle.std.specs.Bool.{Decides, beq}
 use Rattle.std.specs.Option.{option_eq, option_map}
 use Rattle.buffa_bytes.proofs.VarintLemmas.{varint_complete}
 use Rattle.buffa_bytes.specs.Field.{Payload}
-use Rattle.buffa_bytes.specs.Front.{varint_at, FullOnlyIf}
+use Rattle.buffa_bytes.specs.Readings.{varint_at, FullOnlyIf}
 use Rattle.buffa_bytes.specs.Scalars.{bool_of}
 use Rattle.buffa_bytes.specs.declared.error.DecodeError.{DecodeError}
 use Rattle.buffa_bytes.specs.declared.error.DecodeError.TheVariants.{OutOfMemory}
@@ -118,6 +118,6 @@ module _ (d n : ℕ) where
   declared_read x y w bs rest before after (Err e) (k, why, end) full refused =
       let unknown : after.unknown ≡ before.unknown = omega (arith, k.0, k.1, k.2, k.3) in
       let memory : after.memory ≡ before.memory = omega (arith, k.0, k.1, k.2, k.3) in
-      let told = refused e refl in
+      let reported = refused e refl in
       let none : e ≢ OutOfMemory = λ is. let asked = (full is).1 in cc in
-      ((sym (option_map_id y) ∙ sym told.0 ∙ option_map_id x, told.1 none), λ i. record { unknown = unknown i; memory = memory i })
+      ((sym (option_map_id y) ∙ sym reported.0 ∙ option_map_id x, reported.1 none), λ i. record { unknown = unknown i; memory = memory i })

@@ -7,33 +7,33 @@ use Rattle.buffa_bytes.specs.declared.error.DecodeError.{DecodeError}
 use Rattle.buffa_bytes.specs.declared.wire_type.WireType.{WireType}
 use Rattle.buffa_bytes.specs.declared.wire_type.WireType.TheVariants.{Varint}
 use Rattle.buffa_wire.specs.BudgetLeft.{BudgetLeft}
-use Rattle.buffa_wire.specs.Kept.{keep_need}
+use Rattle.buffa_wire.specs.Kept.{keep_charge}
 use Rattle.buffa_wire.specs.Message.{FieldTaken}
 use Rattle.buffa_wire.specs.Parse.{AreValid}
-use Rattle.buffa_wire.specs.Records.{Datum, records_of, varint}
-use Rattle.buffa_wire.specs.Takes.{Need, Taker}
+use Rattle.buffa_wire.specs.Records.{FieldData, records_of, varint}
+use Rattle.buffa_wire.specs.Takes.{Charge, Taker}
 use Rattle.buffa_map.specs.Codec.{Reading}
 use Rattle.buffa_map.specs.Scalars.{number_reading}
-use Rattle.buffa_fields.specs.Keep.{AllNumbers, keep_takes}
-use Rattle.buffa_fields.specs.Layout.{Choice, IsFieldKept, both_need, both_take}
+use Rattle.buffa_fields.specs.UndeclaredFields.{AllNumbers, keep_takes}
+use Rattle.buffa_fields.specs.Schema.{Choice, IsFieldKept, both_charge, both_take}
 use Rattle.sample_validator.specs.declared.options.FieldOptions.{FieldOptions}
 use Rattle.buffa_fields.specs.Values.{field_value_at, free, some_records, some_taken}
 
 abbrev pub bool_reading : Reading Bool
 bool_reading = number_reading Varint false bool_of
 
-abbrev pub options_takes : Taker (Option Bool × List (ℕ × Datum))
+abbrev pub options_takes : Taker (Option Bool × List (ℕ × FieldData))
 options_takes = both_take 3 (some_taken bool_reading) keep_takes
 
-abbrev pub options_need : Need
-options_need = both_need 3 free keep_need
+abbrev pub options_charge : Charge
+options_charge = both_charge 3 free keep_charge
 
 -- the declared one is written first
-abbrev pub options_records : Option Bool × List (ℕ × Datum) → List (ℕ × Datum)
+abbrev pub options_records : Option Bool × List (ℕ × FieldData) → List (ℕ × FieldData)
 options_records v = some_records (λ b. varint (from_bool b)) 3 v.0 ++ v.1
 
 -- the records that are kept are valid, and none has its number
-abbrev pub OthersAreKept : Option Bool × List (ℕ × Datum) → Type 0
+abbrev pub OthersAreKept : Option Bool × List (ℕ × FieldData) → Type 0
 OthersAreKept v = AreValid (records_of v.1) × AllNumbers (λ n. not (n == 3)) v.1
 
 -- the declared field is read by itself, or refused by the fault of its bytes, and then it stays

@@ -1,7 +1,7 @@
 -- Rules for an int32 value, and which values they accept.
 use Rattle.std.specs.Prelude.{ℕ, ℤ, ◌⊎◌, ◌≡◌, true, false, Option, Some, None, IfSome, unwrap_or, List}
 use Rattle.std.specs.Int.Signed.{◌≤ℤ◌, ◌<ℤ◌}
-use Rattle.buffa_wire.specs.Records.{Datum}
+use Rattle.buffa_wire.specs.Records.{FieldData}
 use Rattle.buffa_bytes.specs.declared.error.DecodeError.{DecodeError}
 use Rattle.sample_validator.specs.Options.{IsMalformed, IsReadWhole, int32_option, bool_option}
 use Rattle.sample_validator.specs.declared.rules.Rules.{Rules}
@@ -23,12 +23,12 @@ BreaksRule rules o TooGreat =
 
 -- each record of a rule is read; or this is the fault of the first that isn't, of the least value, the greatest, and whether one
 -- is asked for, in this order
-abbrev pub AreRead : List (ℕ × Datum) → Type 0
+abbrev pub AreRead : List (ℕ × FieldData) → Type 0
 AreRead rs = IsReadWhole 50011 rs × IsReadWhole 50012 rs × IsReadWhole 50013 rs
 
-abbrev pub AreMalformed : List (ℕ × Datum) → DecodeError → Type 0
+abbrev pub AreMalformed : List (ℕ × FieldData) → DecodeError → Type 0
 AreMalformed rs e = IsMalformed 50011 rs e ⊎ ((IsReadWhole 50011 rs × IsMalformed 50012 rs e) ⊎ (IsReadWhole 50011 rs × IsReadWhole 50012 rs × IsMalformed 50013 rs e))
 
 -- the rules that options set, at numbers 50011 to 50013
-abbrev pub rules_in : List (ℕ × Datum) → Rules
+abbrev pub rules_in : List (ℕ × FieldData) → Rules
 rules_in rs = record { min = int32_option 50011 rs; max = int32_option 50012 rs; required = unwrap_or (bool_option 50013 rs) false }

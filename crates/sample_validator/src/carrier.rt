@@ -2,14 +2,14 @@
 
 ghost use Rattle.std.proofs.Common.{lit<};
 ghost use Rattle.std.specs.Prelude.{codes, refl};
-ghost use Rattle.buffa_fields.specs.Members.{keep};
+ghost use Rattle.buffa_fields.specs.Members.{keep_unknown};
 
 use buffa_ext::ExtensionSet;
-use buffa_fields::fields::Fields;
-use buffa_fields::kept::{self, KeptFields};
-use buffa_fields::message::{Listed, Listing};
-use buffa_fields::visitor::Visitor;
-use buffa_wire::{Blank, DecodeContext, DecodeError, Formed, Tag, UnknownFields};
+use buffa_fields::messages::message::{FieldByField, FieldsMeaning};
+use buffa_fields::messages::message_fields::MessageFields;
+use buffa_fields::messages::unknown::{self, Unknowns};
+use buffa_fields::passes::visitor::Visitor;
+use buffa_wire::{Blank, DecodeContext, DecodeError, MessageImpl, Tag, UnknownFields};
 use std::alloc::Global;
 
 /// A list of records, which lends itself to extensions of `test.Carrier`.
@@ -25,8 +25,8 @@ pub struct Carrier {
     pub fields: UnknownFields,
 }
 
-impl Fields for Carrier {
-    type Meaning = KeptFields;
+impl MessageFields for Carrier {
+    type Meaning = Unknowns;
 
     const COST: usize = 24;
 
@@ -34,12 +34,12 @@ impl Fields for Carrier {
 
     ghost positive = { lit< tt };
 
-    ghost layout = { keep (λ m. m.fields.records) };
+    ghost schema = { keep_unknown (λ m. m.fields.records) };
 
     ghost sound = { refl };
 
     fn visit<V: Visitor>(&self, visitor: &mut V) {
-        visitor.visit_kept(&self.fields);
+        visitor.visit_unknown_fields(&self.fields);
     }
 
     fn take(
@@ -49,16 +49,16 @@ impl Fields for Carrier {
         buf: &mut &[u8],
         ctx: DecodeContext<'_>,
     ) -> Result<(), DecodeError> {
-        kept::keep(alloc, &mut self.fields, tag, buf, ctx)
+        unknown::keep(alloc, &mut self.fields, tag, buf, ctx)
     }
 }
 
 impl Blank for Carrier {
-    type Meaning = <Carrier as Fields>::Meaning;
+    type Meaning = <Carrier as MessageFields>::Meaning;
 
-    ghost meaning = { ⟦<Carrier as Fields>⟧.layout.meaning };
+    ghost meaning = { ⟦<Carrier as MessageFields>⟧.schema.meaning };
 
-    ghost blank_is = { ⟦<Carrier as Fields>⟧.layout.blank };
+    ghost blank_is = { ⟦<Carrier as MessageFields>⟧.schema.blank };
 
     fn blank(alloc: Global) -> Carrier {
         Carrier {
@@ -67,14 +67,14 @@ impl Blank for Carrier {
     }
 }
 
-impl Listing for Carrier {
+impl FieldsMeaning for Carrier {
     ghost means = { λ m. refl };
 
     ghost starts = { refl };
 }
 
-impl Formed for Carrier {
-    type Form = Listed;
+impl MessageImpl for Carrier {
+    type Impl = FieldByField;
 }
 
 impl ExtensionSet for Carrier {

@@ -16,20 +16,20 @@ ghost use Rattle.buffa_bytes.specs.Pinned.{IsCopied, SameIsOne};
 ghost use Rattle.buffa_wire.specs.BudgetLeft.{BudgetLeft, nothing};
 ghost use Rattle.buffa_wire.specs.Found.{varint_in};
 ghost use Rattle.buffa_wire.specs.Encoding.{records_encoding};
-ghost use Rattle.buffa_wire.specs.Kept.{keep_need};
+ghost use Rattle.buffa_wire.specs.Kept.{keep_charge};
 ghost use Rattle.buffa_wire.specs.Parse.{AreValid};
-ghost use Rattle.buffa_wire.specs.Records.{Datum, Held, Records, bytes, fixed32, fixed64, group, height, records_of, varint};
+ghost use Rattle.buffa_wire.specs.Records.{FieldData, Held, Records, bytes, fixed32, fixed64, group, height, records_of, varint};
 ghost use Rattle.buffa_wire.specs.Takes.{cost_of, merged_of};
 ghost use Rattle.buffa_codec.specs.Packed.{numbers_in};
 ghost use Rattle.buffa_codec.specs.Decoded.{last_read, string_held};
 ghost use Rattle.buffa_codec.specs.Strict.{unless_found};
 ghost use Rattle.buffa_codec.specs.Sub.{sub};
 ghost use Rattle.buffa_fields.specs.Calls.{KeepsFields};
-ghost use Rattle.buffa_fields.specs.Keep.{AllNumbers, keep_takes};
+ghost use Rattle.buffa_fields.specs.UndeclaredFields.{AllNumbers, keep_takes};
 ghost use Rattle.buffa_fields.specs.Values.{field_value_at, some_taken};
 ghost use Rattle.buffa_map.specs.Scalars.{number_reading};
 ghost use Rattle.sample_validator.specs.Meaning.{OthersAreKept, ReadsDeprecated, TakesOptions};
-ghost use Rattle.sample_validator.specs.Meaning.{options_need, options_records, options_takes};
+ghost use Rattle.sample_validator.specs.Meaning.{options_charge, options_records, options_takes};
 ghost use Rattle.sample_validator.specs.Options.{IsMalformed, IsReadWhole, bool_option, int32_list, int32_option};
 ghost use Rattle.sample_validator.specs.Options.{int32s_in, string_option, varint_fault};
 ghost use Rattle.sample_validator.specs.Pinned.{EqualByMeaning, AcceptsOrBreaks, OneViolation, NotBoth};
@@ -45,8 +45,8 @@ use crate::price::{Price, PriceCodec};
 use crate::rules::{Rules, Violation};
 use buffa_codec::{ExtensionCodec, Numbered, PackableCodec, SingularCodec};
 use buffa_ext::ExtensionSet;
-use buffa_fields::fields::Fields;
-use buffa_fields::message::members_read_back;
+use buffa_fields::messages::message::members_read_back;
+use buffa_fields::messages::message_fields::MessageFields;
 use buffa_wire::{Blank, MessageSpec};
 
 /// A value is accepted, or it breaks a rule, and not both; and the rule that is named is one. Each is said by its word, and in full.
@@ -55,7 +55,7 @@ use buffa_wire::{Blank, MessageSpec};
 pub fn judgements_are_pinned()
     ensures judged { AcceptsOrBreaks }
     ensures either { NotBoth }
-    ensures told { OneViolation }
+    ensures reported { OneViolation }
     ensures accepted { (rules : Rules) (o : Option ℤ) → Accepts rules o ⊎ ((v : Violation) × BreaksRule rules o v) }
     ensures not_both { (rules : Rules) (o : Option ℤ) (v : Violation) → Accepts rules o → BreaksRule rules o v → ⊥ }
     ensures one { (rules : Rules) (o : Option ℤ) (v w : Violation) →
@@ -67,7 +67,7 @@ pub fn judgements_are_pinned()
 /// found, and of which the fault is told where one isn't read.
 pub fn rules_are_these()
     ensures missing { (rules : Rules) → Accepts rules None ↔ (rules.required ≡ false) }
-    ensures told_missing { (rules : Rules) (o : Option ℤ) → BreaksRule rules o Missing ↔ ((o ≡ None) × (rules.required ≡ true)) }
+    ensures reported_missing { (rules : Rules) (o : Option ℤ) → BreaksRule rules o Missing ↔ ((o ≡ None) × (rules.required ≡ true)) }
     ensures free { (v : ℤ) (asked : Bool) → Accepts (record { min = None; max = None; required = asked }) (Some v) }
     ensures bound { (v least most : ℤ) (asked : Bool) →
         Accepts (record { min = Some least; max = Some most; required = asked }) (Some v)
@@ -81,15 +81,15 @@ pub fn rules_are_these()
     ensures too_great { (rules : Rules) (o : Option ℤ) → BreaksRule rules o TooGreat
         ↔ ((v most : ℤ) × (o ≡ Some v) × (rules.max ≡ Some most) × (most <ℤ v)
         × IfSome rules.min (λ least. least ≤ℤ v)) }
-    ensures found { (rs : List (ℕ × Datum)) →
+    ensures found { (rs : List (ℕ × FieldData)) →
         ((rules_in rs).min ≡ last_read (λ d. option_map int32_of (varint_in d)) (sub 50011 rs))
         × ((rules_in rs).max ≡ last_read (λ d. option_map int32_of (varint_in d)) (sub 50012 rs))
         × ((rules_in rs).required ≡ unwrap_or (last_read (λ d. option_map bool_of (varint_in d)) (sub 50013 rs)) false) }
-    ensures read { (rs : List (ℕ × Datum)) → AreRead rs
+    ensures read { (rs : List (ℕ × FieldData)) → AreRead rs
         ↔ (AllByRecursion (λ d. unless_found (varint_in d) Varint 50011 d ≡ None) (sub 50011 rs)
         × AllByRecursion (λ d. unless_found (varint_in d) Varint 50012 d ≡ None) (sub 50012 rs)
         × AllByRecursion (λ d. unless_found (varint_in d) Varint 50013 d ≡ None) (sub 50013 rs)) }
-    ensures not_read { (rs : List (ℕ × Datum)) (e : DecodeError) → AreMalformed rs e
+    ensures not_read { (rs : List (ℕ × FieldData)) (e : DecodeError) → AreMalformed rs e
         ↔ (IsMalformed 50011 rs e ⊎ ((IsReadWhole 50011 rs × IsMalformed 50012 rs e)
         ⊎ (IsReadWhole 50011 rs × IsReadWhole 50012 rs × IsMalformed 50013 rs e))) }
 {}
@@ -98,12 +98,12 @@ pub fn rules_are_these()
 /// list the numbers of all its records, one or packed ones each. An option is read whole where each of its records is a varint; or
 /// it is malformed, by the fault of the first that is none, which tells the wire type that is there.
 pub fn options_are_read_so()
-    ensures int32 { (n : ℕ) (rs : List (ℕ × Datum)) →
+    ensures int32 { (n : ℕ) (rs : List (ℕ × FieldData)) →
         int32_option n rs ≡ last_or None (filter_map (λ d. option_map int32_of (varint_in d)) (sub n rs)) }
-    ensures boolean { (n : ℕ) (rs : List (ℕ × Datum)) →
+    ensures boolean { (n : ℕ) (rs : List (ℕ × FieldData)) →
         bool_option n rs ≡ last_or None (filter_map (λ d. option_map bool_of (varint_in d)) (sub n rs)) }
-    ensures string { (n : ℕ) (rs : List (ℕ × Datum)) → string_option n rs ≡ last_or None (filter_map string_held (sub n rs)) }
-    ensures list { (n : ℕ) (rs : List (ℕ × Datum)) → int32_list n rs ≡ flat_map int32s_in (sub n rs) }
+    ensures string { (n : ℕ) (rs : List (ℕ × FieldData)) → string_option n rs ≡ last_or None (filter_map string_held (sub n rs)) }
+    ensures list { (n : ℕ) (rs : List (ℕ × FieldData)) → int32_list n rs ≡ flat_map int32s_in (sub n rs) }
     ensures one { (x : ℕ) → int32s_in (varint x) ≡ int32_of x ∷ [] }
     ensures packed { (b : List ℕ) → int32s_in (bytes b) ≡ map int32_of (numbers_in Varint b) }
     ensures no_number { (x : ℕ) (rs : Records) → (int32s_in (fixed32 x) ≡ []) × (int32s_in (fixed64 x) ≡ [])
@@ -114,10 +114,10 @@ pub fn options_are_read_so()
         × (varint_fault n (fixed64 x) ≡ Some (WireTypeMismatch n Varint Fixed64))
         × (varint_fault n (bytes b) ≡ Some (WireTypeMismatch n Varint LengthDelimited))
         × (varint_fault n (group rs) ≡ Some (WireTypeMismatch n Varint StartGroup)) }
-    ensures whole { (n : ℕ) (rs : List (ℕ × Datum)) → IsReadWhole n rs
+    ensures whole { (n : ℕ) (rs : List (ℕ × FieldData)) → IsReadWhole n rs
         ↔ AllByRecursion (λ d. unless_found (varint_in d) Varint n d ≡ None) (sub n rs) }
-    ensures malformed { (n : ℕ) (rs : List (ℕ × Datum)) (e : DecodeError) → IsMalformed n rs e
-        ↔ ((front : List Datum) × (d : Datum) × (back : List Datum) × (sub n rs ≡ front ++ d ∷ back)
+    ensures malformed { (n : ℕ) (rs : List (ℕ × FieldData)) (e : DecodeError) → IsMalformed n rs e
+        ↔ ((front : List FieldData) × (d : FieldData) × (back : List FieldData) × (sub n rs ≡ front ++ d ∷ back)
         × AllByRecursion (λ x. unless_found (varint_in x) Varint n x ≡ None) front
         × (unless_found (varint_in d) Varint n d ≡ Some e)) }
 {}
@@ -128,23 +128,23 @@ pub fn prices_are_sint64()
     ensures blank { ⟦<Price as Blank>⟧.blank_is ≡ pos 0 }
     ensures value { (n : ℕ) → ⟦<PriceCodec as Numbered>⟧.value_of n ≡ sint64_of n }
     ensures number { (v : ℤ) → ⟦<PriceCodec as Numbered>⟧.number_of v ≡ zigzag v }
-    ensures reads { (ds : List Datum) (o : Option ℤ) → ⟦<PriceCodec as ExtensionCodec>⟧.reads ds o
+    ensures reads { (ds : List FieldData) (o : Option ℤ) → ⟦<PriceCodec as ExtensionCodec>⟧.reads ds o
         ↔ (o ≡ last_read (λ d. option_map sint64_of (varint_in d)) ds) }
-    ensures records { (v : ℤ) → ⟦<PriceCodec as ExtensionCodec>⟧.recs v ≡ varint (zigzag v) ∷ [] }
+    ensures records { (v : ℤ) → ⟦<PriceCodec as ExtensionCodec>⟧.extension_data v ≡ varint (zigzag v) ∷ [] }
     ensures holds { (v : ℤ) (o : Option ℤ) → ⟦<PriceCodec as ExtensionCodec>⟧.holds v o ↔ (o ≡ Some v) }
-    ensures one { (n : ℕ) (b : BudgetLeft) (d : Datum) → ⟦<PriceCodec as SingularCodec>⟧.one n b d
+    ensures one { (n : ℕ) (b : BudgetLeft) (d : FieldData) → ⟦<PriceCodec as SingularCodec>⟧.one n b d
         ≡ option_map sint64_of (varint_in d) }
     ensures packed { (bs : List ℕ) → ⟦<PriceCodec as SingularCodec>⟧.packed bs ≡ map sint64_of (numbers_in Varint bs) }
-    ensures datum { (v : ℤ) → ⟦<PriceCodec as SingularCodec>⟧.datum v ≡ varint (zigzag v) }
+    ensures field_data { (v : ℤ) → ⟦<PriceCodec as SingularCodec>⟧.field_data v ≡ varint (zigzag v) }
     ensures packed_encoding { (v : ℤ) → ⟦<PriceCodec as PackableCodec>⟧.packed_encoding v ≡ sint64_encoding v }
     ensures back { (v : ℤ) → ⟦<PriceCodec as SingularCodec>⟧.back v ≡ v }
     ensures fits { (v : ℤ) → ⟦<PriceCodec as SingularCodec>⟧.fits v ↔ FitsSigned w64 v }
     ensures normal { (v : ℤ) → ⟦<PriceCodec as SingularCodec>⟧.normal v }
     ensures accepted { (v : ℤ) → ⟦<PriceCodec as SingularCodec>⟧.refusal v ≡ None }
     ensures free { ⟦<PriceCodec as SingularCodec>⟧.never_fails }
-    ensures asks { (d : Datum) → ⟦<PriceCodec as SingularCodec>⟧.asks d → ⊥ }
-    ensures cost { (d : Datum) → ⟦<PriceCodec as SingularCodec>⟧.cost d ≡ nothing }
-    ensures unspent { (n : ℕ) (b left : BudgetLeft) (d : Datum) → ⟦<PriceCodec as SingularCodec>⟧.leaves n b d left
+    ensures asks { (d : FieldData) → ⟦<PriceCodec as SingularCodec>⟧.asks d → ⊥ }
+    ensures cost { (d : FieldData) → ⟦<PriceCodec as SingularCodec>⟧.cost d ≡ nothing }
+    ensures unspent { (n : ℕ) (b left : BudgetLeft) (d : FieldData) → ⟦<PriceCodec as SingularCodec>⟧.leaves n b d left
         → left ≡ b }
 {}
 
@@ -185,9 +185,9 @@ pub fn options_are_equal_by_meaning()
 /// Which messages they are: what bytes make of them, what they cost, and their encoding. Nothing is left out.
 pub fn messages_are_these()
     ensures options { (⟦<FieldOptions as MessageSpec>⟧.merged ≡ merged_of options_takes)
-        × (⟦<FieldOptions as MessageSpec>⟧.cost ≡ cost_of options_need) }
+        × (⟦<FieldOptions as MessageSpec>⟧.cost ≡ cost_of options_charge) }
     ensures carrier { (⟦<Carrier as MessageSpec>⟧.merged ≡ merged_of keep_takes)
-        × (⟦<Carrier as MessageSpec>⟧.cost ≡ cost_of keep_need) }
+        × (⟦<Carrier as MessageSpec>⟧.cost ≡ cost_of keep_charge) }
     ensures records { (v : _) → ⟦<FieldOptions as MessageSpec>⟧.records v ≡ options_records v }
     ensures encoding { (v : _) → ⟦<FieldOptions as MessageSpec>⟧.encoding v ≡ records_encoding (options_records v) }
     ensures carrier_records { ⟦<Carrier as MessageSpec>⟧.records ≡ (λ rs. rs) }
@@ -199,15 +199,15 @@ pub fn messages_are_these()
 /// What the words mean that say which message options are: field 3 is a `bool` that is there or isn't, for which nothing is charged,
 /// and is written first; all others are kept behind one another, and none of these has its number.
 pub fn options_mean_so()
-    ensures takes { (d n : ℕ) (v : Option Bool × List (ℕ × Datum)) (w : WireType) (p : List ℕ) → options_takes d v n w p
+    ensures takes { (d n : ℕ) (v : Option Bool × List (ℕ × FieldData)) (w : WireType) (p : List ℕ) → options_takes d v n w p
         ≡ (if n == 3 then option_map (λ x. (x, v.1)) (some_taken (number_reading Varint false bool_of) d v.0 n w p)
         else option_map (λ y. (v.0, y)) (keep_takes d v.1 n w p)) }
-    ensures need { (d n : ℕ) (w : WireType) (bs : List ℕ) →
-        options_need d n w bs ≡ (if n == 3 then nothing else keep_need d n w bs) }
-    ensures absent { (rs : List (ℕ × Datum)) → options_records (None, rs) ≡ rs }
-    ensures there { (b : Bool) (rs : List (ℕ × Datum)) →
+    ensures charge { (d n : ℕ) (w : WireType) (bs : List ℕ) →
+        options_charge d n w bs ≡ (if n == 3 then nothing else keep_charge d n w bs) }
+    ensures absent { (rs : List (ℕ × FieldData)) → options_records (None, rs) ≡ rs }
+    ensures there { (b : Bool) (rs : List (ℕ × FieldData)) →
         options_records (Some b, rs) ≡ (3, varint (from_bool b)) ∷ rs }
-    ensures kept { (v : Option Bool × List (ℕ × Datum)) → OthersAreKept v
+    ensures kept { (v : Option Bool × List (ℕ × FieldData)) → OthersAreKept v
         ↔ (AreValid (records_of v.1) × AllNumbers (λ n. not (n == 3)) v.1) }
     ensures read { (d n : ℕ) (old new : Option Bool) (w : WireType) (bs rest : List ℕ) →
         ReadsDeprecated d n old w bs (Ok tt) new rest ↔ ((x : Bool) × (new ≡ Some x)
@@ -220,7 +220,7 @@ pub fn options_mean_so()
 /// Which values are read back from their encoding, and how deep it nests. Nothing is left out.
 pub fn messages_are_read_back(options: &FieldOptions)
     ensures options { (v : _) → ⟦<FieldOptions as MessageSpec>⟧.normal v ↔ OthersAreKept v }
-    ensures carrier { (rs : List (ℕ × Datum)) → ⟦<Carrier as MessageSpec>⟧.normal rs ↔ AreValid (records_of rs) }
+    ensures carrier { (rs : List (ℕ × FieldData)) → ⟦<Carrier as MessageSpec>⟧.normal rs ↔ AreValid (records_of rs) }
     ensures levels { (v : _) → ⟦<FieldOptions as MessageSpec>⟧.levels v ≡ height v.1 }
     ensures carrier_levels { ⟦<Carrier as MessageSpec>⟧.levels ≡ height }
 {
@@ -230,8 +230,8 @@ pub fn messages_are_read_back(options: &FieldOptions)
 /// The declared field is read by itself, any other is kept behind the others, and what is refused, by the fault of its
 /// bytes, changes and spends nothing. It doesn't say what is unread of the declared one then, and where memory runs out.
 pub fn fields_are_taken_alone()
-    ensures options { TakesOptions ⟦<FieldOptions as Fields>⟧.layout.Taken }
-    ensures carrier { KeepsFields ⟦<Carrier as Fields>⟧.layout.Taken (λ m. m.fields.records) }
+    ensures options { TakesOptions ⟦<FieldOptions as MessageFields>⟧.schema.Taken }
+    ensures carrier { KeepsFields ⟦<Carrier as MessageFields>⟧.schema.Taken (λ m. m.fields.records) }
 {}
 
 /// The constant `PROTO_FQN` of each of these is that name, too. Nothing is left out.

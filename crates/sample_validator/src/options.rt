@@ -4,21 +4,21 @@ ghost use Rattle.std.specs.Prelude.{◌≡◌, ◌≢◌, [], codes, refl, pos, 
 ghost use Rattle.std.proofs.Common.{lit<};
 ghost use Rattle.std.specs.Prelude.{IfErr, IfOk, IsOk, OnErr, OnOk, option_map, string_bytes};
 ghost use Rattle.buffa_codec.specs.Decoded.{HasByte};
-ghost use Rattle.buffa_fields.specs.Members.{field, keep};
+ghost use Rattle.buffa_fields.specs.Members.{field, keep_unknown};
 ghost use Rattle.sample_validator.specs.Options.{IsMalformed, IsReadWhole, bool_option, int32_list};
 ghost use Rattle.sample_validator.specs.Options.{int32_option, string_option};
 
 use buffa_codec::{Repeated, StringCodec};
 use buffa_ext::{Extension, ExtensionSet};
-use buffa_fields::fields::Fields;
-use buffa_fields::kept::{self, KeptFields};
 use buffa_fields::meaning::And;
-use buffa_fields::member::Member;
-use buffa_fields::message::{Listed, Listing};
-use buffa_fields::optional::Optional;
-use buffa_fields::visitor::Visitor;
+use buffa_fields::members::explicit_field::ExplicitField;
+use buffa_fields::members::member::Member;
+use buffa_fields::messages::message::{FieldByField, FieldsMeaning};
+use buffa_fields::messages::message_fields::MessageFields;
+use buffa_fields::messages::unknown::{self, Unknowns};
+use buffa_fields::passes::visitor::Visitor;
 use buffa_wire::scalars::{Bool, Int32};
-use buffa_wire::{Blank, DecodeContext, DecodeError, Formed, Tag, UnknownFields};
+use buffa_wire::{Blank, DecodeContext, DecodeError, MessageImpl, Tag, UnknownFields};
 use std::alloc::{AllocError, Global};
 
 /// The options of a field, as `google.protobuf.FieldOptions` has them: one that is declared, and the records
@@ -37,8 +37,8 @@ pub struct FieldOptions {
     pub fields: UnknownFields,
 }
 
-impl Fields for FieldOptions {
-    type Meaning = And<Option<bool>, KeptFields>;
+impl MessageFields for FieldOptions {
+    type Meaning = And<Option<bool>, Unknowns>;
 
     const COST: usize = 32;
 
@@ -46,13 +46,13 @@ impl Fields for FieldOptions {
 
     ghost positive = { lit< tt };
 
-    ghost layout = { field 3 (λ m. m.deprecated) ⟦<Optional<Bool> as Member>⟧.shape (keep (λ m. m.fields.records)) };
+    ghost schema = { field 3 (λ m. m.deprecated) ⟦<ExplicitField<Bool> as Member>⟧.shape (keep_unknown (λ m. m.fields.records)) };
 
     ghost sound = { refl };
 
     fn visit<V: Visitor>(&self, visitor: &mut V) {
-        visitor.visit::<Optional<Bool>>(3, &self.deprecated);
-        visitor.visit_kept(&self.fields);
+        visitor.visit::<ExplicitField<Bool>>(3, &self.deprecated);
+        visitor.visit_unknown_fields(&self.fields);
     }
 
     fn take(
@@ -63,18 +63,18 @@ impl Fields for FieldOptions {
         ctx: DecodeContext<'_>,
     ) -> Result<(), DecodeError> {
         match tag.field_number() {
-            3 => Optional::<Bool>::merge(&mut self.deprecated, alloc, tag, buf, ctx),
-            _ => kept::keep(alloc, &mut self.fields, tag, buf, ctx),
+            3 => ExplicitField::<Bool>::merge(&mut self.deprecated, alloc, tag, buf, ctx),
+            _ => unknown::keep(alloc, &mut self.fields, tag, buf, ctx),
         }
     }
 }
 
 impl Blank for FieldOptions {
-    type Meaning = <FieldOptions as Fields>::Meaning;
+    type Meaning = <FieldOptions as MessageFields>::Meaning;
 
-    ghost meaning = { ⟦<FieldOptions as Fields>⟧.layout.meaning };
+    ghost meaning = { ⟦<FieldOptions as MessageFields>⟧.schema.meaning };
 
-    ghost blank_is = { ⟦<FieldOptions as Fields>⟧.layout.blank };
+    ghost blank_is = { ⟦<FieldOptions as MessageFields>⟧.schema.blank };
 
     fn blank(alloc: Global) -> FieldOptions {
         FieldOptions {
@@ -84,14 +84,14 @@ impl Blank for FieldOptions {
     }
 }
 
-impl Listing for FieldOptions {
+impl FieldsMeaning for FieldOptions {
     ghost means = { λ m. refl };
 
     ghost starts = { refl };
 }
 
-impl Formed for FieldOptions {
-    type Form = Listed;
+impl MessageImpl for FieldOptions {
+    type Impl = FieldByField;
 }
 
 impl ExtensionSet for FieldOptions {

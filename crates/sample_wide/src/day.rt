@@ -1,13 +1,14 @@
 //! weather.Day, made of day.proto by protoc-gen-buffa.
 
 ghost use Rattle.std.proofs.Common.{lit<, refl};
-ghost use Rattle.buffa_fields.specs.Terms.{TakesBlock, block, block_of, both_blocks, eight, one, seven, keep};
+ghost use Rattle.buffa_fields.specs.Terms.{TakesBlock, block, block_of, both_blocks, eight, one, seven, keep_unknown};
 
 use crate::place::Place;
 use buffa_fields::map_codec::{Map, Sint32, Str, Uint32};
 use buffa_fields::{
-    And, And7, And8, And11, Blank, DecodeContext, DecodeError, Fields, Formed, KeptFields, Listed,
-    Listing, MapOf, Member, MemberBlock, Nested, Plain, Tag, UnknownFields, Visitor, kept,
+    And, And7, And8, And11, Blank, DecodeContext, DecodeError, FieldByField, FieldsMeaning,
+    ImplicitField, MapField, Member, MemberBlock, MessageField, MessageFields, MessageImpl, Tag,
+    UnknownFields, Unknowns, Visitor, unknown,
 };
 use std::alloc::Global;
 use std::string::String;
@@ -178,7 +179,7 @@ pub struct Day {
     /// What the observer says, by the hour.
     pub remarks: Map<u32, String>,
     /// The fields that aren't declared, in order.
-    pub rest: UnknownFields,
+    pub unknown_fields: UnknownFields,
 }
 
 /// The members from `station` to `temperature_4` of a [`Day`], which are read and written together.
@@ -190,22 +191,22 @@ impl MemberBlock for DayBlock1 {
     type Meaning = And7<[u8; 0], u32, i32, i32, i32, i32, i32>;
 
     ghost members = { block_of (λ m. seven m.station m.number m.temperature_0 m.temperature_1 m.temperature_2 m.temperature_3 m.temperature_4) (
-        both_blocks (one 1 ⟦<Plain<Str> as Member>⟧.shape) (
-        both_blocks (one 2 ⟦<Plain<Uint32> as Member>⟧.shape) (
-        both_blocks (one 3 ⟦<Plain<Sint32> as Member>⟧.shape) (
-        both_blocks (one 4 ⟦<Plain<Sint32> as Member>⟧.shape) (
-        both_blocks (one 5 ⟦<Plain<Sint32> as Member>⟧.shape) (
-        both_blocks (one 6 ⟦<Plain<Sint32> as Member>⟧.shape) (
-        one 7 ⟦<Plain<Sint32> as Member>⟧.shape))))))) };
+        both_blocks (one 1 ⟦<ImplicitField<Str> as Member>⟧.shape) (
+        both_blocks (one 2 ⟦<ImplicitField<Uint32> as Member>⟧.shape) (
+        both_blocks (one 3 ⟦<ImplicitField<Sint32> as Member>⟧.shape) (
+        both_blocks (one 4 ⟦<ImplicitField<Sint32> as Member>⟧.shape) (
+        both_blocks (one 5 ⟦<ImplicitField<Sint32> as Member>⟧.shape) (
+        both_blocks (one 6 ⟦<ImplicitField<Sint32> as Member>⟧.shape) (
+        one 7 ⟦<ImplicitField<Sint32> as Member>⟧.shape))))))) };
 
     fn visit<V: Visitor>(message: &Day, visitor: &mut V) {
-        visitor.visit::<Plain<Str>>(1, &message.station);
-        visitor.visit::<Plain<Uint32>>(2, &message.number);
-        visitor.visit::<Plain<Sint32>>(3, &message.temperature_0);
-        visitor.visit::<Plain<Sint32>>(4, &message.temperature_1);
-        visitor.visit::<Plain<Sint32>>(5, &message.temperature_2);
-        visitor.visit::<Plain<Sint32>>(6, &message.temperature_3);
-        visitor.visit::<Plain<Sint32>>(7, &message.temperature_4);
+        visitor.visit::<ImplicitField<Str>>(1, &message.station);
+        visitor.visit::<ImplicitField<Uint32>>(2, &message.number);
+        visitor.visit::<ImplicitField<Sint32>>(3, &message.temperature_0);
+        visitor.visit::<ImplicitField<Sint32>>(4, &message.temperature_1);
+        visitor.visit::<ImplicitField<Sint32>>(5, &message.temperature_2);
+        visitor.visit::<ImplicitField<Sint32>>(6, &message.temperature_3);
+        visitor.visit::<ImplicitField<Sint32>>(7, &message.temperature_4);
     }
 
     fn has(number: u32) -> bool {
@@ -234,13 +235,13 @@ impl DayBlock1 {
             temperature_4.new) buf.old buf.new result }
     {
         match tag.field_number() {
-            1 => Plain::<Str>::merge(station, alloc, tag, buf, ctx),
-            2 => Plain::<Uint32>::merge(number, alloc, tag, buf, ctx),
-            3 => Plain::<Sint32>::merge(temperature_0, alloc, tag, buf, ctx),
-            4 => Plain::<Sint32>::merge(temperature_1, alloc, tag, buf, ctx),
-            5 => Plain::<Sint32>::merge(temperature_2, alloc, tag, buf, ctx),
-            6 => Plain::<Sint32>::merge(temperature_3, alloc, tag, buf, ctx),
-            _ => Plain::<Sint32>::merge(temperature_4, alloc, tag, buf, ctx),
+            1 => ImplicitField::<Str>::merge(station, alloc, tag, buf, ctx),
+            2 => ImplicitField::<Uint32>::merge(number, alloc, tag, buf, ctx),
+            3 => ImplicitField::<Sint32>::merge(temperature_0, alloc, tag, buf, ctx),
+            4 => ImplicitField::<Sint32>::merge(temperature_1, alloc, tag, buf, ctx),
+            5 => ImplicitField::<Sint32>::merge(temperature_2, alloc, tag, buf, ctx),
+            6 => ImplicitField::<Sint32>::merge(temperature_3, alloc, tag, buf, ctx),
+            _ => ImplicitField::<Sint32>::merge(temperature_4, alloc, tag, buf, ctx),
         }
     }
 }
@@ -254,24 +255,24 @@ impl MemberBlock for DayBlock2 {
     type Meaning = And8<i32, i32, i32, i32, i32, i32, i32, i32>;
 
     ghost members = { block_of (λ m. eight m.temperature_5 m.temperature_6 m.temperature_7 m.temperature_8 m.temperature_9 m.temperature_10 m.temperature_11 m.temperature_12) (
-        both_blocks (one 8 ⟦<Plain<Sint32> as Member>⟧.shape) (
-        both_blocks (one 9 ⟦<Plain<Sint32> as Member>⟧.shape) (
-        both_blocks (one 10 ⟦<Plain<Sint32> as Member>⟧.shape) (
-        both_blocks (one 11 ⟦<Plain<Sint32> as Member>⟧.shape) (
-        both_blocks (one 12 ⟦<Plain<Sint32> as Member>⟧.shape) (
-        both_blocks (one 13 ⟦<Plain<Sint32> as Member>⟧.shape) (
-        both_blocks (one 14 ⟦<Plain<Sint32> as Member>⟧.shape) (
-        one 15 ⟦<Plain<Sint32> as Member>⟧.shape)))))))) };
+        both_blocks (one 8 ⟦<ImplicitField<Sint32> as Member>⟧.shape) (
+        both_blocks (one 9 ⟦<ImplicitField<Sint32> as Member>⟧.shape) (
+        both_blocks (one 10 ⟦<ImplicitField<Sint32> as Member>⟧.shape) (
+        both_blocks (one 11 ⟦<ImplicitField<Sint32> as Member>⟧.shape) (
+        both_blocks (one 12 ⟦<ImplicitField<Sint32> as Member>⟧.shape) (
+        both_blocks (one 13 ⟦<ImplicitField<Sint32> as Member>⟧.shape) (
+        both_blocks (one 14 ⟦<ImplicitField<Sint32> as Member>⟧.shape) (
+        one 15 ⟦<ImplicitField<Sint32> as Member>⟧.shape)))))))) };
 
     fn visit<V: Visitor>(message: &Day, visitor: &mut V) {
-        visitor.visit::<Plain<Sint32>>(8, &message.temperature_5);
-        visitor.visit::<Plain<Sint32>>(9, &message.temperature_6);
-        visitor.visit::<Plain<Sint32>>(10, &message.temperature_7);
-        visitor.visit::<Plain<Sint32>>(11, &message.temperature_8);
-        visitor.visit::<Plain<Sint32>>(12, &message.temperature_9);
-        visitor.visit::<Plain<Sint32>>(13, &message.temperature_10);
-        visitor.visit::<Plain<Sint32>>(14, &message.temperature_11);
-        visitor.visit::<Plain<Sint32>>(15, &message.temperature_12);
+        visitor.visit::<ImplicitField<Sint32>>(8, &message.temperature_5);
+        visitor.visit::<ImplicitField<Sint32>>(9, &message.temperature_6);
+        visitor.visit::<ImplicitField<Sint32>>(10, &message.temperature_7);
+        visitor.visit::<ImplicitField<Sint32>>(11, &message.temperature_8);
+        visitor.visit::<ImplicitField<Sint32>>(12, &message.temperature_9);
+        visitor.visit::<ImplicitField<Sint32>>(13, &message.temperature_10);
+        visitor.visit::<ImplicitField<Sint32>>(14, &message.temperature_11);
+        visitor.visit::<ImplicitField<Sint32>>(15, &message.temperature_12);
     }
 
     fn has(number: u32) -> bool {
@@ -302,14 +303,14 @@ impl DayBlock2 {
             buf.new result }
     {
         match tag.field_number() {
-            8 => Plain::<Sint32>::merge(temperature_5, alloc, tag, buf, ctx),
-            9 => Plain::<Sint32>::merge(temperature_6, alloc, tag, buf, ctx),
-            10 => Plain::<Sint32>::merge(temperature_7, alloc, tag, buf, ctx),
-            11 => Plain::<Sint32>::merge(temperature_8, alloc, tag, buf, ctx),
-            12 => Plain::<Sint32>::merge(temperature_9, alloc, tag, buf, ctx),
-            13 => Plain::<Sint32>::merge(temperature_10, alloc, tag, buf, ctx),
-            14 => Plain::<Sint32>::merge(temperature_11, alloc, tag, buf, ctx),
-            _ => Plain::<Sint32>::merge(temperature_12, alloc, tag, buf, ctx),
+            8 => ImplicitField::<Sint32>::merge(temperature_5, alloc, tag, buf, ctx),
+            9 => ImplicitField::<Sint32>::merge(temperature_6, alloc, tag, buf, ctx),
+            10 => ImplicitField::<Sint32>::merge(temperature_7, alloc, tag, buf, ctx),
+            11 => ImplicitField::<Sint32>::merge(temperature_8, alloc, tag, buf, ctx),
+            12 => ImplicitField::<Sint32>::merge(temperature_9, alloc, tag, buf, ctx),
+            13 => ImplicitField::<Sint32>::merge(temperature_10, alloc, tag, buf, ctx),
+            14 => ImplicitField::<Sint32>::merge(temperature_11, alloc, tag, buf, ctx),
+            _ => ImplicitField::<Sint32>::merge(temperature_12, alloc, tag, buf, ctx),
         }
     }
 }
@@ -323,22 +324,22 @@ impl MemberBlock for DayBlock3 {
     type Meaning = And7<i32, i32, i32, i32, i32, i32, i32>;
 
     ghost members = { block_of (λ m. seven m.temperature_13 m.temperature_14 m.temperature_15 m.temperature_16 m.temperature_17 m.temperature_18 m.temperature_19) (
-        both_blocks (one 16 ⟦<Plain<Sint32> as Member>⟧.shape) (
-        both_blocks (one 17 ⟦<Plain<Sint32> as Member>⟧.shape) (
-        both_blocks (one 18 ⟦<Plain<Sint32> as Member>⟧.shape) (
-        both_blocks (one 19 ⟦<Plain<Sint32> as Member>⟧.shape) (
-        both_blocks (one 20 ⟦<Plain<Sint32> as Member>⟧.shape) (
-        both_blocks (one 21 ⟦<Plain<Sint32> as Member>⟧.shape) (
-        one 22 ⟦<Plain<Sint32> as Member>⟧.shape))))))) };
+        both_blocks (one 16 ⟦<ImplicitField<Sint32> as Member>⟧.shape) (
+        both_blocks (one 17 ⟦<ImplicitField<Sint32> as Member>⟧.shape) (
+        both_blocks (one 18 ⟦<ImplicitField<Sint32> as Member>⟧.shape) (
+        both_blocks (one 19 ⟦<ImplicitField<Sint32> as Member>⟧.shape) (
+        both_blocks (one 20 ⟦<ImplicitField<Sint32> as Member>⟧.shape) (
+        both_blocks (one 21 ⟦<ImplicitField<Sint32> as Member>⟧.shape) (
+        one 22 ⟦<ImplicitField<Sint32> as Member>⟧.shape))))))) };
 
     fn visit<V: Visitor>(message: &Day, visitor: &mut V) {
-        visitor.visit::<Plain<Sint32>>(16, &message.temperature_13);
-        visitor.visit::<Plain<Sint32>>(17, &message.temperature_14);
-        visitor.visit::<Plain<Sint32>>(18, &message.temperature_15);
-        visitor.visit::<Plain<Sint32>>(19, &message.temperature_16);
-        visitor.visit::<Plain<Sint32>>(20, &message.temperature_17);
-        visitor.visit::<Plain<Sint32>>(21, &message.temperature_18);
-        visitor.visit::<Plain<Sint32>>(22, &message.temperature_19);
+        visitor.visit::<ImplicitField<Sint32>>(16, &message.temperature_13);
+        visitor.visit::<ImplicitField<Sint32>>(17, &message.temperature_14);
+        visitor.visit::<ImplicitField<Sint32>>(18, &message.temperature_15);
+        visitor.visit::<ImplicitField<Sint32>>(19, &message.temperature_16);
+        visitor.visit::<ImplicitField<Sint32>>(20, &message.temperature_17);
+        visitor.visit::<ImplicitField<Sint32>>(21, &message.temperature_18);
+        visitor.visit::<ImplicitField<Sint32>>(22, &message.temperature_19);
     }
 
     fn has(number: u32) -> bool {
@@ -367,13 +368,13 @@ impl DayBlock3 {
             temperature_17.new temperature_18.new temperature_19.new) buf.old buf.new result }
     {
         match tag.field_number() {
-            16 => Plain::<Sint32>::merge(temperature_13, alloc, tag, buf, ctx),
-            17 => Plain::<Sint32>::merge(temperature_14, alloc, tag, buf, ctx),
-            18 => Plain::<Sint32>::merge(temperature_15, alloc, tag, buf, ctx),
-            19 => Plain::<Sint32>::merge(temperature_16, alloc, tag, buf, ctx),
-            20 => Plain::<Sint32>::merge(temperature_17, alloc, tag, buf, ctx),
-            21 => Plain::<Sint32>::merge(temperature_18, alloc, tag, buf, ctx),
-            _ => Plain::<Sint32>::merge(temperature_19, alloc, tag, buf, ctx),
+            16 => ImplicitField::<Sint32>::merge(temperature_13, alloc, tag, buf, ctx),
+            17 => ImplicitField::<Sint32>::merge(temperature_14, alloc, tag, buf, ctx),
+            18 => ImplicitField::<Sint32>::merge(temperature_15, alloc, tag, buf, ctx),
+            19 => ImplicitField::<Sint32>::merge(temperature_16, alloc, tag, buf, ctx),
+            20 => ImplicitField::<Sint32>::merge(temperature_17, alloc, tag, buf, ctx),
+            21 => ImplicitField::<Sint32>::merge(temperature_18, alloc, tag, buf, ctx),
+            _ => ImplicitField::<Sint32>::merge(temperature_19, alloc, tag, buf, ctx),
         }
     }
 }
@@ -387,24 +388,24 @@ impl MemberBlock for DayBlock4 {
     type Meaning = And8<i32, i32, i32, i32, u32, u32, u32, u32>;
 
     ghost members = { block_of (λ m. eight m.temperature_20 m.temperature_21 m.temperature_22 m.temperature_23 m.rain_0 m.rain_1 m.rain_2 m.rain_3) (
-        both_blocks (one 23 ⟦<Plain<Sint32> as Member>⟧.shape) (
-        both_blocks (one 24 ⟦<Plain<Sint32> as Member>⟧.shape) (
-        both_blocks (one 25 ⟦<Plain<Sint32> as Member>⟧.shape) (
-        both_blocks (one 26 ⟦<Plain<Sint32> as Member>⟧.shape) (
-        both_blocks (one 27 ⟦<Plain<Uint32> as Member>⟧.shape) (
-        both_blocks (one 28 ⟦<Plain<Uint32> as Member>⟧.shape) (
-        both_blocks (one 29 ⟦<Plain<Uint32> as Member>⟧.shape) (
-        one 30 ⟦<Plain<Uint32> as Member>⟧.shape)))))))) };
+        both_blocks (one 23 ⟦<ImplicitField<Sint32> as Member>⟧.shape) (
+        both_blocks (one 24 ⟦<ImplicitField<Sint32> as Member>⟧.shape) (
+        both_blocks (one 25 ⟦<ImplicitField<Sint32> as Member>⟧.shape) (
+        both_blocks (one 26 ⟦<ImplicitField<Sint32> as Member>⟧.shape) (
+        both_blocks (one 27 ⟦<ImplicitField<Uint32> as Member>⟧.shape) (
+        both_blocks (one 28 ⟦<ImplicitField<Uint32> as Member>⟧.shape) (
+        both_blocks (one 29 ⟦<ImplicitField<Uint32> as Member>⟧.shape) (
+        one 30 ⟦<ImplicitField<Uint32> as Member>⟧.shape)))))))) };
 
     fn visit<V: Visitor>(message: &Day, visitor: &mut V) {
-        visitor.visit::<Plain<Sint32>>(23, &message.temperature_20);
-        visitor.visit::<Plain<Sint32>>(24, &message.temperature_21);
-        visitor.visit::<Plain<Sint32>>(25, &message.temperature_22);
-        visitor.visit::<Plain<Sint32>>(26, &message.temperature_23);
-        visitor.visit::<Plain<Uint32>>(27, &message.rain_0);
-        visitor.visit::<Plain<Uint32>>(28, &message.rain_1);
-        visitor.visit::<Plain<Uint32>>(29, &message.rain_2);
-        visitor.visit::<Plain<Uint32>>(30, &message.rain_3);
+        visitor.visit::<ImplicitField<Sint32>>(23, &message.temperature_20);
+        visitor.visit::<ImplicitField<Sint32>>(24, &message.temperature_21);
+        visitor.visit::<ImplicitField<Sint32>>(25, &message.temperature_22);
+        visitor.visit::<ImplicitField<Sint32>>(26, &message.temperature_23);
+        visitor.visit::<ImplicitField<Uint32>>(27, &message.rain_0);
+        visitor.visit::<ImplicitField<Uint32>>(28, &message.rain_1);
+        visitor.visit::<ImplicitField<Uint32>>(29, &message.rain_2);
+        visitor.visit::<ImplicitField<Uint32>>(30, &message.rain_3);
     }
 
     fn has(number: u32) -> bool {
@@ -434,14 +435,14 @@ impl DayBlock4 {
             rain_3.new) buf.old buf.new result }
     {
         match tag.field_number() {
-            23 => Plain::<Sint32>::merge(temperature_20, alloc, tag, buf, ctx),
-            24 => Plain::<Sint32>::merge(temperature_21, alloc, tag, buf, ctx),
-            25 => Plain::<Sint32>::merge(temperature_22, alloc, tag, buf, ctx),
-            26 => Plain::<Sint32>::merge(temperature_23, alloc, tag, buf, ctx),
-            27 => Plain::<Uint32>::merge(rain_0, alloc, tag, buf, ctx),
-            28 => Plain::<Uint32>::merge(rain_1, alloc, tag, buf, ctx),
-            29 => Plain::<Uint32>::merge(rain_2, alloc, tag, buf, ctx),
-            _ => Plain::<Uint32>::merge(rain_3, alloc, tag, buf, ctx),
+            23 => ImplicitField::<Sint32>::merge(temperature_20, alloc, tag, buf, ctx),
+            24 => ImplicitField::<Sint32>::merge(temperature_21, alloc, tag, buf, ctx),
+            25 => ImplicitField::<Sint32>::merge(temperature_22, alloc, tag, buf, ctx),
+            26 => ImplicitField::<Sint32>::merge(temperature_23, alloc, tag, buf, ctx),
+            27 => ImplicitField::<Uint32>::merge(rain_0, alloc, tag, buf, ctx),
+            28 => ImplicitField::<Uint32>::merge(rain_1, alloc, tag, buf, ctx),
+            29 => ImplicitField::<Uint32>::merge(rain_2, alloc, tag, buf, ctx),
+            _ => ImplicitField::<Uint32>::merge(rain_3, alloc, tag, buf, ctx),
         }
     }
 }
@@ -455,24 +456,24 @@ impl MemberBlock for DayBlock5 {
     type Meaning = And8<u32, u32, u32, u32, u32, u32, u32, u32>;
 
     ghost members = { block_of (λ m. eight m.rain_4 m.rain_5 m.rain_6 m.rain_7 m.rain_8 m.rain_9 m.rain_10 m.rain_11) (
-        both_blocks (one 31 ⟦<Plain<Uint32> as Member>⟧.shape) (
-        both_blocks (one 32 ⟦<Plain<Uint32> as Member>⟧.shape) (
-        both_blocks (one 33 ⟦<Plain<Uint32> as Member>⟧.shape) (
-        both_blocks (one 34 ⟦<Plain<Uint32> as Member>⟧.shape) (
-        both_blocks (one 35 ⟦<Plain<Uint32> as Member>⟧.shape) (
-        both_blocks (one 36 ⟦<Plain<Uint32> as Member>⟧.shape) (
-        both_blocks (one 37 ⟦<Plain<Uint32> as Member>⟧.shape) (
-        one 38 ⟦<Plain<Uint32> as Member>⟧.shape)))))))) };
+        both_blocks (one 31 ⟦<ImplicitField<Uint32> as Member>⟧.shape) (
+        both_blocks (one 32 ⟦<ImplicitField<Uint32> as Member>⟧.shape) (
+        both_blocks (one 33 ⟦<ImplicitField<Uint32> as Member>⟧.shape) (
+        both_blocks (one 34 ⟦<ImplicitField<Uint32> as Member>⟧.shape) (
+        both_blocks (one 35 ⟦<ImplicitField<Uint32> as Member>⟧.shape) (
+        both_blocks (one 36 ⟦<ImplicitField<Uint32> as Member>⟧.shape) (
+        both_blocks (one 37 ⟦<ImplicitField<Uint32> as Member>⟧.shape) (
+        one 38 ⟦<ImplicitField<Uint32> as Member>⟧.shape)))))))) };
 
     fn visit<V: Visitor>(message: &Day, visitor: &mut V) {
-        visitor.visit::<Plain<Uint32>>(31, &message.rain_4);
-        visitor.visit::<Plain<Uint32>>(32, &message.rain_5);
-        visitor.visit::<Plain<Uint32>>(33, &message.rain_6);
-        visitor.visit::<Plain<Uint32>>(34, &message.rain_7);
-        visitor.visit::<Plain<Uint32>>(35, &message.rain_8);
-        visitor.visit::<Plain<Uint32>>(36, &message.rain_9);
-        visitor.visit::<Plain<Uint32>>(37, &message.rain_10);
-        visitor.visit::<Plain<Uint32>>(38, &message.rain_11);
+        visitor.visit::<ImplicitField<Uint32>>(31, &message.rain_4);
+        visitor.visit::<ImplicitField<Uint32>>(32, &message.rain_5);
+        visitor.visit::<ImplicitField<Uint32>>(33, &message.rain_6);
+        visitor.visit::<ImplicitField<Uint32>>(34, &message.rain_7);
+        visitor.visit::<ImplicitField<Uint32>>(35, &message.rain_8);
+        visitor.visit::<ImplicitField<Uint32>>(36, &message.rain_9);
+        visitor.visit::<ImplicitField<Uint32>>(37, &message.rain_10);
+        visitor.visit::<ImplicitField<Uint32>>(38, &message.rain_11);
     }
 
     fn has(number: u32) -> bool {
@@ -501,14 +502,14 @@ impl DayBlock5 {
             rain_7.new rain_8.new rain_9.new rain_10.new rain_11.new) buf.old buf.new result }
     {
         match tag.field_number() {
-            31 => Plain::<Uint32>::merge(rain_4, alloc, tag, buf, ctx),
-            32 => Plain::<Uint32>::merge(rain_5, alloc, tag, buf, ctx),
-            33 => Plain::<Uint32>::merge(rain_6, alloc, tag, buf, ctx),
-            34 => Plain::<Uint32>::merge(rain_7, alloc, tag, buf, ctx),
-            35 => Plain::<Uint32>::merge(rain_8, alloc, tag, buf, ctx),
-            36 => Plain::<Uint32>::merge(rain_9, alloc, tag, buf, ctx),
-            37 => Plain::<Uint32>::merge(rain_10, alloc, tag, buf, ctx),
-            _ => Plain::<Uint32>::merge(rain_11, alloc, tag, buf, ctx),
+            31 => ImplicitField::<Uint32>::merge(rain_4, alloc, tag, buf, ctx),
+            32 => ImplicitField::<Uint32>::merge(rain_5, alloc, tag, buf, ctx),
+            33 => ImplicitField::<Uint32>::merge(rain_6, alloc, tag, buf, ctx),
+            34 => ImplicitField::<Uint32>::merge(rain_7, alloc, tag, buf, ctx),
+            35 => ImplicitField::<Uint32>::merge(rain_8, alloc, tag, buf, ctx),
+            36 => ImplicitField::<Uint32>::merge(rain_9, alloc, tag, buf, ctx),
+            37 => ImplicitField::<Uint32>::merge(rain_10, alloc, tag, buf, ctx),
+            _ => ImplicitField::<Uint32>::merge(rain_11, alloc, tag, buf, ctx),
         }
     }
 }
@@ -522,22 +523,22 @@ impl MemberBlock for DayBlock6 {
     type Meaning = And7<u32, u32, u32, u32, u32, u32, u32>;
 
     ghost members = { block_of (λ m. seven m.rain_12 m.rain_13 m.rain_14 m.rain_15 m.rain_16 m.rain_17 m.rain_18) (
-        both_blocks (one 39 ⟦<Plain<Uint32> as Member>⟧.shape) (
-        both_blocks (one 40 ⟦<Plain<Uint32> as Member>⟧.shape) (
-        both_blocks (one 41 ⟦<Plain<Uint32> as Member>⟧.shape) (
-        both_blocks (one 42 ⟦<Plain<Uint32> as Member>⟧.shape) (
-        both_blocks (one 43 ⟦<Plain<Uint32> as Member>⟧.shape) (
-        both_blocks (one 44 ⟦<Plain<Uint32> as Member>⟧.shape) (
-        one 45 ⟦<Plain<Uint32> as Member>⟧.shape))))))) };
+        both_blocks (one 39 ⟦<ImplicitField<Uint32> as Member>⟧.shape) (
+        both_blocks (one 40 ⟦<ImplicitField<Uint32> as Member>⟧.shape) (
+        both_blocks (one 41 ⟦<ImplicitField<Uint32> as Member>⟧.shape) (
+        both_blocks (one 42 ⟦<ImplicitField<Uint32> as Member>⟧.shape) (
+        both_blocks (one 43 ⟦<ImplicitField<Uint32> as Member>⟧.shape) (
+        both_blocks (one 44 ⟦<ImplicitField<Uint32> as Member>⟧.shape) (
+        one 45 ⟦<ImplicitField<Uint32> as Member>⟧.shape))))))) };
 
     fn visit<V: Visitor>(message: &Day, visitor: &mut V) {
-        visitor.visit::<Plain<Uint32>>(39, &message.rain_12);
-        visitor.visit::<Plain<Uint32>>(40, &message.rain_13);
-        visitor.visit::<Plain<Uint32>>(41, &message.rain_14);
-        visitor.visit::<Plain<Uint32>>(42, &message.rain_15);
-        visitor.visit::<Plain<Uint32>>(43, &message.rain_16);
-        visitor.visit::<Plain<Uint32>>(44, &message.rain_17);
-        visitor.visit::<Plain<Uint32>>(45, &message.rain_18);
+        visitor.visit::<ImplicitField<Uint32>>(39, &message.rain_12);
+        visitor.visit::<ImplicitField<Uint32>>(40, &message.rain_13);
+        visitor.visit::<ImplicitField<Uint32>>(41, &message.rain_14);
+        visitor.visit::<ImplicitField<Uint32>>(42, &message.rain_15);
+        visitor.visit::<ImplicitField<Uint32>>(43, &message.rain_16);
+        visitor.visit::<ImplicitField<Uint32>>(44, &message.rain_17);
+        visitor.visit::<ImplicitField<Uint32>>(45, &message.rain_18);
     }
 
     fn has(number: u32) -> bool {
@@ -565,13 +566,13 @@ impl DayBlock6 {
             rain_15.new rain_16.new rain_17.new rain_18.new) buf.old buf.new result }
     {
         match tag.field_number() {
-            39 => Plain::<Uint32>::merge(rain_12, alloc, tag, buf, ctx),
-            40 => Plain::<Uint32>::merge(rain_13, alloc, tag, buf, ctx),
-            41 => Plain::<Uint32>::merge(rain_14, alloc, tag, buf, ctx),
-            42 => Plain::<Uint32>::merge(rain_15, alloc, tag, buf, ctx),
-            43 => Plain::<Uint32>::merge(rain_16, alloc, tag, buf, ctx),
-            44 => Plain::<Uint32>::merge(rain_17, alloc, tag, buf, ctx),
-            _ => Plain::<Uint32>::merge(rain_18, alloc, tag, buf, ctx),
+            39 => ImplicitField::<Uint32>::merge(rain_12, alloc, tag, buf, ctx),
+            40 => ImplicitField::<Uint32>::merge(rain_13, alloc, tag, buf, ctx),
+            41 => ImplicitField::<Uint32>::merge(rain_14, alloc, tag, buf, ctx),
+            42 => ImplicitField::<Uint32>::merge(rain_15, alloc, tag, buf, ctx),
+            43 => ImplicitField::<Uint32>::merge(rain_16, alloc, tag, buf, ctx),
+            44 => ImplicitField::<Uint32>::merge(rain_17, alloc, tag, buf, ctx),
+            _ => ImplicitField::<Uint32>::merge(rain_18, alloc, tag, buf, ctx),
         }
     }
 }
@@ -585,24 +586,24 @@ impl MemberBlock for DayBlock7 {
     type Meaning = And8<u32, u32, u32, u32, u32, u32, u32, u32>;
 
     ghost members = { block_of (λ m. eight m.rain_19 m.rain_20 m.rain_21 m.rain_22 m.rain_23 m.wind_0 m.wind_1 m.wind_2) (
-        both_blocks (one 46 ⟦<Plain<Uint32> as Member>⟧.shape) (
-        both_blocks (one 47 ⟦<Plain<Uint32> as Member>⟧.shape) (
-        both_blocks (one 48 ⟦<Plain<Uint32> as Member>⟧.shape) (
-        both_blocks (one 49 ⟦<Plain<Uint32> as Member>⟧.shape) (
-        both_blocks (one 50 ⟦<Plain<Uint32> as Member>⟧.shape) (
-        both_blocks (one 51 ⟦<Plain<Uint32> as Member>⟧.shape) (
-        both_blocks (one 52 ⟦<Plain<Uint32> as Member>⟧.shape) (
-        one 53 ⟦<Plain<Uint32> as Member>⟧.shape)))))))) };
+        both_blocks (one 46 ⟦<ImplicitField<Uint32> as Member>⟧.shape) (
+        both_blocks (one 47 ⟦<ImplicitField<Uint32> as Member>⟧.shape) (
+        both_blocks (one 48 ⟦<ImplicitField<Uint32> as Member>⟧.shape) (
+        both_blocks (one 49 ⟦<ImplicitField<Uint32> as Member>⟧.shape) (
+        both_blocks (one 50 ⟦<ImplicitField<Uint32> as Member>⟧.shape) (
+        both_blocks (one 51 ⟦<ImplicitField<Uint32> as Member>⟧.shape) (
+        both_blocks (one 52 ⟦<ImplicitField<Uint32> as Member>⟧.shape) (
+        one 53 ⟦<ImplicitField<Uint32> as Member>⟧.shape)))))))) };
 
     fn visit<V: Visitor>(message: &Day, visitor: &mut V) {
-        visitor.visit::<Plain<Uint32>>(46, &message.rain_19);
-        visitor.visit::<Plain<Uint32>>(47, &message.rain_20);
-        visitor.visit::<Plain<Uint32>>(48, &message.rain_21);
-        visitor.visit::<Plain<Uint32>>(49, &message.rain_22);
-        visitor.visit::<Plain<Uint32>>(50, &message.rain_23);
-        visitor.visit::<Plain<Uint32>>(51, &message.wind_0);
-        visitor.visit::<Plain<Uint32>>(52, &message.wind_1);
-        visitor.visit::<Plain<Uint32>>(53, &message.wind_2);
+        visitor.visit::<ImplicitField<Uint32>>(46, &message.rain_19);
+        visitor.visit::<ImplicitField<Uint32>>(47, &message.rain_20);
+        visitor.visit::<ImplicitField<Uint32>>(48, &message.rain_21);
+        visitor.visit::<ImplicitField<Uint32>>(49, &message.rain_22);
+        visitor.visit::<ImplicitField<Uint32>>(50, &message.rain_23);
+        visitor.visit::<ImplicitField<Uint32>>(51, &message.wind_0);
+        visitor.visit::<ImplicitField<Uint32>>(52, &message.wind_1);
+        visitor.visit::<ImplicitField<Uint32>>(53, &message.wind_2);
     }
 
     fn has(number: u32) -> bool {
@@ -631,14 +632,14 @@ impl DayBlock7 {
             rain_21.new rain_22.new rain_23.new wind_0.new wind_1.new wind_2.new) buf.old buf.new result }
     {
         match tag.field_number() {
-            46 => Plain::<Uint32>::merge(rain_19, alloc, tag, buf, ctx),
-            47 => Plain::<Uint32>::merge(rain_20, alloc, tag, buf, ctx),
-            48 => Plain::<Uint32>::merge(rain_21, alloc, tag, buf, ctx),
-            49 => Plain::<Uint32>::merge(rain_22, alloc, tag, buf, ctx),
-            50 => Plain::<Uint32>::merge(rain_23, alloc, tag, buf, ctx),
-            51 => Plain::<Uint32>::merge(wind_0, alloc, tag, buf, ctx),
-            52 => Plain::<Uint32>::merge(wind_1, alloc, tag, buf, ctx),
-            _ => Plain::<Uint32>::merge(wind_2, alloc, tag, buf, ctx),
+            46 => ImplicitField::<Uint32>::merge(rain_19, alloc, tag, buf, ctx),
+            47 => ImplicitField::<Uint32>::merge(rain_20, alloc, tag, buf, ctx),
+            48 => ImplicitField::<Uint32>::merge(rain_21, alloc, tag, buf, ctx),
+            49 => ImplicitField::<Uint32>::merge(rain_22, alloc, tag, buf, ctx),
+            50 => ImplicitField::<Uint32>::merge(rain_23, alloc, tag, buf, ctx),
+            51 => ImplicitField::<Uint32>::merge(wind_0, alloc, tag, buf, ctx),
+            52 => ImplicitField::<Uint32>::merge(wind_1, alloc, tag, buf, ctx),
+            _ => ImplicitField::<Uint32>::merge(wind_2, alloc, tag, buf, ctx),
         }
     }
 }
@@ -652,22 +653,22 @@ impl MemberBlock for DayBlock8 {
     type Meaning = And7<u32, u32, u32, u32, u32, u32, u32>;
 
     ghost members = { block_of (λ m. seven m.wind_3 m.wind_4 m.wind_5 m.wind_6 m.wind_7 m.wind_8 m.wind_9) (
-        both_blocks (one 54 ⟦<Plain<Uint32> as Member>⟧.shape) (
-        both_blocks (one 55 ⟦<Plain<Uint32> as Member>⟧.shape) (
-        both_blocks (one 56 ⟦<Plain<Uint32> as Member>⟧.shape) (
-        both_blocks (one 57 ⟦<Plain<Uint32> as Member>⟧.shape) (
-        both_blocks (one 58 ⟦<Plain<Uint32> as Member>⟧.shape) (
-        both_blocks (one 59 ⟦<Plain<Uint32> as Member>⟧.shape) (
-        one 60 ⟦<Plain<Uint32> as Member>⟧.shape))))))) };
+        both_blocks (one 54 ⟦<ImplicitField<Uint32> as Member>⟧.shape) (
+        both_blocks (one 55 ⟦<ImplicitField<Uint32> as Member>⟧.shape) (
+        both_blocks (one 56 ⟦<ImplicitField<Uint32> as Member>⟧.shape) (
+        both_blocks (one 57 ⟦<ImplicitField<Uint32> as Member>⟧.shape) (
+        both_blocks (one 58 ⟦<ImplicitField<Uint32> as Member>⟧.shape) (
+        both_blocks (one 59 ⟦<ImplicitField<Uint32> as Member>⟧.shape) (
+        one 60 ⟦<ImplicitField<Uint32> as Member>⟧.shape))))))) };
 
     fn visit<V: Visitor>(message: &Day, visitor: &mut V) {
-        visitor.visit::<Plain<Uint32>>(54, &message.wind_3);
-        visitor.visit::<Plain<Uint32>>(55, &message.wind_4);
-        visitor.visit::<Plain<Uint32>>(56, &message.wind_5);
-        visitor.visit::<Plain<Uint32>>(57, &message.wind_6);
-        visitor.visit::<Plain<Uint32>>(58, &message.wind_7);
-        visitor.visit::<Plain<Uint32>>(59, &message.wind_8);
-        visitor.visit::<Plain<Uint32>>(60, &message.wind_9);
+        visitor.visit::<ImplicitField<Uint32>>(54, &message.wind_3);
+        visitor.visit::<ImplicitField<Uint32>>(55, &message.wind_4);
+        visitor.visit::<ImplicitField<Uint32>>(56, &message.wind_5);
+        visitor.visit::<ImplicitField<Uint32>>(57, &message.wind_6);
+        visitor.visit::<ImplicitField<Uint32>>(58, &message.wind_7);
+        visitor.visit::<ImplicitField<Uint32>>(59, &message.wind_8);
+        visitor.visit::<ImplicitField<Uint32>>(60, &message.wind_9);
     }
 
     fn has(number: u32) -> bool {
@@ -695,13 +696,13 @@ impl DayBlock8 {
             wind_7.new wind_8.new wind_9.new) buf.old buf.new result }
     {
         match tag.field_number() {
-            54 => Plain::<Uint32>::merge(wind_3, alloc, tag, buf, ctx),
-            55 => Plain::<Uint32>::merge(wind_4, alloc, tag, buf, ctx),
-            56 => Plain::<Uint32>::merge(wind_5, alloc, tag, buf, ctx),
-            57 => Plain::<Uint32>::merge(wind_6, alloc, tag, buf, ctx),
-            58 => Plain::<Uint32>::merge(wind_7, alloc, tag, buf, ctx),
-            59 => Plain::<Uint32>::merge(wind_8, alloc, tag, buf, ctx),
-            _ => Plain::<Uint32>::merge(wind_9, alloc, tag, buf, ctx),
+            54 => ImplicitField::<Uint32>::merge(wind_3, alloc, tag, buf, ctx),
+            55 => ImplicitField::<Uint32>::merge(wind_4, alloc, tag, buf, ctx),
+            56 => ImplicitField::<Uint32>::merge(wind_5, alloc, tag, buf, ctx),
+            57 => ImplicitField::<Uint32>::merge(wind_6, alloc, tag, buf, ctx),
+            58 => ImplicitField::<Uint32>::merge(wind_7, alloc, tag, buf, ctx),
+            59 => ImplicitField::<Uint32>::merge(wind_8, alloc, tag, buf, ctx),
+            _ => ImplicitField::<Uint32>::merge(wind_9, alloc, tag, buf, ctx),
         }
     }
 }
@@ -715,24 +716,24 @@ impl MemberBlock for DayBlock9 {
     type Meaning = And8<u32, u32, u32, u32, u32, u32, u32, u32>;
 
     ghost members = { block_of (λ m. eight m.wind_10 m.wind_11 m.wind_12 m.wind_13 m.wind_14 m.wind_15 m.wind_16 m.wind_17) (
-        both_blocks (one 61 ⟦<Plain<Uint32> as Member>⟧.shape) (
-        both_blocks (one 62 ⟦<Plain<Uint32> as Member>⟧.shape) (
-        both_blocks (one 63 ⟦<Plain<Uint32> as Member>⟧.shape) (
-        both_blocks (one 64 ⟦<Plain<Uint32> as Member>⟧.shape) (
-        both_blocks (one 65 ⟦<Plain<Uint32> as Member>⟧.shape) (
-        both_blocks (one 66 ⟦<Plain<Uint32> as Member>⟧.shape) (
-        both_blocks (one 67 ⟦<Plain<Uint32> as Member>⟧.shape) (
-        one 68 ⟦<Plain<Uint32> as Member>⟧.shape)))))))) };
+        both_blocks (one 61 ⟦<ImplicitField<Uint32> as Member>⟧.shape) (
+        both_blocks (one 62 ⟦<ImplicitField<Uint32> as Member>⟧.shape) (
+        both_blocks (one 63 ⟦<ImplicitField<Uint32> as Member>⟧.shape) (
+        both_blocks (one 64 ⟦<ImplicitField<Uint32> as Member>⟧.shape) (
+        both_blocks (one 65 ⟦<ImplicitField<Uint32> as Member>⟧.shape) (
+        both_blocks (one 66 ⟦<ImplicitField<Uint32> as Member>⟧.shape) (
+        both_blocks (one 67 ⟦<ImplicitField<Uint32> as Member>⟧.shape) (
+        one 68 ⟦<ImplicitField<Uint32> as Member>⟧.shape)))))))) };
 
     fn visit<V: Visitor>(message: &Day, visitor: &mut V) {
-        visitor.visit::<Plain<Uint32>>(61, &message.wind_10);
-        visitor.visit::<Plain<Uint32>>(62, &message.wind_11);
-        visitor.visit::<Plain<Uint32>>(63, &message.wind_12);
-        visitor.visit::<Plain<Uint32>>(64, &message.wind_13);
-        visitor.visit::<Plain<Uint32>>(65, &message.wind_14);
-        visitor.visit::<Plain<Uint32>>(66, &message.wind_15);
-        visitor.visit::<Plain<Uint32>>(67, &message.wind_16);
-        visitor.visit::<Plain<Uint32>>(68, &message.wind_17);
+        visitor.visit::<ImplicitField<Uint32>>(61, &message.wind_10);
+        visitor.visit::<ImplicitField<Uint32>>(62, &message.wind_11);
+        visitor.visit::<ImplicitField<Uint32>>(63, &message.wind_12);
+        visitor.visit::<ImplicitField<Uint32>>(64, &message.wind_13);
+        visitor.visit::<ImplicitField<Uint32>>(65, &message.wind_14);
+        visitor.visit::<ImplicitField<Uint32>>(66, &message.wind_15);
+        visitor.visit::<ImplicitField<Uint32>>(67, &message.wind_16);
+        visitor.visit::<ImplicitField<Uint32>>(68, &message.wind_17);
     }
 
     fn has(number: u32) -> bool {
@@ -761,14 +762,14 @@ impl DayBlock9 {
             wind_12.new wind_13.new wind_14.new wind_15.new wind_16.new wind_17.new) buf.old buf.new result }
     {
         match tag.field_number() {
-            61 => Plain::<Uint32>::merge(wind_10, alloc, tag, buf, ctx),
-            62 => Plain::<Uint32>::merge(wind_11, alloc, tag, buf, ctx),
-            63 => Plain::<Uint32>::merge(wind_12, alloc, tag, buf, ctx),
-            64 => Plain::<Uint32>::merge(wind_13, alloc, tag, buf, ctx),
-            65 => Plain::<Uint32>::merge(wind_14, alloc, tag, buf, ctx),
-            66 => Plain::<Uint32>::merge(wind_15, alloc, tag, buf, ctx),
-            67 => Plain::<Uint32>::merge(wind_16, alloc, tag, buf, ctx),
-            _ => Plain::<Uint32>::merge(wind_17, alloc, tag, buf, ctx),
+            61 => ImplicitField::<Uint32>::merge(wind_10, alloc, tag, buf, ctx),
+            62 => ImplicitField::<Uint32>::merge(wind_11, alloc, tag, buf, ctx),
+            63 => ImplicitField::<Uint32>::merge(wind_12, alloc, tag, buf, ctx),
+            64 => ImplicitField::<Uint32>::merge(wind_13, alloc, tag, buf, ctx),
+            65 => ImplicitField::<Uint32>::merge(wind_14, alloc, tag, buf, ctx),
+            66 => ImplicitField::<Uint32>::merge(wind_15, alloc, tag, buf, ctx),
+            67 => ImplicitField::<Uint32>::merge(wind_16, alloc, tag, buf, ctx),
+            _ => ImplicitField::<Uint32>::merge(wind_17, alloc, tag, buf, ctx),
         }
     }
 }
@@ -791,24 +792,24 @@ impl MemberBlock for DayBlock10 {
     >;
 
     ghost members = { block_of (λ m. eight m.wind_18 m.wind_19 m.wind_20 m.wind_21 m.wind_22 m.wind_23 m.place m.remarks) (
-        both_blocks (one 69 ⟦<Plain<Uint32> as Member>⟧.shape) (
-        both_blocks (one 70 ⟦<Plain<Uint32> as Member>⟧.shape) (
-        both_blocks (one 71 ⟦<Plain<Uint32> as Member>⟧.shape) (
-        both_blocks (one 72 ⟦<Plain<Uint32> as Member>⟧.shape) (
-        both_blocks (one 73 ⟦<Plain<Uint32> as Member>⟧.shape) (
-        both_blocks (one 74 ⟦<Plain<Uint32> as Member>⟧.shape) (
-        both_blocks (one 75 ⟦<Nested<Place> as Member>⟧.shape) (
-        one 76 ⟦<MapOf<Uint32, Str> as Member>⟧.shape)))))))) };
+        both_blocks (one 69 ⟦<ImplicitField<Uint32> as Member>⟧.shape) (
+        both_blocks (one 70 ⟦<ImplicitField<Uint32> as Member>⟧.shape) (
+        both_blocks (one 71 ⟦<ImplicitField<Uint32> as Member>⟧.shape) (
+        both_blocks (one 72 ⟦<ImplicitField<Uint32> as Member>⟧.shape) (
+        both_blocks (one 73 ⟦<ImplicitField<Uint32> as Member>⟧.shape) (
+        both_blocks (one 74 ⟦<ImplicitField<Uint32> as Member>⟧.shape) (
+        both_blocks (one 75 ⟦<MessageField<Place> as Member>⟧.shape) (
+        one 76 ⟦<MapField<Uint32, Str> as Member>⟧.shape)))))))) };
 
     fn visit<V: Visitor>(message: &Day, visitor: &mut V) {
-        visitor.visit::<Plain<Uint32>>(69, &message.wind_18);
-        visitor.visit::<Plain<Uint32>>(70, &message.wind_19);
-        visitor.visit::<Plain<Uint32>>(71, &message.wind_20);
-        visitor.visit::<Plain<Uint32>>(72, &message.wind_21);
-        visitor.visit::<Plain<Uint32>>(73, &message.wind_22);
-        visitor.visit::<Plain<Uint32>>(74, &message.wind_23);
-        visitor.visit::<Nested<Place>>(75, &message.place);
-        visitor.visit::<MapOf<Uint32, Str>>(76, &message.remarks);
+        visitor.visit::<ImplicitField<Uint32>>(69, &message.wind_18);
+        visitor.visit::<ImplicitField<Uint32>>(70, &message.wind_19);
+        visitor.visit::<ImplicitField<Uint32>>(71, &message.wind_20);
+        visitor.visit::<ImplicitField<Uint32>>(72, &message.wind_21);
+        visitor.visit::<ImplicitField<Uint32>>(73, &message.wind_22);
+        visitor.visit::<ImplicitField<Uint32>>(74, &message.wind_23);
+        visitor.visit::<MessageField<Place>>(75, &message.place);
+        visitor.visit::<MapField<Uint32, Str>>(76, &message.remarks);
     }
 
     fn has(number: u32) -> bool {
@@ -837,19 +838,19 @@ impl DayBlock10 {
             wind_20.new wind_21.new wind_22.new wind_23.new place.new remarks.new) buf.old buf.new result }
     {
         match tag.field_number() {
-            69 => Plain::<Uint32>::merge(wind_18, alloc, tag, buf, ctx),
-            70 => Plain::<Uint32>::merge(wind_19, alloc, tag, buf, ctx),
-            71 => Plain::<Uint32>::merge(wind_20, alloc, tag, buf, ctx),
-            72 => Plain::<Uint32>::merge(wind_21, alloc, tag, buf, ctx),
-            73 => Plain::<Uint32>::merge(wind_22, alloc, tag, buf, ctx),
-            74 => Plain::<Uint32>::merge(wind_23, alloc, tag, buf, ctx),
-            75 => Nested::<Place>::merge(place, alloc, tag, buf, ctx),
-            _ => MapOf::<Uint32, Str>::merge(remarks, alloc, tag, buf, ctx),
+            69 => ImplicitField::<Uint32>::merge(wind_18, alloc, tag, buf, ctx),
+            70 => ImplicitField::<Uint32>::merge(wind_19, alloc, tag, buf, ctx),
+            71 => ImplicitField::<Uint32>::merge(wind_20, alloc, tag, buf, ctx),
+            72 => ImplicitField::<Uint32>::merge(wind_21, alloc, tag, buf, ctx),
+            73 => ImplicitField::<Uint32>::merge(wind_22, alloc, tag, buf, ctx),
+            74 => ImplicitField::<Uint32>::merge(wind_23, alloc, tag, buf, ctx),
+            75 => MessageField::<Place>::merge(place, alloc, tag, buf, ctx),
+            _ => MapField::<Uint32, Str>::merge(remarks, alloc, tag, buf, ctx),
         }
     }
 }
 
-impl Fields for Day {
+impl MessageFields for Day {
     type Meaning = And11<
         <DayBlock1 as MemberBlock>::Meaning,
         <DayBlock2 as MemberBlock>::Meaning,
@@ -861,7 +862,7 @@ impl Fields for Day {
         <DayBlock8 as MemberBlock>::Meaning,
         <DayBlock9 as MemberBlock>::Meaning,
         <DayBlock10 as MemberBlock>::Meaning,
-        KeptFields,
+        Unknowns,
     >;
 
     const COST: usize = 792;
@@ -870,7 +871,7 @@ impl Fields for Day {
 
     ghost positive = { lit< tt };
 
-    ghost layout = { block ⟦<DayBlock1 as MemberBlock>⟧.members (
+    ghost schema = { block ⟦<DayBlock1 as MemberBlock>⟧.members (
         block ⟦<DayBlock2 as MemberBlock>⟧.members (
         block ⟦<DayBlock3 as MemberBlock>⟧.members (
         block ⟦<DayBlock4 as MemberBlock>⟧.members (
@@ -880,7 +881,7 @@ impl Fields for Day {
         block ⟦<DayBlock8 as MemberBlock>⟧.members (
         block ⟦<DayBlock9 as MemberBlock>⟧.members (
         block ⟦<DayBlock10 as MemberBlock>⟧.members (
-        keep (λ m. m.rest.records))))))))))) };
+        keep_unknown (λ m. m.unknown_fields.records))))))))))) };
 
     ghost sound = { refl };
 
@@ -895,7 +896,7 @@ impl Fields for Day {
         DayBlock8::visit(self, visitor);
         DayBlock9::visit(self, visitor);
         DayBlock10::visit(self, visitor);
-        visitor.visit_kept(&self.rest);
+        visitor.visit_unknown_fields(&self.unknown_fields);
     }
 
     fn take(
@@ -1053,17 +1054,17 @@ impl Fields for Day {
                 ctx,
             )
         } else {
-            kept::keep(alloc, &mut self.rest, tag, buf, ctx)
+            unknown::keep(alloc, &mut self.unknown_fields, tag, buf, ctx)
         }
     }
 }
 
 impl Blank for Day {
-    type Meaning = <Day as Fields>::Meaning;
+    type Meaning = <Day as MessageFields>::Meaning;
 
-    ghost meaning = { ⟦<Day as Fields>⟧.layout.meaning };
+    ghost meaning = { ⟦<Day as MessageFields>⟧.schema.meaning };
 
-    ghost blank_is = { ⟦<Day as Fields>⟧.layout.blank };
+    ghost blank_is = { ⟦<Day as MessageFields>⟧.schema.blank };
 
     fn blank(alloc: Global) -> Day {
         Day {
@@ -1143,19 +1144,19 @@ impl Blank for Day {
             wind_23: 0,
             place: None,
             remarks: Map::new(alloc),
-            rest: UnknownFields::new(alloc),
+            unknown_fields: UnknownFields::new(alloc),
         }
     }
 }
 
-impl Listing for Day {
+impl FieldsMeaning for Day {
     ghost means = { λ m. refl };
 
     ghost starts = { refl };
 }
 
-impl Formed for Day {
-    type Form = Listed;
+impl MessageImpl for Day {
+    type Impl = FieldByField;
 }
 
 const _: () = prove!(size_of::<Day>() <= Day::COST);

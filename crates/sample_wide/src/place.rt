@@ -1,12 +1,12 @@
 //! weather.Place, made of day.proto by protoc-gen-buffa.
 
 ghost use Rattle.std.proofs.Common.{lit<, refl};
-ghost use Rattle.buffa_fields.specs.Terms.{field, keep};
+ghost use Rattle.buffa_fields.specs.Terms.{field, keep_unknown};
 
 use buffa_fields::map_codec::Sint32;
 use buffa_fields::{
-    And3, Blank, DecodeContext, DecodeError, Fields, Formed, KeptFields, Listed, Listing, Member,
-    Plain, Tag, UnknownFields, Visitor, kept,
+    And3, Blank, DecodeContext, DecodeError, FieldByField, FieldsMeaning, ImplicitField, Member,
+    MessageFields, MessageImpl, Tag, UnknownFields, Unknowns, Visitor, unknown,
 };
 use std::alloc::Global;
 
@@ -22,11 +22,11 @@ pub struct Place {
     pub latitude: i32,
     pub longitude: i32,
     /// The fields that aren't declared, in order.
-    pub rest: UnknownFields,
+    pub unknown_fields: UnknownFields,
 }
 
-impl Fields for Place {
-    type Meaning = And3<i32, i32, KeptFields>;
+impl MessageFields for Place {
+    type Meaning = And3<i32, i32, Unknowns>;
 
     const COST: usize = 40;
 
@@ -34,16 +34,16 @@ impl Fields for Place {
 
     ghost positive = { lit< tt };
 
-    ghost layout = { field 1 (λ m. m.latitude) ⟦<Plain<Sint32> as Member>⟧.shape (
-        field 2 (λ m. m.longitude) ⟦<Plain<Sint32> as Member>⟧.shape (
-        keep (λ m. m.rest.records))) };
+    ghost schema = { field 1 (λ m. m.latitude) ⟦<ImplicitField<Sint32> as Member>⟧.shape (
+        field 2 (λ m. m.longitude) ⟦<ImplicitField<Sint32> as Member>⟧.shape (
+        keep_unknown (λ m. m.unknown_fields.records))) };
 
     ghost sound = { refl };
 
     fn visit<V: Visitor>(&self, visitor: &mut V) {
-        visitor.visit::<Plain<Sint32>>(1, &self.latitude);
-        visitor.visit::<Plain<Sint32>>(2, &self.longitude);
-        visitor.visit_kept(&self.rest);
+        visitor.visit::<ImplicitField<Sint32>>(1, &self.latitude);
+        visitor.visit::<ImplicitField<Sint32>>(2, &self.longitude);
+        visitor.visit_unknown_fields(&self.unknown_fields);
     }
 
     fn take(
@@ -54,37 +54,37 @@ impl Fields for Place {
         ctx: DecodeContext<'_>,
     ) -> Result<(), DecodeError> {
         match tag.field_number() {
-            1 => Plain::<Sint32>::merge(&mut self.latitude, alloc, tag, buf, ctx),
-            2 => Plain::<Sint32>::merge(&mut self.longitude, alloc, tag, buf, ctx),
-            _ => kept::keep(alloc, &mut self.rest, tag, buf, ctx),
+            1 => ImplicitField::<Sint32>::merge(&mut self.latitude, alloc, tag, buf, ctx),
+            2 => ImplicitField::<Sint32>::merge(&mut self.longitude, alloc, tag, buf, ctx),
+            _ => unknown::keep(alloc, &mut self.unknown_fields, tag, buf, ctx),
         }
     }
 }
 
 impl Blank for Place {
-    type Meaning = <Place as Fields>::Meaning;
+    type Meaning = <Place as MessageFields>::Meaning;
 
-    ghost meaning = { ⟦<Place as Fields>⟧.layout.meaning };
+    ghost meaning = { ⟦<Place as MessageFields>⟧.schema.meaning };
 
-    ghost blank_is = { ⟦<Place as Fields>⟧.layout.blank };
+    ghost blank_is = { ⟦<Place as MessageFields>⟧.schema.blank };
 
     fn blank(alloc: Global) -> Place {
         Place {
             latitude: 0,
             longitude: 0,
-            rest: UnknownFields::new(alloc),
+            unknown_fields: UnknownFields::new(alloc),
         }
     }
 }
 
-impl Listing for Place {
+impl FieldsMeaning for Place {
     ghost means = { λ m. refl };
 
     ghost starts = { refl };
 }
 
-impl Formed for Place {
-    type Form = Listed;
+impl MessageImpl for Place {
+    type Impl = FieldByField;
 }
 
 const _: () = prove!(size_of::<Place>() <= Place::COST);

@@ -31,7 +31,7 @@ fn what_protoc_writes_is_written_back(rt: HostRuntime) -> Result<(), Fail> {
     let alloc = rt.alloc();
     for hex in [sets::DESCRIPTOR, sets::SHOP, sets::SHOP_WITH_PLACES] {
         let (set, bytes) = read(alloc, hex)?;
-        assert!(rt; set.rest.len() == 0 && set.file.len() == 1);
+        assert!(rt; set.unknown_fields.len() == 0 && set.file.len() == 1);
         let encoding = set.try_encode_to_vec(alloc)?;
         assert!(rt; encoding.as_slice() == bytes.as_slice());
     }
@@ -53,7 +53,7 @@ fn descriptor_proto_is_described(rt: HostRuntime) -> Result<(), Fail> {
     for field in &message.field {
         if field.number == Some(4) {
             assert!(rt; field.type_ == Some(FieldDescriptorProtoType::Enum));
-            assert!(rt; field.label == Some(FieldDescriptorProtoLabel::Optional));
+            assert!(rt; field.label == Some(FieldDescriptorProtoLabel::ExplicitField));
         }
     }
     Ok(())

@@ -5,8 +5,8 @@ use buffa_ext::codecs::{
     BytesCodec, EnumCodec, MessageCodec, PackedRepeated, Repeated, StringCodec,
 };
 use buffa_ext::{Extension, ExtensionCodec, ExtensionSet};
-use buffa_fields::merge::merge_fields;
-use buffa_fields::message::messages_read_back;
+use buffa_fields::messages::merge::merge_fields;
+use buffa_fields::messages::message::messages_read_back;
 use buffa_map::map_codec::{
     Bool, Double, Fixed32, Fixed64, Float, Int32, Int64, Sfixed32, Sfixed64, Sint64, Uint32, Uint64,
 };

@@ -17,7 +17,9 @@ fn a_node_comes_back(rt: HostRuntime) -> Result<(), Fail> {
     ];
     let mut budget = Budget::new(1);
     merge_node(alloc, &mut node, bytes, 1, &mut budget)?;
-    assert!(rt; node.children.len() == 1 && node.scores.len() == 1 && node.rest.len() == 1);
+    assert!(rt;
+        node.children.len() == 1 && node.scores.len() == 1 && node.unknown_fields.len() == 1
+    );
     assert!(rt; node.shades.get(&2) == Some(&Shade::B));
     let mut cache = SizeCache::new(alloc);
     let size = size_node(&node, &mut cache)?;

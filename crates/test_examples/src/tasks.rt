@@ -110,7 +110,7 @@ fn a_closed_enum_keeps_what_it_does_not_declare(rt: HostRuntime) -> Result<(), F
 
 // Sets a closed enum, so that no number that came and isn't declared is written behind it.
 fn set_shade(swatch: &mut Swatch, shade: Shade) {
-    swatch.rest.retain(|field| field.number != 1);
+    swatch.unknown_fields.retain(|field| field.number != 1);
     swatch.shade = Some(shade);
 }
 

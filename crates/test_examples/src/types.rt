@@ -126,7 +126,7 @@ fn names_duration(alloc: Global, url: &str) -> Result<bool, Fail> {
     let any = Any {
         type_url: String::from_str(alloc, url)?,
         value: Vec::new(alloc),
-        rest: UnknownFields::new(alloc),
+        unknown_fields: UnknownFields::new(alloc),
     };
     Ok(any.is("google.protobuf.Duration"))
 }

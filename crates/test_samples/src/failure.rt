@@ -18,7 +18,7 @@ fn causes_are_passed_on(rt: HostRuntime) -> Result<(), Fail> {
         0x20, 0x07, // field 4 isn't declared
     ];
     failure.merge_from_slice(alloc, &bytes)?;
-    assert!(rt; failure.reason.as_str() == "vw" && failure.rest.len() == 1);
+    assert!(rt; failure.reason.as_str() == "vw" && failure.unknown_fields.len() == 1);
     let again: [u8; 19] = [
         0x0A, 0x02, 0x76, 0x77, // the reason,
         0x12, 0x09, 0x12, 0x03, 0x0A, 0x01, 0x78, 0x18, 0x07, 0x18, 0x08, // the cause,

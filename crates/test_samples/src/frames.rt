@@ -100,12 +100,12 @@ fn a_log_is_read_frame_by_frame(rt: HostRuntime) -> Result<(), Fail> {
     assert!(rt; frames.frame().is_empty());
     assert!(rt; frames.next_frame()?);
     let first = Swatch::decode_from_slice(alloc, frames.frame())?;
-    assert!(rt; first.shade == Some(Shade::B) && first.rest.len() == 0);
+    assert!(rt; first.shade == Some(Shade::B) && first.unknown_fields.len() == 0);
     assert!(rt; frames.next_frame()?);
     assert!(rt; frames.frame().is_empty());
     assert!(rt; frames.next_frame()?);
     let third = Swatch::decode_from_slice(alloc, frames.frame())?;
-    assert!(rt; third.rest.len() == 1);
+    assert!(rt; third.unknown_fields.len() == 1);
     assert!(rt; !frames.next_frame()?);
     assert!(rt; frames.frame().is_empty());
     assert!(rt; !frames.next_frame()?);

@@ -19,7 +19,9 @@ fn branches_are_passed_on(rt: HostRuntime) -> Result<(), Fail> {
         0x1A, 0x02, 0x10, 0x06, // a second branch, with a leaf
     ];
     branch.merge_from_slice(alloc, &bytes)?;
-    assert!(rt; branch.branches.len() == 2 && branch.leaves.len() == 1 && branch.rest.len() == 1);
+    assert!(rt;
+        branch.branches.len() == 2 && branch.leaves.len() == 1 && branch.unknown_fields.len() == 1
+    );
     assert!(rt; branch.branches[0].name.as_str() == "bb");
     assert!(rt; branch.branches[0].branches.len() == 1);
     let again: [u8; 22] = [

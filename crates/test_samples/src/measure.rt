@@ -1,6 +1,6 @@
 //! Measures: what is required, defaults and real numbers. The bytes are worked out by hand, from the protobuf encoding guide.
 
-use buffa_fields::required::Required;
+use buffa_fields::messages::required::Required;
 use buffa_wire::{Blank, DoubleBits, FloatBits, Message};
 use sample_measure::measure::Measure;
 use sample_measure::spot::Spot;

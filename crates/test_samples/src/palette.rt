@@ -17,7 +17,7 @@ fn what_is_undeclared_is_passed_on(rt: HostRuntime) -> Result<(), Fail> {
         0x20, 0x09, // s is 9, which isn't declared
     ];
     palette.merge_from_slice(alloc, &bytes)?;
-    assert!(rt; palette.shades.len() == 1 && palette.rest.len() == 2);
+    assert!(rt; palette.shades.len() == 1 && palette.unknown_fields.len() == 2);
     assert!(rt; palette.s == Some(Shade::B));
     let again: [u8; 18] = [
         0x08, 0x05, 0x1A, 0x04, 0x08, 0x01, 0x10, 0x01, 0x20, 0x01, // what is declared
@@ -87,7 +87,9 @@ fn each_costs_an_unknown_field(rt: HostRuntime) -> Result<(), Fail> {
         DecodeContext::new(RECURSION_LIMIT, &mut few),
     );
     assert!(rt; refused == Err(DecodeError::UnknownFieldLimitExceeded));
-    assert!(rt; palette.packed.len() == 0 && palette.rest.len() == 0 && few.unknown_left() == 1);
+    assert!(rt;
+        palette.packed.len() == 0 && palette.unknown_fields.len() == 0 && few.unknown_left() == 1
+    );
     let mut enough = Budget::new(3);
     rest = bytes;
     palette.merge(
@@ -95,7 +97,7 @@ fn each_costs_an_unknown_field(rt: HostRuntime) -> Result<(), Fail> {
         &mut rest,
         DecodeContext::new(RECURSION_LIMIT, &mut enough),
     )?;
-    assert!(rt; palette.packed.len() == 2 && palette.rest.len() == 2);
+    assert!(rt; palette.packed.len() == 2 && palette.unknown_fields.len() == 2);
     assert!(rt; enough.unknown_left() == 1);
     Ok(())
 }

@@ -19,10 +19,10 @@ fn members_are_printed_by_their_names(rt: HostRuntime) -> Result<(), Fail> {
     add_line(alloc, &mut order, "a", 2)?;
     give(alloc, &mut order, "b", "c")?;
     let text = format!(in alloc; "{order:?}")?;
-    let line = "Line { good: \"a\", count: Some(2), rest: UnknownFields { fields: [] } }";
-    let gift = "Line { good: \"c\", count: None, rest: UnknownFields { fields: [] } }";
+    let line = "Line { good: \"a\", count: Some(2), unknown_fields: UnknownFields { fields: [] } }";
+    let gift = "Line { good: \"c\", count: None, unknown_fields: UnknownFields { fields: [] } }";
     let wanted = format!(in alloc;
-        "Order {{ state: Known(Sent), note: Some(\"x\"), lines: [{line}], gifts: {{\"b\": {gift}}}, rest: UnknownFields {{ fields: [] }} }}"
+        "Order {{ state: Known(Sent), note: Some(\"x\"), lines: [{line}], gifts: {{\"b\": {gift}}}, unknown_fields: UnknownFields {{ fields: [] }} }}"
     )?;
     assert!(rt; text.as_str() == wanted.as_str());
     Ok(())
@@ -36,7 +36,7 @@ fn a_case_is_printed_by_its_name(rt: HostRuntime) -> Result<(), Fail> {
     let text = format!(in alloc; "{payment:?}")?;
     assert!(rt;
         text.as_str()
-            == "Payment { amount: 0, method: Some(Cash(-7)), note: \"\", rest: UnknownFields { fields: [] } }"
+            == "Payment { amount: 0, method: Some(Cash(-7)), note: \"\", unknown_fields: UnknownFields { fields: [] } }"
     );
     Ok(())
 }
@@ -49,7 +49,7 @@ fn what_is_not_declared_is_printed_by_number(rt: HostRuntime) -> Result<(), Fail
     let first = "UnknownField { number: 7, payload: Varint(150) }";
     let second = "UnknownField { number: 9, payload: LengthDelimited([120]) }";
     let wanted = format!(in alloc;
-        "Stock {{ name: \"\", counts: {{}}, rest: UnknownFields {{ fields: [{first}, {second}] }} }}"
+        "Stock {{ name: \"\", counts: {{}}, unknown_fields: UnknownFields {{ fields: [{first}, {second}] }} }}"
     )?;
     assert!(rt; text.as_str() == wanted.as_str());
     Ok(())
@@ -61,9 +61,9 @@ fn a_message_that_holds_itself_is_printed(rt: HostRuntime) -> Result<(), Fail> {
     let mut house = place(alloc, "house")?;
     house.places.push(place(alloc, "roof")?)?;
     let text = format!(in alloc; "{house:?}")?;
-    let roof = "Place { name: \"roof\", places: [], rest: UnknownFields { fields: [] } }";
+    let roof = "Place { name: \"roof\", places: [], unknown_fields: UnknownFields { fields: [] } }";
     let wanted = format!(in alloc;
-        "Place {{ name: \"house\", places: [{roof}], rest: UnknownFields {{ fields: [] }} }}"
+        "Place {{ name: \"house\", places: [{roof}], unknown_fields: UnknownFields {{ fields: [] }} }}"
     )?;
     assert!(rt; text.as_str() == wanted.as_str());
     Ok(())

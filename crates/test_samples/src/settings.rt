@@ -20,7 +20,9 @@ fn sections_are_passed_on(rt: HostRuntime) -> Result<(), Fail> {
     ];
     settings.merge_from_slice(alloc, &bytes)?;
     assert!(rt;
-        settings.sections.len() == 2 && settings.ports.len() == 1 && settings.rest.len() == 1
+        settings.sections.len() == 2
+            && settings.ports.len() == 1
+            && settings.unknown_fields.len() == 1
     );
     assert!(rt; settings.value.as_str() == "vw");
     let again: [u8; 34] = [

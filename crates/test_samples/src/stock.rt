@@ -76,7 +76,7 @@ fn an_order_has_its_members(rt: HostRuntime) -> Result<(), Fail> {
 #[test]
 fn a_stock_is_read_within_limits(rt: HostRuntime) -> Result<(), Fail> {
     let stock = stock_within_limits(rt.alloc(), &BYTES)?;
-    assert!(rt; stock.rest.len() == 1);
+    assert!(rt; stock.unknown_fields.len() == 1);
     Ok(())
 }
 
@@ -86,7 +86,7 @@ fn unknown_fields_are_looked_at(rt: HostRuntime) -> Result<(), Fail> {
     let mut stock = stock_within_limits(alloc, &[0x0A, 0x01, 0x78, 0x48, 0x05, 0x40, 0x01])?;
     assert!(rt; has_unknown(&stock, 9));
     drop_nine(&mut stock);
-    assert!(rt; !has_unknown(&stock, 9) && stock.rest.len() == 1);
+    assert!(rt; !has_unknown(&stock, 9) && stock.unknown_fields.len() == 1);
     Ok(())
 }
 

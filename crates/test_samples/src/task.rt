@@ -1,6 +1,6 @@
 //! Tasks in tasks: what is required is asked for at any depth. The bytes are worked out by hand, from the protobuf encoding guide.
 
-use buffa_fields::required::Required;
+use buffa_fields::messages::required::Required;
 use buffa_wire::{Blank, Message};
 use sample_recursive::agenda::Agenda;
 use sample_recursive::task::Task;

@@ -2,8 +2,8 @@
 
 ghost use Rattle.std.specs.Prelude.{◌≡◌, ℕ, List, [], Ok, length, string_bytes, IsOk};
 ghost use Rattle.std.specs.Fn.{TakesAt};
-ghost use Rattle.buffa_bytes.specs.Left.{LeavesUnlessFull, past_no_delimited, IsTailOf};
-ghost use Rattle.buffa_bytes.specs.Front.{delimited_at, FullOnlyIf, GivesUnlessFull};
+ghost use Rattle.buffa_bytes.specs.Unread.{LeavesUnlessFull, past_no_delimited, IsTailOf};
+ghost use Rattle.buffa_bytes.specs.Readings.{delimited_at, FullOnlyIf, GivesUnlessFull};
 ghost use Rattle.buffa_bytes.specs.Delimited.{Lends, bytes_as, string_as};
 ghost use Rattle.buffa_bytes.specs.Values.{delimited_encoding, string_at};
 ghost use Rattle.buffa_bytes.specs.Written.{UsesRoom, Writes};

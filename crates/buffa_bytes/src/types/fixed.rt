@@ -1,11 +1,11 @@
 //! Scalars of four and of eight bytes, the lowest first.
 
 ghost use Rattle.std.specs.Prelude.{◌≡◌, length, OnErr};
-ghost use Rattle.buffa_bytes.specs.Front.{taken, Gives};
+ghost use Rattle.buffa_bytes.specs.Readings.{taken, Gives};
 ghost use Rattle.buffa_bytes.specs.Scalars.{fixed32_at, fixed32_encoding, fixed64_at, fixed64_encoding, sfixed32_at};
 ghost use Rattle.buffa_bytes.specs.Scalars.{sfixed32_encoding, sfixed64_at, sfixed64_encoding};
 ghost use Rattle.buffa_bytes.specs.Written.{UsesRoom, Writes};
-ghost use Rattle.buffa_bytes.specs.Left.{IsTailOf};
+ghost use Rattle.buffa_bytes.specs.Unread.{IsTailOf};
 
 use crate::buf::Buf;
 use crate::error::{DecodeError, EncodeError};
@@ -26,7 +26,7 @@ pub const FIXED32_ENCODED_LEN: usize = 4;
 pub const FIXED64_ENCODED_LEN: usize = 8;
 
 // Fills `bytes` with the first bytes of the buffer.
-#[tactic(auto, using(crate::proofs::TailLemmas::tail_whole, crate::proofs::TailLemmas::tail_dropped), unfolding(crate::specs::Front::taken))]
+#[tactic(auto, using(crate::proofs::TailLemmas::tail_whole, crate::proofs::TailLemmas::tail_dropped), unfolding(crate::specs::Readings::taken))]
 fn take_into<B: Buf>(buf: &mut B, bytes: &mut [u8]) -> Result<(), DecodeError>
     ensures reads { Gives (λ _. (bytes.new, B.unread buf.new)) result (taken (length bytes.old) (B.unread buf.old)) }
     ensures kept { B.beyond buf.new ≡ B.beyond buf.old }

@@ -1,8 +1,8 @@
 //! Scalars that are varints.
 
 ghost use Rattle.std.specs.Prelude.{◌≡◌, length, OnErr};
-ghost use Rattle.buffa_bytes.specs.Front.{Gives};
-ghost use Rattle.buffa_bytes.specs.Left.{past_no_varint, IsTailOf};
+ghost use Rattle.buffa_bytes.specs.Readings.{Gives};
+ghost use Rattle.buffa_bytes.specs.Unread.{past_no_varint, IsTailOf};
 ghost use Rattle.buffa_bytes.specs.Scalars.{bool_at, bool_encoding, int32_at, int32_encoding, int64_at, int64_encoding};
 ghost use Rattle.buffa_bytes.specs.Scalars.{sint32_at, sint32_encoding, sint64_at, sint64_encoding, uint32_at, uint32_encoding};
 ghost use Rattle.buffa_bytes.specs.Scalars.{uint64_at, uint64_encoding};

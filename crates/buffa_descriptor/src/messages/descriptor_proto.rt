@@ -1,7 +1,7 @@
 //! google.protobuf.DescriptorProto, made of descriptor.proto by protoc-gen-buffa.
 
 ghost use Rattle.std.proofs.Common.{lit<, refl};
-ghost use Rattle.buffa_recursive.specs.Terms.{keeps, knotted, list_inside, member, rest_of};
+ghost use Rattle.buffa_recursive.specs.Terms.{keeps_unknown, list_inside, member, recursive_message, rest_of};
 
 use crate::messages::descriptor_proto_extension_range::DescriptorProtoExtensionRange;
 use crate::messages::descriptor_proto_reserved_range::DescriptorProtoReservedRange;
@@ -11,11 +11,12 @@ use crate::messages::message_options::MessageOptions;
 use crate::messages::oneof_descriptor_proto::OneofDescriptorProto;
 use buffa_fields::map_codec::Str;
 use buffa_fields::{
-    Blank, DecodeContext, DecodeError, Formed, Member, Nested, Optional, Repeated, RepeatedNested,
-    Tag, UnknownFields, kept,
+    Blank, DecodeContext, DecodeError, ExplicitField, Member, MessageField, MessageImpl,
+    RepeatedField, RepeatedMessageField, Tag, UnknownFields, unknown,
 };
 use buffa_recursive::{
-    Laid, SelfFields, SelfListed, SelfListing, SelfMerger, SelfVisitor, take_list,
+    InnerMerger, RecursiveFieldByField, RecursiveFields, RecursiveMeaning, RecursiveType,
+    RecursiveVisitor, take_list,
 };
 use std::alloc::Global;
 use std::marker::Model;
@@ -58,84 +59,90 @@ pub struct DescriptorProto {
     /// The names that no field may have.
     pub reserved_name: Vec<String>,
     /// The fields that aren't declared, in order.
-    pub rest: UnknownFields,
+    pub unknown_fields: UnknownFields,
 }
 
 impl Model for DescriptorProto {
     ghost use Rattle.std.specs.Coded.{codes};
     ghost use Rattle.std.specs.Prelude.{List, Option, ℕ};
     ghost use Rattle.std.proofs.Common.{arith};
-    ghost use Rattle.buffa_fields.specs.Terms.{Datum, coded_datum};
-    ghost use Rattle.buffa_recursive.specs.Terms.{Knot, MeaningOf, coded_knot, has, has_kept, has_list, knot_height, knot_of, most-of_list};
+    ghost use Rattle.buffa_fields.specs.Terms.{FieldData, coded_field_data};
+    ghost use Rattle.buffa_recursive.specs.Terms.{MeaningOf, MessageTree, coded_tree, has, has_list, has_unknown_fields, most-of_list, tree_height, tree_of};
 
-    ghost Value = { Knot (
+    ghost Value = { MessageTree (
         Option (List ℕ) × (
-        MeaningOf ⟦<RepeatedNested<FieldDescriptorProto> as Member>⟧.shape × (
-        MeaningOf ⟦<RepeatedNested<EnumDescriptorProto> as Member>⟧.shape × (
-        MeaningOf ⟦<RepeatedNested<DescriptorProtoExtensionRange> as Member>⟧.shape × (
-        MeaningOf ⟦<RepeatedNested<FieldDescriptorProto> as Member>⟧.shape × (
-        MeaningOf ⟦<Nested<MessageOptions> as Member>⟧.shape × (
-        MeaningOf ⟦<RepeatedNested<OneofDescriptorProto> as Member>⟧.shape × (
-        MeaningOf ⟦<RepeatedNested<DescriptorProtoReservedRange> as Member>⟧.shape × (
-        List (List ℕ) × List (ℕ × Datum)))))))))) };
+        MeaningOf ⟦<RepeatedMessageField<FieldDescriptorProto> as Member>⟧.shape × (
+        MeaningOf ⟦<RepeatedMessageField<EnumDescriptorProto> as Member>⟧.shape × (
+        MeaningOf ⟦<RepeatedMessageField<DescriptorProtoExtensionRange> as Member>⟧.shape × (
+        MeaningOf ⟦<RepeatedMessageField<FieldDescriptorProto> as Member>⟧.shape × (
+        MeaningOf ⟦<MessageField<MessageOptions> as Member>⟧.shape × (
+        MeaningOf ⟦<RepeatedMessageField<OneofDescriptorProto> as Member>⟧.shape × (
+        MeaningOf ⟦<RepeatedMessageField<DescriptorProtoReservedRange> as Member>⟧.shape × (
+        List (List ℕ) × List (ℕ × FieldData)))))))))) };
 
-    ghost coded = { Prim.hlevel (codes, coded_datum, coded_knot) };
+    ghost coded = { Prim.hlevel (codes, coded_field_data, coded_tree) };
 
-    ghost view = { λ m. knot_of (
-        has (⟦<Optional<Str> as Member>⟧.shape.meaning m.name) (
-        has (⟦<RepeatedNested<FieldDescriptorProto> as Member>⟧.shape.meaning m.field) (
+    ghost view = { λ m. tree_of (
+        has (⟦<ExplicitField<Str> as Member>⟧.shape.meaning m.name) (
+        has (⟦<RepeatedMessageField<FieldDescriptorProto> as Member>⟧.shape.meaning m.field) (
         has_list m.nested_type.items (
-        has (⟦<RepeatedNested<EnumDescriptorProto> as Member>⟧.shape.meaning m.enum_type) (
-        has (⟦<RepeatedNested<DescriptorProtoExtensionRange> as Member>⟧.shape.meaning m.extension_range) (
-        has (⟦<RepeatedNested<FieldDescriptorProto> as Member>⟧.shape.meaning m.extension) (
-        has (⟦<Nested<MessageOptions> as Member>⟧.shape.meaning m.options) (
-        has (⟦<RepeatedNested<OneofDescriptorProto> as Member>⟧.shape.meaning m.oneof_decl) (
-        has (⟦<RepeatedNested<DescriptorProtoReservedRange> as Member>⟧.shape.meaning m.reserved_range) (
-        has (⟦<Repeated<Str> as Member>⟧.shape.meaning m.reserved_name) (has_kept m.rest.records))))))))))) };
+        has (⟦<RepeatedMessageField<EnumDescriptorProto> as Member>⟧.shape.meaning m.enum_type) (
+        has (⟦<RepeatedMessageField<DescriptorProtoExtensionRange> as Member>⟧.shape.meaning m.extension_range) (
+        has (⟦<RepeatedMessageField<FieldDescriptorProto> as Member>⟧.shape.meaning m.extension) (
+        has (⟦<MessageField<MessageOptions> as Member>⟧.shape.meaning m.options) (
+        has (⟦<RepeatedMessageField<OneofDescriptorProto> as Member>⟧.shape.meaning m.oneof_decl) (
+        has (⟦<RepeatedMessageField<DescriptorProtoReservedRange> as Member>⟧.shape.meaning m.reserved_range) (
+        has (⟦<RepeatedField<Str> as Member>⟧.shape.meaning m.reserved_name) (has_unknown_fields m.unknown_fields.records))))))))))) };
 
-    ghost size = { knot_height };
+    ghost size = { tree_height };
 
     ghost size_decreases = { λ m h. Prim.grind (arith, most-of_list m.nested_type.items) };
 }
 
-impl Laid for DescriptorProto {
+impl RecursiveType for DescriptorProto {
     const COST: usize = 280;
 
     ghost COST = { 280 };
 
     ghost positive = { lit< tt };
 
-    ghost laying = { knotted (
-        member 1 ⟦<Optional<Str> as Member>⟧.shape (
-        member 2 ⟦<RepeatedNested<FieldDescriptorProto> as Member>⟧.shape (
+    ghost schema = { recursive_message (
+        member 1 ⟦<ExplicitField<Str> as Member>⟧.shape (
+        member 2 ⟦<RepeatedMessageField<FieldDescriptorProto> as Member>⟧.shape (
         list_inside 3 (
-        member 4 ⟦<RepeatedNested<EnumDescriptorProto> as Member>⟧.shape (
-        member 5 ⟦<RepeatedNested<DescriptorProtoExtensionRange> as Member>⟧.shape (
-        member 6 ⟦<RepeatedNested<FieldDescriptorProto> as Member>⟧.shape (
-        member 7 ⟦<Nested<MessageOptions> as Member>⟧.shape (
-        member 8 ⟦<RepeatedNested<OneofDescriptorProto> as Member>⟧.shape (
-        member 9 ⟦<RepeatedNested<DescriptorProtoReservedRange> as Member>⟧.shape (
-        member 10 ⟦<Repeated<Str> as Member>⟧.shape keeps)))))))))) };
+        member 4 ⟦<RepeatedMessageField<EnumDescriptorProto> as Member>⟧.shape (
+        member 5 ⟦<RepeatedMessageField<DescriptorProtoExtensionRange> as Member>⟧.shape (
+        member 6 ⟦<RepeatedMessageField<FieldDescriptorProto> as Member>⟧.shape (
+        member 7 ⟦<MessageField<MessageOptions> as Member>⟧.shape (
+        member 8 ⟦<RepeatedMessageField<OneofDescriptorProto> as Member>⟧.shape (
+        member 9 ⟦<RepeatedMessageField<DescriptorProtoReservedRange> as Member>⟧.shape (
+        member 10 ⟦<RepeatedField<Str> as Member>⟧.shape keeps_unknown)))))))))) };
 
     ghost sound = { λ w. refl };
 }
 
-impl SelfFields for DescriptorProto {
-    fn visit<V: SelfVisitor<DescriptorProto>>(&self, visitor: &mut V) {
-        visitor.visit::<Optional<Str>>(1, &self.name);
-        visitor.visit::<RepeatedNested<FieldDescriptorProto>>(2, &self.field);
+impl RecursiveFields for DescriptorProto {
+    fn visit<V: RecursiveVisitor<DescriptorProto>>(&self, visitor: &mut V) {
+        visitor.visit::<ExplicitField<Str>>(1, &self.name);
+        visitor.visit::<RepeatedMessageField<FieldDescriptorProto>>(2, &self.field);
         visitor.visit_list(3, &self.nested_type);
-        visitor.visit::<RepeatedNested<EnumDescriptorProto>>(4, &self.enum_type);
-        visitor.visit::<RepeatedNested<DescriptorProtoExtensionRange>>(5, &self.extension_range);
-        visitor.visit::<RepeatedNested<FieldDescriptorProto>>(6, &self.extension);
-        visitor.visit::<Nested<MessageOptions>>(7, &self.options);
-        visitor.visit::<RepeatedNested<OneofDescriptorProto>>(8, &self.oneof_decl);
-        visitor.visit::<RepeatedNested<DescriptorProtoReservedRange>>(9, &self.reserved_range);
-        visitor.visit::<Repeated<Str>>(10, &self.reserved_name);
-        visitor.visit_kept(&self.rest);
+        visitor.visit::<RepeatedMessageField<EnumDescriptorProto>>(4, &self.enum_type);
+        visitor.visit::<RepeatedMessageField<DescriptorProtoExtensionRange>>(
+            5,
+            &self.extension_range,
+        );
+        visitor.visit::<RepeatedMessageField<FieldDescriptorProto>>(6, &self.extension);
+        visitor.visit::<MessageField<MessageOptions>>(7, &self.options);
+        visitor.visit::<RepeatedMessageField<OneofDescriptorProto>>(8, &self.oneof_decl);
+        visitor.visit::<RepeatedMessageField<DescriptorProtoReservedRange>>(
+            9,
+            &self.reserved_range,
+        );
+        visitor.visit::<RepeatedField<Str>>(10, &self.reserved_name);
+        visitor.visit_unknown_fields(&self.unknown_fields);
     }
 
-    fn take<I: SelfMerger<DescriptorProto>>(
+    fn take<I: InnerMerger<DescriptorProto>>(
         &mut self,
         alloc: Global,
         tag: Tag,
@@ -144,8 +151,8 @@ impl SelfFields for DescriptorProto {
         inner: &I,
     ) -> Result<(), DecodeError> {
         match tag.field_number() {
-            1 => Optional::<Str>::merge(&mut self.name, alloc, tag, buf, ctx),
-            2 => RepeatedNested::<FieldDescriptorProto>::merge(
+            1 => ExplicitField::<Str>::merge(&mut self.name, alloc, tag, buf, ctx),
+            2 => RepeatedMessageField::<FieldDescriptorProto>::merge(
                 &mut self.field,
                 alloc,
                 tag,
@@ -153,44 +160,44 @@ impl SelfFields for DescriptorProto {
                 ctx,
             ),
             3 => take_list(&mut self.nested_type, alloc, tag, buf, ctx, inner),
-            4 => RepeatedNested::<EnumDescriptorProto>::merge(
+            4 => RepeatedMessageField::<EnumDescriptorProto>::merge(
                 &mut self.enum_type,
                 alloc,
                 tag,
                 buf,
                 ctx,
             ),
-            5 => RepeatedNested::<DescriptorProtoExtensionRange>::merge(
+            5 => RepeatedMessageField::<DescriptorProtoExtensionRange>::merge(
                 &mut self.extension_range,
                 alloc,
                 tag,
                 buf,
                 ctx,
             ),
-            6 => RepeatedNested::<FieldDescriptorProto>::merge(
+            6 => RepeatedMessageField::<FieldDescriptorProto>::merge(
                 &mut self.extension,
                 alloc,
                 tag,
                 buf,
                 ctx,
             ),
-            7 => Nested::<MessageOptions>::merge(&mut self.options, alloc, tag, buf, ctx),
-            8 => RepeatedNested::<OneofDescriptorProto>::merge(
+            7 => MessageField::<MessageOptions>::merge(&mut self.options, alloc, tag, buf, ctx),
+            8 => RepeatedMessageField::<OneofDescriptorProto>::merge(
                 &mut self.oneof_decl,
                 alloc,
                 tag,
                 buf,
                 ctx,
             ),
-            9 => RepeatedNested::<DescriptorProtoReservedRange>::merge(
+            9 => RepeatedMessageField::<DescriptorProtoReservedRange>::merge(
                 &mut self.reserved_range,
                 alloc,
                 tag,
                 buf,
                 ctx,
             ),
-            10 => Repeated::<Str>::merge(&mut self.reserved_name, alloc, tag, buf, ctx),
-            _ => kept::keep(alloc, &mut self.rest, tag, buf, ctx),
+            10 => RepeatedField::<Str>::merge(&mut self.reserved_name, alloc, tag, buf, ctx),
+            _ => unknown::keep(alloc, &mut self.unknown_fields, tag, buf, ctx),
         }
     }
 }
@@ -200,7 +207,7 @@ impl Blank for DescriptorProto {
 
     ghost meaning = { λ m. m };
 
-    ghost blank_is = { ⟦<DescriptorProto as Laid>⟧.laying.into ⟦<DescriptorProto as Laid>⟧.laying.blank };
+    ghost blank_is = { ⟦<DescriptorProto as RecursiveType>⟧.schema.into ⟦<DescriptorProto as RecursiveType>⟧.schema.blank };
 
     fn blank(alloc: Global) -> DescriptorProto {
         DescriptorProto {
@@ -214,19 +221,19 @@ impl Blank for DescriptorProto {
             oneof_decl: Vec::new(alloc),
             reserved_range: Vec::new(alloc),
             reserved_name: Vec::new(alloc),
-            rest: UnknownFields::new(alloc),
+            unknown_fields: UnknownFields::new(alloc),
         }
     }
 }
 
-impl SelfListing for DescriptorProto {
+impl RecursiveMeaning for DescriptorProto {
     ghost means = { λ m. refl };
 
     ghost starts = { refl };
 }
 
-impl Formed for DescriptorProto {
-    type Form = SelfListed;
+impl MessageImpl for DescriptorProto {
+    type Impl = RecursiveFieldByField;
 }
 
 const _: () = prove!(size_of::<DescriptorProto>() <= DescriptorProto::COST);

@@ -1,13 +1,13 @@
 //! google.protobuf.DescriptorProto.ExtensionRange, made of descriptor.proto by protoc-gen-buffa.
 
 ghost use Rattle.std.proofs.Common.{lit<, refl};
-ghost use Rattle.buffa_fields.specs.Terms.{field, keep};
+ghost use Rattle.buffa_fields.specs.Terms.{field, keep_unknown};
 
 use crate::messages::extension_range_options::ExtensionRangeOptions;
 use buffa_fields::map_codec::Int32;
 use buffa_fields::{
-    And4, Blank, DecodeContext, DecodeError, Fields, Formed, KeptFields, Listed, Listing, Member,
-    Nested, Optional, Tag, UnknownFields, Visitor, kept,
+    And4, Blank, DecodeContext, DecodeError, ExplicitField, FieldByField, FieldsMeaning, Member,
+    MessageField, MessageFields, MessageImpl, Tag, UnknownFields, Unknowns, Visitor, unknown,
 };
 use std::alloc::Global;
 
@@ -27,15 +27,15 @@ pub struct DescriptorProtoExtensionRange {
     /// The options of the range.
     pub options: Option<ExtensionRangeOptions>,
     /// The fields that aren't declared, in order.
-    pub rest: UnknownFields,
+    pub unknown_fields: UnknownFields,
 }
 
-impl Fields for DescriptorProtoExtensionRange {
+impl MessageFields for DescriptorProtoExtensionRange {
     type Meaning = And4<
         Option<i32>,
         Option<i32>,
         Option<<ExtensionRangeOptions as Blank>::Meaning>,
-        KeptFields,
+        Unknowns,
     >;
 
     const COST: usize = 88;
@@ -44,18 +44,18 @@ impl Fields for DescriptorProtoExtensionRange {
 
     ghost positive = { lit< tt };
 
-    ghost layout = { field 1 (λ m. m.start) ⟦<Optional<Int32> as Member>⟧.shape (
-        field 2 (λ m. m.end) ⟦<Optional<Int32> as Member>⟧.shape (
-        field 3 (λ m. m.options) ⟦<Nested<ExtensionRangeOptions> as Member>⟧.shape (
-        keep (λ m. m.rest.records)))) };
+    ghost schema = { field 1 (λ m. m.start) ⟦<ExplicitField<Int32> as Member>⟧.shape (
+        field 2 (λ m. m.end) ⟦<ExplicitField<Int32> as Member>⟧.shape (
+        field 3 (λ m. m.options) ⟦<MessageField<ExtensionRangeOptions> as Member>⟧.shape (
+        keep_unknown (λ m. m.unknown_fields.records)))) };
 
     ghost sound = { refl };
 
     fn visit<V: Visitor>(&self, visitor: &mut V) {
-        visitor.visit::<Optional<Int32>>(1, &self.start);
-        visitor.visit::<Optional<Int32>>(2, &self.end);
-        visitor.visit::<Nested<ExtensionRangeOptions>>(3, &self.options);
-        visitor.visit_kept(&self.rest);
+        visitor.visit::<ExplicitField<Int32>>(1, &self.start);
+        visitor.visit::<ExplicitField<Int32>>(2, &self.end);
+        visitor.visit::<MessageField<ExtensionRangeOptions>>(3, &self.options);
+        visitor.visit_unknown_fields(&self.unknown_fields);
     }
 
     fn take(
@@ -66,39 +66,45 @@ impl Fields for DescriptorProtoExtensionRange {
         ctx: DecodeContext<'_>,
     ) -> Result<(), DecodeError> {
         match tag.field_number() {
-            1 => Optional::<Int32>::merge(&mut self.start, alloc, tag, buf, ctx),
-            2 => Optional::<Int32>::merge(&mut self.end, alloc, tag, buf, ctx),
-            3 => Nested::<ExtensionRangeOptions>::merge(&mut self.options, alloc, tag, buf, ctx),
-            _ => kept::keep(alloc, &mut self.rest, tag, buf, ctx),
+            1 => ExplicitField::<Int32>::merge(&mut self.start, alloc, tag, buf, ctx),
+            2 => ExplicitField::<Int32>::merge(&mut self.end, alloc, tag, buf, ctx),
+            3 => MessageField::<ExtensionRangeOptions>::merge(
+                &mut self.options,
+                alloc,
+                tag,
+                buf,
+                ctx,
+            ),
+            _ => unknown::keep(alloc, &mut self.unknown_fields, tag, buf, ctx),
         }
     }
 }
 
 impl Blank for DescriptorProtoExtensionRange {
-    type Meaning = <DescriptorProtoExtensionRange as Fields>::Meaning;
+    type Meaning = <DescriptorProtoExtensionRange as MessageFields>::Meaning;
 
-    ghost meaning = { ⟦<DescriptorProtoExtensionRange as Fields>⟧.layout.meaning };
+    ghost meaning = { ⟦<DescriptorProtoExtensionRange as MessageFields>⟧.schema.meaning };
 
-    ghost blank_is = { ⟦<DescriptorProtoExtensionRange as Fields>⟧.layout.blank };
+    ghost blank_is = { ⟦<DescriptorProtoExtensionRange as MessageFields>⟧.schema.blank };
 
     fn blank(alloc: Global) -> DescriptorProtoExtensionRange {
         DescriptorProtoExtensionRange {
             start: None,
             end: None,
             options: None,
-            rest: UnknownFields::new(alloc),
+            unknown_fields: UnknownFields::new(alloc),
         }
     }
 }
 
-impl Listing for DescriptorProtoExtensionRange {
+impl FieldsMeaning for DescriptorProtoExtensionRange {
     ghost means = { λ m. refl };
 
     ghost starts = { refl };
 }
 
-impl Formed for DescriptorProtoExtensionRange {
-    type Form = Listed;
+impl MessageImpl for DescriptorProtoExtensionRange {
+    type Impl = FieldByField;
 }
 
 const _: () = prove!(

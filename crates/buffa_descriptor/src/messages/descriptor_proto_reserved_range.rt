@@ -1,12 +1,12 @@
 //! google.protobuf.DescriptorProto.ReservedRange, made of descriptor.proto by protoc-gen-buffa.
 
 ghost use Rattle.std.proofs.Common.{lit<, refl};
-ghost use Rattle.buffa_fields.specs.Terms.{field, keep};
+ghost use Rattle.buffa_fields.specs.Terms.{field, keep_unknown};
 
 use buffa_fields::map_codec::Int32;
 use buffa_fields::{
-    And3, Blank, DecodeContext, DecodeError, Fields, Formed, KeptFields, Listed, Listing, Member,
-    Optional, Tag, UnknownFields, Visitor, kept,
+    And3, Blank, DecodeContext, DecodeError, ExplicitField, FieldByField, FieldsMeaning, Member,
+    MessageFields, MessageImpl, Tag, UnknownFields, Unknowns, Visitor, unknown,
 };
 use std::alloc::Global;
 
@@ -23,11 +23,11 @@ pub struct DescriptorProtoReservedRange {
     /// The number behind the last one.
     pub end: Option<i32>,
     /// The fields that aren't declared, in order.
-    pub rest: UnknownFields,
+    pub unknown_fields: UnknownFields,
 }
 
-impl Fields for DescriptorProtoReservedRange {
-    type Meaning = And3<Option<i32>, Option<i32>, KeptFields>;
+impl MessageFields for DescriptorProtoReservedRange {
+    type Meaning = And3<Option<i32>, Option<i32>, Unknowns>;
 
     const COST: usize = 56;
 
@@ -35,16 +35,16 @@ impl Fields for DescriptorProtoReservedRange {
 
     ghost positive = { lit< tt };
 
-    ghost layout = { field 1 (λ m. m.start) ⟦<Optional<Int32> as Member>⟧.shape (
-        field 2 (λ m. m.end) ⟦<Optional<Int32> as Member>⟧.shape (
-        keep (λ m. m.rest.records))) };
+    ghost schema = { field 1 (λ m. m.start) ⟦<ExplicitField<Int32> as Member>⟧.shape (
+        field 2 (λ m. m.end) ⟦<ExplicitField<Int32> as Member>⟧.shape (
+        keep_unknown (λ m. m.unknown_fields.records))) };
 
     ghost sound = { refl };
 
     fn visit<V: Visitor>(&self, visitor: &mut V) {
-        visitor.visit::<Optional<Int32>>(1, &self.start);
-        visitor.visit::<Optional<Int32>>(2, &self.end);
-        visitor.visit_kept(&self.rest);
+        visitor.visit::<ExplicitField<Int32>>(1, &self.start);
+        visitor.visit::<ExplicitField<Int32>>(2, &self.end);
+        visitor.visit_unknown_fields(&self.unknown_fields);
     }
 
     fn take(
@@ -55,37 +55,37 @@ impl Fields for DescriptorProtoReservedRange {
         ctx: DecodeContext<'_>,
     ) -> Result<(), DecodeError> {
         match tag.field_number() {
-            1 => Optional::<Int32>::merge(&mut self.start, alloc, tag, buf, ctx),
-            2 => Optional::<Int32>::merge(&mut self.end, alloc, tag, buf, ctx),
-            _ => kept::keep(alloc, &mut self.rest, tag, buf, ctx),
+            1 => ExplicitField::<Int32>::merge(&mut self.start, alloc, tag, buf, ctx),
+            2 => ExplicitField::<Int32>::merge(&mut self.end, alloc, tag, buf, ctx),
+            _ => unknown::keep(alloc, &mut self.unknown_fields, tag, buf, ctx),
         }
     }
 }
 
 impl Blank for DescriptorProtoReservedRange {
-    type Meaning = <DescriptorProtoReservedRange as Fields>::Meaning;
+    type Meaning = <DescriptorProtoReservedRange as MessageFields>::Meaning;
 
-    ghost meaning = { ⟦<DescriptorProtoReservedRange as Fields>⟧.layout.meaning };
+    ghost meaning = { ⟦<DescriptorProtoReservedRange as MessageFields>⟧.schema.meaning };
 
-    ghost blank_is = { ⟦<DescriptorProtoReservedRange as Fields>⟧.layout.blank };
+    ghost blank_is = { ⟦<DescriptorProtoReservedRange as MessageFields>⟧.schema.blank };
 
     fn blank(alloc: Global) -> DescriptorProtoReservedRange {
         DescriptorProtoReservedRange {
             start: None,
             end: None,
-            rest: UnknownFields::new(alloc),
+            unknown_fields: UnknownFields::new(alloc),
         }
     }
 }
 
-impl Listing for DescriptorProtoReservedRange {
+impl FieldsMeaning for DescriptorProtoReservedRange {
     ghost means = { λ m. refl };
 
     ghost starts = { refl };
 }
 
-impl Formed for DescriptorProtoReservedRange {
-    type Form = Listed;
+impl MessageImpl for DescriptorProtoReservedRange {
+    type Impl = FieldByField;
 }
 
 const _: () = prove!(

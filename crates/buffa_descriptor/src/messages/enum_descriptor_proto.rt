@@ -1,15 +1,16 @@
 //! google.protobuf.EnumDescriptorProto, made of descriptor.proto by protoc-gen-buffa.
 
 ghost use Rattle.std.proofs.Common.{lit<, refl};
-ghost use Rattle.buffa_fields.specs.Terms.{field, keep};
+ghost use Rattle.buffa_fields.specs.Terms.{field, keep_unknown};
 
 use crate::messages::enum_descriptor_proto_enum_reserved_range::EnumDescriptorProtoEnumReservedRange;
 use crate::messages::enum_options::EnumOptions;
 use crate::messages::enum_value_descriptor_proto::EnumValueDescriptorProto;
 use buffa_fields::map_codec::Str;
 use buffa_fields::{
-    And6, Blank, DecodeContext, DecodeError, Fields, Formed, KeptFields, Listed, Listing, Member,
-    Nested, Optional, Repeated, RepeatedNested, Tag, UnknownFields, Visitor, kept,
+    And6, Blank, DecodeContext, DecodeError, ExplicitField, FieldByField, FieldsMeaning, Member,
+    MessageField, MessageFields, MessageImpl, RepeatedField, RepeatedMessageField, Tag,
+    UnknownFields, Unknowns, Visitor, unknown,
 };
 use std::alloc::Global;
 use std::string::String;
@@ -36,17 +37,17 @@ pub struct EnumDescriptorProto {
     /// The names that no value may have.
     pub reserved_name: Vec<String>,
     /// The fields that aren't declared, in order.
-    pub rest: UnknownFields,
+    pub unknown_fields: UnknownFields,
 }
 
-impl Fields for EnumDescriptorProto {
+impl MessageFields for EnumDescriptorProto {
     type Meaning = And6<
         Option<[u8; 0]>,
         [<EnumValueDescriptorProto as Blank>::Meaning; 0],
         Option<<EnumOptions as Blank>::Meaning>,
         [<EnumDescriptorProtoEnumReservedRange as Blank>::Meaning; 0],
         [[u8; 0]; 0],
-        KeptFields,
+        Unknowns,
     >;
 
     const COST: usize = 160;
@@ -55,25 +56,25 @@ impl Fields for EnumDescriptorProto {
 
     ghost positive = { lit< tt };
 
-    ghost layout = { field 1 (λ m. m.name) ⟦<Optional<Str> as Member>⟧.shape (
-        field 2 (λ m. m.value) ⟦<RepeatedNested<EnumValueDescriptorProto> as Member>⟧.shape (
-        field 3 (λ m. m.options) ⟦<Nested<EnumOptions> as Member>⟧.shape (
-        field 4 (λ m. m.reserved_range) ⟦<RepeatedNested<EnumDescriptorProtoEnumReservedRange> as Member>⟧.shape (
-        field 5 (λ m. m.reserved_name) ⟦<Repeated<Str> as Member>⟧.shape (
-        keep (λ m. m.rest.records)))))) };
+    ghost schema = { field 1 (λ m. m.name) ⟦<ExplicitField<Str> as Member>⟧.shape (
+        field 2 (λ m. m.value) ⟦<RepeatedMessageField<EnumValueDescriptorProto> as Member>⟧.shape (
+        field 3 (λ m. m.options) ⟦<MessageField<EnumOptions> as Member>⟧.shape (
+        field 4 (λ m. m.reserved_range) ⟦<RepeatedMessageField<EnumDescriptorProtoEnumReservedRange> as Member>⟧.shape (
+        field 5 (λ m. m.reserved_name) ⟦<RepeatedField<Str> as Member>⟧.shape (
+        keep_unknown (λ m. m.unknown_fields.records)))))) };
 
     ghost sound = { refl };
 
     fn visit<V: Visitor>(&self, visitor: &mut V) {
-        visitor.visit::<Optional<Str>>(1, &self.name);
-        visitor.visit::<RepeatedNested<EnumValueDescriptorProto>>(2, &self.value);
-        visitor.visit::<Nested<EnumOptions>>(3, &self.options);
-        visitor.visit::<RepeatedNested<EnumDescriptorProtoEnumReservedRange>>(
+        visitor.visit::<ExplicitField<Str>>(1, &self.name);
+        visitor.visit::<RepeatedMessageField<EnumValueDescriptorProto>>(2, &self.value);
+        visitor.visit::<MessageField<EnumOptions>>(3, &self.options);
+        visitor.visit::<RepeatedMessageField<EnumDescriptorProtoEnumReservedRange>>(
             4,
             &self.reserved_range,
         );
-        visitor.visit::<Repeated<Str>>(5, &self.reserved_name);
-        visitor.visit_kept(&self.rest);
+        visitor.visit::<RepeatedField<Str>>(5, &self.reserved_name);
+        visitor.visit_unknown_fields(&self.unknown_fields);
     }
 
     fn take(
@@ -84,34 +85,34 @@ impl Fields for EnumDescriptorProto {
         ctx: DecodeContext<'_>,
     ) -> Result<(), DecodeError> {
         match tag.field_number() {
-            1 => Optional::<Str>::merge(&mut self.name, alloc, tag, buf, ctx),
-            2 => RepeatedNested::<EnumValueDescriptorProto>::merge(
+            1 => ExplicitField::<Str>::merge(&mut self.name, alloc, tag, buf, ctx),
+            2 => RepeatedMessageField::<EnumValueDescriptorProto>::merge(
                 &mut self.value,
                 alloc,
                 tag,
                 buf,
                 ctx,
             ),
-            3 => Nested::<EnumOptions>::merge(&mut self.options, alloc, tag, buf, ctx),
-            4 => RepeatedNested::<EnumDescriptorProtoEnumReservedRange>::merge(
+            3 => MessageField::<EnumOptions>::merge(&mut self.options, alloc, tag, buf, ctx),
+            4 => RepeatedMessageField::<EnumDescriptorProtoEnumReservedRange>::merge(
                 &mut self.reserved_range,
                 alloc,
                 tag,
                 buf,
                 ctx,
             ),
-            5 => Repeated::<Str>::merge(&mut self.reserved_name, alloc, tag, buf, ctx),
-            _ => kept::keep(alloc, &mut self.rest, tag, buf, ctx),
+            5 => RepeatedField::<Str>::merge(&mut self.reserved_name, alloc, tag, buf, ctx),
+            _ => unknown::keep(alloc, &mut self.unknown_fields, tag, buf, ctx),
         }
     }
 }
 
 impl Blank for EnumDescriptorProto {
-    type Meaning = <EnumDescriptorProto as Fields>::Meaning;
+    type Meaning = <EnumDescriptorProto as MessageFields>::Meaning;
 
-    ghost meaning = { ⟦<EnumDescriptorProto as Fields>⟧.layout.meaning };
+    ghost meaning = { ⟦<EnumDescriptorProto as MessageFields>⟧.schema.meaning };
 
-    ghost blank_is = { ⟦<EnumDescriptorProto as Fields>⟧.layout.blank };
+    ghost blank_is = { ⟦<EnumDescriptorProto as MessageFields>⟧.schema.blank };
 
     fn blank(alloc: Global) -> EnumDescriptorProto {
         EnumDescriptorProto {
@@ -120,19 +121,19 @@ impl Blank for EnumDescriptorProto {
             options: None,
             reserved_range: Vec::new(alloc),
             reserved_name: Vec::new(alloc),
-            rest: UnknownFields::new(alloc),
+            unknown_fields: UnknownFields::new(alloc),
         }
     }
 }
 
-impl Listing for EnumDescriptorProto {
+impl FieldsMeaning for EnumDescriptorProto {
     ghost means = { λ m. refl };
 
     ghost starts = { refl };
 }
 
-impl Formed for EnumDescriptorProto {
-    type Form = Listed;
+impl MessageImpl for EnumDescriptorProto {
+    type Impl = FieldByField;
 }
 
 const _: () = prove!(size_of::<EnumDescriptorProto>() <= EnumDescriptorProto::COST);

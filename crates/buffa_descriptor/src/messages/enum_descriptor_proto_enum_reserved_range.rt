@@ -1,12 +1,12 @@
 //! google.protobuf.EnumDescriptorProto.EnumReservedRange, made of descriptor.proto by protoc-gen-buffa.
 
 ghost use Rattle.std.proofs.Common.{lit<, refl};
-ghost use Rattle.buffa_fields.specs.Terms.{field, keep};
+ghost use Rattle.buffa_fields.specs.Terms.{field, keep_unknown};
 
 use buffa_fields::map_codec::Int32;
 use buffa_fields::{
-    And3, Blank, DecodeContext, DecodeError, Fields, Formed, KeptFields, Listed, Listing, Member,
-    Optional, Tag, UnknownFields, Visitor, kept,
+    And3, Blank, DecodeContext, DecodeError, ExplicitField, FieldByField, FieldsMeaning, Member,
+    MessageFields, MessageImpl, Tag, UnknownFields, Unknowns, Visitor, unknown,
 };
 use std::alloc::Global;
 
@@ -23,11 +23,11 @@ pub struct EnumDescriptorProtoEnumReservedRange {
     /// The last number.
     pub end: Option<i32>,
     /// The fields that aren't declared, in order.
-    pub rest: UnknownFields,
+    pub unknown_fields: UnknownFields,
 }
 
-impl Fields for EnumDescriptorProtoEnumReservedRange {
-    type Meaning = And3<Option<i32>, Option<i32>, KeptFields>;
+impl MessageFields for EnumDescriptorProtoEnumReservedRange {
+    type Meaning = And3<Option<i32>, Option<i32>, Unknowns>;
 
     const COST: usize = 56;
 
@@ -35,16 +35,16 @@ impl Fields for EnumDescriptorProtoEnumReservedRange {
 
     ghost positive = { lit< tt };
 
-    ghost layout = { field 1 (λ m. m.start) ⟦<Optional<Int32> as Member>⟧.shape (
-        field 2 (λ m. m.end) ⟦<Optional<Int32> as Member>⟧.shape (
-        keep (λ m. m.rest.records))) };
+    ghost schema = { field 1 (λ m. m.start) ⟦<ExplicitField<Int32> as Member>⟧.shape (
+        field 2 (λ m. m.end) ⟦<ExplicitField<Int32> as Member>⟧.shape (
+        keep_unknown (λ m. m.unknown_fields.records))) };
 
     ghost sound = { refl };
 
     fn visit<V: Visitor>(&self, visitor: &mut V) {
-        visitor.visit::<Optional<Int32>>(1, &self.start);
-        visitor.visit::<Optional<Int32>>(2, &self.end);
-        visitor.visit_kept(&self.rest);
+        visitor.visit::<ExplicitField<Int32>>(1, &self.start);
+        visitor.visit::<ExplicitField<Int32>>(2, &self.end);
+        visitor.visit_unknown_fields(&self.unknown_fields);
     }
 
     fn take(
@@ -55,37 +55,37 @@ impl Fields for EnumDescriptorProtoEnumReservedRange {
         ctx: DecodeContext<'_>,
     ) -> Result<(), DecodeError> {
         match tag.field_number() {
-            1 => Optional::<Int32>::merge(&mut self.start, alloc, tag, buf, ctx),
-            2 => Optional::<Int32>::merge(&mut self.end, alloc, tag, buf, ctx),
-            _ => kept::keep(alloc, &mut self.rest, tag, buf, ctx),
+            1 => ExplicitField::<Int32>::merge(&mut self.start, alloc, tag, buf, ctx),
+            2 => ExplicitField::<Int32>::merge(&mut self.end, alloc, tag, buf, ctx),
+            _ => unknown::keep(alloc, &mut self.unknown_fields, tag, buf, ctx),
         }
     }
 }
 
 impl Blank for EnumDescriptorProtoEnumReservedRange {
-    type Meaning = <EnumDescriptorProtoEnumReservedRange as Fields>::Meaning;
+    type Meaning = <EnumDescriptorProtoEnumReservedRange as MessageFields>::Meaning;
 
-    ghost meaning = { ⟦<EnumDescriptorProtoEnumReservedRange as Fields>⟧.layout.meaning };
+    ghost meaning = { ⟦<EnumDescriptorProtoEnumReservedRange as MessageFields>⟧.schema.meaning };
 
-    ghost blank_is = { ⟦<EnumDescriptorProtoEnumReservedRange as Fields>⟧.layout.blank };
+    ghost blank_is = { ⟦<EnumDescriptorProtoEnumReservedRange as MessageFields>⟧.schema.blank };
 
     fn blank(alloc: Global) -> EnumDescriptorProtoEnumReservedRange {
         EnumDescriptorProtoEnumReservedRange {
             start: None,
             end: None,
-            rest: UnknownFields::new(alloc),
+            unknown_fields: UnknownFields::new(alloc),
         }
     }
 }
 
-impl Listing for EnumDescriptorProtoEnumReservedRange {
+impl FieldsMeaning for EnumDescriptorProtoEnumReservedRange {
     ghost means = { λ m. refl };
 
     ghost starts = { refl };
 }
 
-impl Formed for EnumDescriptorProtoEnumReservedRange {
-    type Form = Listed;
+impl MessageImpl for EnumDescriptorProtoEnumReservedRange {
+    type Impl = FieldByField;
 }
 
 const _: () = prove!(

@@ -2,12 +2,12 @@
 
 ghost use Rattle.std.proofs.Common.{lit<, refl};
 ghost use Rattle.std.specs.Prelude.{codes};
-ghost use Rattle.buffa_fields.specs.Terms.{keep};
+ghost use Rattle.buffa_fields.specs.Terms.{keep_unknown};
 
 use buffa_ext::ExtensionSet;
 use buffa_fields::{
-    Blank, DecodeContext, DecodeError, Fields, Formed, KeptFields, Listed, Listing, Tag,
-    UnknownFields, Visitor, kept,
+    Blank, DecodeContext, DecodeError, FieldByField, FieldsMeaning, MessageFields, MessageImpl,
+    Tag, UnknownFields, Unknowns, Visitor, unknown,
 };
 use std::alloc::Global;
 
@@ -20,11 +20,11 @@ use std::alloc::Global;
 #[derive(Debug, Drop)]
 pub struct EnumOptions {
     /// The fields that aren't declared, in order.
-    pub rest: UnknownFields,
+    pub unknown_fields: UnknownFields,
 }
 
-impl Fields for EnumOptions {
-    type Meaning = KeptFields;
+impl MessageFields for EnumOptions {
+    type Meaning = Unknowns;
 
     const COST: usize = 24;
 
@@ -32,12 +32,12 @@ impl Fields for EnumOptions {
 
     ghost positive = { lit< tt };
 
-    ghost layout = { keep (λ m. m.rest.records) };
+    ghost schema = { keep_unknown (λ m. m.unknown_fields.records) };
 
     ghost sound = { refl };
 
     fn visit<V: Visitor>(&self, visitor: &mut V) {
-        visitor.visit_kept(&self.rest);
+        visitor.visit_unknown_fields(&self.unknown_fields);
     }
 
     fn take(
@@ -47,32 +47,32 @@ impl Fields for EnumOptions {
         buf: &mut &[u8],
         ctx: DecodeContext<'_>,
     ) -> Result<(), DecodeError> {
-        kept::keep(alloc, &mut self.rest, tag, buf, ctx)
+        unknown::keep(alloc, &mut self.unknown_fields, tag, buf, ctx)
     }
 }
 
 impl Blank for EnumOptions {
-    type Meaning = <EnumOptions as Fields>::Meaning;
+    type Meaning = <EnumOptions as MessageFields>::Meaning;
 
-    ghost meaning = { ⟦<EnumOptions as Fields>⟧.layout.meaning };
+    ghost meaning = { ⟦<EnumOptions as MessageFields>⟧.schema.meaning };
 
-    ghost blank_is = { ⟦<EnumOptions as Fields>⟧.layout.blank };
+    ghost blank_is = { ⟦<EnumOptions as MessageFields>⟧.schema.blank };
 
     fn blank(alloc: Global) -> EnumOptions {
         EnumOptions {
-            rest: UnknownFields::new(alloc),
+            unknown_fields: UnknownFields::new(alloc),
         }
     }
 }
 
-impl Listing for EnumOptions {
+impl FieldsMeaning for EnumOptions {
     ghost means = { λ m. refl };
 
     ghost starts = { refl };
 }
 
-impl Formed for EnumOptions {
-    type Form = Listed;
+impl MessageImpl for EnumOptions {
+    type Impl = FieldByField;
 }
 
 impl ExtensionSet for EnumOptions {
@@ -80,20 +80,20 @@ impl ExtensionSet for EnumOptions {
 
     ghost fqn = { codes "google.protobuf.EnumOptions" };
 
-    ghost fields_of = { λ m. m.rest };
+    ghost fields_of = { λ m. m.unknown_fields };
 
-    ghost with_fields = { λ m w. record m { rest = w } };
+    ghost with_fields = { λ m w. record m { unknown_fields = w } };
 
     fn extendee_name() -> &'static str {
         Self::PROTO_FQN
     }
 
     fn unknown_fields(&self) -> &UnknownFields {
-        &self.rest
+        &self.unknown_fields
     }
 
     fn unknown_fields_mut(&mut self) -> &mut UnknownFields {
-        &mut self.rest
+        &mut self.unknown_fields
     }
 
     ghost fields_of_with = { λ m w. refl };

@@ -1,13 +1,13 @@
 //! google.protobuf.EnumValueDescriptorProto, made of descriptor.proto by protoc-gen-buffa.
 
 ghost use Rattle.std.proofs.Common.{lit<, refl};
-ghost use Rattle.buffa_fields.specs.Terms.{field, keep};
+ghost use Rattle.buffa_fields.specs.Terms.{field, keep_unknown};
 
 use crate::messages::enum_value_options::EnumValueOptions;
 use buffa_fields::map_codec::{Int32, Str};
 use buffa_fields::{
-    And4, Blank, DecodeContext, DecodeError, Fields, Formed, KeptFields, Listed, Listing, Member,
-    Nested, Optional, Tag, UnknownFields, Visitor, kept,
+    And4, Blank, DecodeContext, DecodeError, ExplicitField, FieldByField, FieldsMeaning, Member,
+    MessageField, MessageFields, MessageImpl, Tag, UnknownFields, Unknowns, Visitor, unknown,
 };
 use std::alloc::Global;
 use std::string::String;
@@ -28,15 +28,15 @@ pub struct EnumValueDescriptorProto {
     /// The options of the value.
     pub options: Option<EnumValueOptions>,
     /// The fields that aren't declared, in order.
-    pub rest: UnknownFields,
+    pub unknown_fields: UnknownFields,
 }
 
-impl Fields for EnumValueDescriptorProto {
+impl MessageFields for EnumValueDescriptorProto {
     type Meaning = And4<
         Option<[u8; 0]>,
         Option<i32>,
         Option<<EnumValueOptions as Blank>::Meaning>,
-        KeptFields,
+        Unknowns,
     >;
 
     const COST: usize = 104;
@@ -45,18 +45,18 @@ impl Fields for EnumValueDescriptorProto {
 
     ghost positive = { lit< tt };
 
-    ghost layout = { field 1 (λ m. m.name) ⟦<Optional<Str> as Member>⟧.shape (
-        field 2 (λ m. m.number) ⟦<Optional<Int32> as Member>⟧.shape (
-        field 3 (λ m. m.options) ⟦<Nested<EnumValueOptions> as Member>⟧.shape (
-        keep (λ m. m.rest.records)))) };
+    ghost schema = { field 1 (λ m. m.name) ⟦<ExplicitField<Str> as Member>⟧.shape (
+        field 2 (λ m. m.number) ⟦<ExplicitField<Int32> as Member>⟧.shape (
+        field 3 (λ m. m.options) ⟦<MessageField<EnumValueOptions> as Member>⟧.shape (
+        keep_unknown (λ m. m.unknown_fields.records)))) };
 
     ghost sound = { refl };
 
     fn visit<V: Visitor>(&self, visitor: &mut V) {
-        visitor.visit::<Optional<Str>>(1, &self.name);
-        visitor.visit::<Optional<Int32>>(2, &self.number);
-        visitor.visit::<Nested<EnumValueOptions>>(3, &self.options);
-        visitor.visit_kept(&self.rest);
+        visitor.visit::<ExplicitField<Str>>(1, &self.name);
+        visitor.visit::<ExplicitField<Int32>>(2, &self.number);
+        visitor.visit::<MessageField<EnumValueOptions>>(3, &self.options);
+        visitor.visit_unknown_fields(&self.unknown_fields);
     }
 
     fn take(
@@ -67,39 +67,39 @@ impl Fields for EnumValueDescriptorProto {
         ctx: DecodeContext<'_>,
     ) -> Result<(), DecodeError> {
         match tag.field_number() {
-            1 => Optional::<Str>::merge(&mut self.name, alloc, tag, buf, ctx),
-            2 => Optional::<Int32>::merge(&mut self.number, alloc, tag, buf, ctx),
-            3 => Nested::<EnumValueOptions>::merge(&mut self.options, alloc, tag, buf, ctx),
-            _ => kept::keep(alloc, &mut self.rest, tag, buf, ctx),
+            1 => ExplicitField::<Str>::merge(&mut self.name, alloc, tag, buf, ctx),
+            2 => ExplicitField::<Int32>::merge(&mut self.number, alloc, tag, buf, ctx),
+            3 => MessageField::<EnumValueOptions>::merge(&mut self.options, alloc, tag, buf, ctx),
+            _ => unknown::keep(alloc, &mut self.unknown_fields, tag, buf, ctx),
         }
     }
 }
 
 impl Blank for EnumValueDescriptorProto {
-    type Meaning = <EnumValueDescriptorProto as Fields>::Meaning;
+    type Meaning = <EnumValueDescriptorProto as MessageFields>::Meaning;
 
-    ghost meaning = { ⟦<EnumValueDescriptorProto as Fields>⟧.layout.meaning };
+    ghost meaning = { ⟦<EnumValueDescriptorProto as MessageFields>⟧.schema.meaning };
 
-    ghost blank_is = { ⟦<EnumValueDescriptorProto as Fields>⟧.layout.blank };
+    ghost blank_is = { ⟦<EnumValueDescriptorProto as MessageFields>⟧.schema.blank };
 
     fn blank(alloc: Global) -> EnumValueDescriptorProto {
         EnumValueDescriptorProto {
             name: None,
             number: None,
             options: None,
-            rest: UnknownFields::new(alloc),
+            unknown_fields: UnknownFields::new(alloc),
         }
     }
 }
 
-impl Listing for EnumValueDescriptorProto {
+impl FieldsMeaning for EnumValueDescriptorProto {
     ghost means = { λ m. refl };
 
     ghost starts = { refl };
 }
 
-impl Formed for EnumValueDescriptorProto {
-    type Form = Listed;
+impl MessageImpl for EnumValueDescriptorProto {
+    type Impl = FieldByField;
 }
 
 const _: () = prove!(size_of::<EnumValueDescriptorProto>() <= EnumValueDescriptorProto::COST);

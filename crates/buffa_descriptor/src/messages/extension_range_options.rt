@@ -2,12 +2,12 @@
 
 ghost use Rattle.std.proofs.Common.{lit<, refl};
 ghost use Rattle.std.specs.Prelude.{codes};
-ghost use Rattle.buffa_fields.specs.Terms.{keep};
+ghost use Rattle.buffa_fields.specs.Terms.{keep_unknown};
 
 use buffa_ext::ExtensionSet;
 use buffa_fields::{
-    Blank, DecodeContext, DecodeError, Fields, Formed, KeptFields, Listed, Listing, Tag,
-    UnknownFields, Visitor, kept,
+    Blank, DecodeContext, DecodeError, FieldByField, FieldsMeaning, MessageFields, MessageImpl,
+    Tag, UnknownFields, Unknowns, Visitor, unknown,
 };
 use std::alloc::Global;
 
@@ -19,11 +19,11 @@ use std::alloc::Global;
 #[derive(Debug, Drop)]
 pub struct ExtensionRangeOptions {
     /// The fields that aren't declared, in order.
-    pub rest: UnknownFields,
+    pub unknown_fields: UnknownFields,
 }
 
-impl Fields for ExtensionRangeOptions {
-    type Meaning = KeptFields;
+impl MessageFields for ExtensionRangeOptions {
+    type Meaning = Unknowns;
 
     const COST: usize = 24;
 
@@ -31,12 +31,12 @@ impl Fields for ExtensionRangeOptions {
 
     ghost positive = { lit< tt };
 
-    ghost layout = { keep (λ m. m.rest.records) };
+    ghost schema = { keep_unknown (λ m. m.unknown_fields.records) };
 
     ghost sound = { refl };
 
     fn visit<V: Visitor>(&self, visitor: &mut V) {
-        visitor.visit_kept(&self.rest);
+        visitor.visit_unknown_fields(&self.unknown_fields);
     }
 
     fn take(
@@ -46,32 +46,32 @@ impl Fields for ExtensionRangeOptions {
         buf: &mut &[u8],
         ctx: DecodeContext<'_>,
     ) -> Result<(), DecodeError> {
-        kept::keep(alloc, &mut self.rest, tag, buf, ctx)
+        unknown::keep(alloc, &mut self.unknown_fields, tag, buf, ctx)
     }
 }
 
 impl Blank for ExtensionRangeOptions {
-    type Meaning = <ExtensionRangeOptions as Fields>::Meaning;
+    type Meaning = <ExtensionRangeOptions as MessageFields>::Meaning;
 
-    ghost meaning = { ⟦<ExtensionRangeOptions as Fields>⟧.layout.meaning };
+    ghost meaning = { ⟦<ExtensionRangeOptions as MessageFields>⟧.schema.meaning };
 
-    ghost blank_is = { ⟦<ExtensionRangeOptions as Fields>⟧.layout.blank };
+    ghost blank_is = { ⟦<ExtensionRangeOptions as MessageFields>⟧.schema.blank };
 
     fn blank(alloc: Global) -> ExtensionRangeOptions {
         ExtensionRangeOptions {
-            rest: UnknownFields::new(alloc),
+            unknown_fields: UnknownFields::new(alloc),
         }
     }
 }
 
-impl Listing for ExtensionRangeOptions {
+impl FieldsMeaning for ExtensionRangeOptions {
     ghost means = { λ m. refl };
 
     ghost starts = { refl };
 }
 
-impl Formed for ExtensionRangeOptions {
-    type Form = Listed;
+impl MessageImpl for ExtensionRangeOptions {
+    type Impl = FieldByField;
 }
 
 impl ExtensionSet for ExtensionRangeOptions {
@@ -79,20 +79,20 @@ impl ExtensionSet for ExtensionRangeOptions {
 
     ghost fqn = { codes "google.protobuf.ExtensionRangeOptions" };
 
-    ghost fields_of = { λ m. m.rest };
+    ghost fields_of = { λ m. m.unknown_fields };
 
-    ghost with_fields = { λ m w. record m { rest = w } };
+    ghost with_fields = { λ m w. record m { unknown_fields = w } };
 
     fn extendee_name() -> &'static str {
         Self::PROTO_FQN
     }
 
     fn unknown_fields(&self) -> &UnknownFields {
-        &self.rest
+        &self.unknown_fields
     }
 
     fn unknown_fields_mut(&mut self) -> &mut UnknownFields {
-        &mut self.rest
+        &mut self.unknown_fields
     }
 
     ghost fields_of_with = { λ m w. refl };

@@ -1,15 +1,16 @@
 //! google.protobuf.FieldDescriptorProto, made of descriptor.proto by protoc-gen-buffa.
 
 ghost use Rattle.std.proofs.Common.{lit<, refl};
-ghost use Rattle.buffa_fields.specs.Terms.{field, field_kept, keep};
+ghost use Rattle.buffa_fields.specs.Terms.{field, field_with_unknowns, keep_unknown};
 
 use crate::messages::field_descriptor_proto_label::FieldDescriptorProtoLabel;
 use crate::messages::field_descriptor_proto_type::FieldDescriptorProtoType;
 use crate::messages::field_options::FieldOptions;
 use buffa_fields::map_codec::{Bool, ClosedEnum, Int32, Str};
 use buffa_fields::{
-    And12, Blank, DecodeContext, DecodeError, Fields, Formed, Keeping, KeptFields, Listed, Listing,
-    Member, Nested, Optional, Tag, UnknownFields, Visitor, kept,
+    And12, Blank, DecodeContext, DecodeError, ExplicitField, FieldByField, FieldsMeaning,
+    KeepsUnknowns, Member, MessageField, MessageFields, MessageImpl, Tag, UnknownFields, Unknowns,
+    Visitor, unknown,
 };
 use std::alloc::Global;
 use std::string::String;
@@ -55,10 +56,10 @@ pub struct FieldDescriptorProto {
     /// Whether it is `optional` in a file of proto3; such a field has a oneof of its own.
     pub proto3_optional: Option<bool>,
     /// The fields that aren't declared, in order.
-    pub rest: UnknownFields,
+    pub unknown_fields: UnknownFields,
 }
 
-impl Fields for FieldDescriptorProto {
+impl MessageFields for FieldDescriptorProto {
     type Meaning = And12<
         Option<[u8; 0]>,
         Option<[u8; 0]>,
@@ -71,7 +72,7 @@ impl Fields for FieldDescriptorProto {
         Option<i32>,
         Option<[u8; 0]>,
         Option<bool>,
-        KeptFields,
+        Unknowns,
     >;
 
     const COST: usize = 296;
@@ -80,36 +81,42 @@ impl Fields for FieldDescriptorProto {
 
     ghost positive = { lit< tt };
 
-    ghost layout = { field 1 (λ m. m.name) ⟦<Optional<Str> as Member>⟧.shape (
-        field 2 (λ m. m.extendee) ⟦<Optional<Str> as Member>⟧.shape (
-        field 3 (λ m. m.number) ⟦<Optional<Int32> as Member>⟧.shape (
-        field_kept 4 (λ m. m.label) ⟦<Optional<ClosedEnum<FieldDescriptorProtoLabel>> as Member>⟧.shape
-        ⟦<Optional<ClosedEnum<FieldDescriptorProtoLabel>> as Keeping>⟧.aside (
-        field_kept 5 (λ m. m.type_) ⟦<Optional<ClosedEnum<FieldDescriptorProtoType>> as Member>⟧.shape
-        ⟦<Optional<ClosedEnum<FieldDescriptorProtoType>> as Keeping>⟧.aside (
-        field 6 (λ m. m.type_name) ⟦<Optional<Str> as Member>⟧.shape (
-        field 7 (λ m. m.default_value) ⟦<Optional<Str> as Member>⟧.shape (
-        field 8 (λ m. m.options) ⟦<Nested<FieldOptions> as Member>⟧.shape (
-        field 9 (λ m. m.oneof_index) ⟦<Optional<Int32> as Member>⟧.shape (
-        field 10 (λ m. m.json_name) ⟦<Optional<Str> as Member>⟧.shape (
-        field 17 (λ m. m.proto3_optional) ⟦<Optional<Bool> as Member>⟧.shape (
-        keep (λ m. m.rest.records)))))))))))) };
+    ghost schema = { field 1 (λ m. m.name) ⟦<ExplicitField<Str> as Member>⟧.shape (
+        field 2 (λ m. m.extendee) ⟦<ExplicitField<Str> as Member>⟧.shape (
+        field 3 (λ m. m.number) ⟦<ExplicitField<Int32> as Member>⟧.shape (
+        field_with_unknowns 4 (λ m. m.label) ⟦<ExplicitField<ClosedEnum<FieldDescriptorProtoLabel>> as Member>⟧.shape
+        ⟦<ExplicitField<ClosedEnum<FieldDescriptorProtoLabel>> as KeepsUnknowns>⟧.unknowns (
+        field_with_unknowns 5 (λ m. m.type_) ⟦<ExplicitField<ClosedEnum<FieldDescriptorProtoType>> as Member>⟧.shape
+        ⟦<ExplicitField<ClosedEnum<FieldDescriptorProtoType>> as KeepsUnknowns>⟧.unknowns (
+        field 6 (λ m. m.type_name) ⟦<ExplicitField<Str> as Member>⟧.shape (
+        field 7 (λ m. m.default_value) ⟦<ExplicitField<Str> as Member>⟧.shape (
+        field 8 (λ m. m.options) ⟦<MessageField<FieldOptions> as Member>⟧.shape (
+        field 9 (λ m. m.oneof_index) ⟦<ExplicitField<Int32> as Member>⟧.shape (
+        field 10 (λ m. m.json_name) ⟦<ExplicitField<Str> as Member>⟧.shape (
+        field 17 (λ m. m.proto3_optional) ⟦<ExplicitField<Bool> as Member>⟧.shape (
+        keep_unknown (λ m. m.unknown_fields.records)))))))))))) };
 
     ghost sound = { refl };
 
     fn visit<V: Visitor>(&self, visitor: &mut V) {
-        visitor.visit::<Optional<Str>>(1, &self.name);
-        visitor.visit::<Optional<Str>>(2, &self.extendee);
-        visitor.visit::<Optional<Int32>>(3, &self.number);
-        visitor.visit_keeping::<Optional<ClosedEnum<FieldDescriptorProtoLabel>>>(4, &self.label);
-        visitor.visit_keeping::<Optional<ClosedEnum<FieldDescriptorProtoType>>>(5, &self.type_);
-        visitor.visit::<Optional<Str>>(6, &self.type_name);
-        visitor.visit::<Optional<Str>>(7, &self.default_value);
-        visitor.visit::<Nested<FieldOptions>>(8, &self.options);
-        visitor.visit::<Optional<Int32>>(9, &self.oneof_index);
-        visitor.visit::<Optional<Str>>(10, &self.json_name);
-        visitor.visit::<Optional<Bool>>(17, &self.proto3_optional);
-        visitor.visit_kept(&self.rest);
+        visitor.visit::<ExplicitField<Str>>(1, &self.name);
+        visitor.visit::<ExplicitField<Str>>(2, &self.extendee);
+        visitor.visit::<ExplicitField<Int32>>(3, &self.number);
+        visitor.visit_with_unknowns::<ExplicitField<ClosedEnum<FieldDescriptorProtoLabel>>>(
+            4,
+            &self.label,
+        );
+        visitor.visit_with_unknowns::<ExplicitField<ClosedEnum<FieldDescriptorProtoType>>>(
+            5,
+            &self.type_,
+        );
+        visitor.visit::<ExplicitField<Str>>(6, &self.type_name);
+        visitor.visit::<ExplicitField<Str>>(7, &self.default_value);
+        visitor.visit::<MessageField<FieldOptions>>(8, &self.options);
+        visitor.visit::<ExplicitField<Int32>>(9, &self.oneof_index);
+        visitor.visit::<ExplicitField<Str>>(10, &self.json_name);
+        visitor.visit::<ExplicitField<Bool>>(17, &self.proto3_optional);
+        visitor.visit_unknown_fields(&self.unknown_fields);
     }
 
     fn take(
@@ -120,42 +127,42 @@ impl Fields for FieldDescriptorProto {
         ctx: DecodeContext<'_>,
     ) -> Result<(), DecodeError> {
         match tag.field_number() {
-            1 => Optional::<Str>::merge(&mut self.name, alloc, tag, buf, ctx),
-            2 => Optional::<Str>::merge(&mut self.extendee, alloc, tag, buf, ctx),
-            3 => Optional::<Int32>::merge(&mut self.number, alloc, tag, buf, ctx),
-            4 => Optional::<ClosedEnum<FieldDescriptorProtoLabel>>::merge_kept(
+            1 => ExplicitField::<Str>::merge(&mut self.name, alloc, tag, buf, ctx),
+            2 => ExplicitField::<Str>::merge(&mut self.extendee, alloc, tag, buf, ctx),
+            3 => ExplicitField::<Int32>::merge(&mut self.number, alloc, tag, buf, ctx),
+            4 => ExplicitField::<ClosedEnum<FieldDescriptorProtoLabel>>::merge_with_unknowns(
                 &mut self.label,
-                &mut self.rest,
+                &mut self.unknown_fields,
                 alloc,
                 tag,
                 buf,
                 ctx,
             ),
-            5 => Optional::<ClosedEnum<FieldDescriptorProtoType>>::merge_kept(
+            5 => ExplicitField::<ClosedEnum<FieldDescriptorProtoType>>::merge_with_unknowns(
                 &mut self.type_,
-                &mut self.rest,
+                &mut self.unknown_fields,
                 alloc,
                 tag,
                 buf,
                 ctx,
             ),
-            6 => Optional::<Str>::merge(&mut self.type_name, alloc, tag, buf, ctx),
-            7 => Optional::<Str>::merge(&mut self.default_value, alloc, tag, buf, ctx),
-            8 => Nested::<FieldOptions>::merge(&mut self.options, alloc, tag, buf, ctx),
-            9 => Optional::<Int32>::merge(&mut self.oneof_index, alloc, tag, buf, ctx),
-            10 => Optional::<Str>::merge(&mut self.json_name, alloc, tag, buf, ctx),
-            17 => Optional::<Bool>::merge(&mut self.proto3_optional, alloc, tag, buf, ctx),
-            _ => kept::keep(alloc, &mut self.rest, tag, buf, ctx),
+            6 => ExplicitField::<Str>::merge(&mut self.type_name, alloc, tag, buf, ctx),
+            7 => ExplicitField::<Str>::merge(&mut self.default_value, alloc, tag, buf, ctx),
+            8 => MessageField::<FieldOptions>::merge(&mut self.options, alloc, tag, buf, ctx),
+            9 => ExplicitField::<Int32>::merge(&mut self.oneof_index, alloc, tag, buf, ctx),
+            10 => ExplicitField::<Str>::merge(&mut self.json_name, alloc, tag, buf, ctx),
+            17 => ExplicitField::<Bool>::merge(&mut self.proto3_optional, alloc, tag, buf, ctx),
+            _ => unknown::keep(alloc, &mut self.unknown_fields, tag, buf, ctx),
         }
     }
 }
 
 impl Blank for FieldDescriptorProto {
-    type Meaning = <FieldDescriptorProto as Fields>::Meaning;
+    type Meaning = <FieldDescriptorProto as MessageFields>::Meaning;
 
-    ghost meaning = { ⟦<FieldDescriptorProto as Fields>⟧.layout.meaning };
+    ghost meaning = { ⟦<FieldDescriptorProto as MessageFields>⟧.schema.meaning };
 
-    ghost blank_is = { ⟦<FieldDescriptorProto as Fields>⟧.layout.blank };
+    ghost blank_is = { ⟦<FieldDescriptorProto as MessageFields>⟧.schema.blank };
 
     fn blank(alloc: Global) -> FieldDescriptorProto {
         FieldDescriptorProto {
@@ -170,26 +177,26 @@ impl Blank for FieldDescriptorProto {
             oneof_index: None,
             json_name: None,
             proto3_optional: None,
-            rest: UnknownFields::new(alloc),
+            unknown_fields: UnknownFields::new(alloc),
         }
     }
 }
 
-impl Listing for FieldDescriptorProto {
+impl FieldsMeaning for FieldDescriptorProto {
     ghost means = { λ m. refl };
 
     ghost starts = { refl };
 }
 
-impl Formed for FieldDescriptorProto {
-    type Form = Listed;
+impl MessageImpl for FieldDescriptorProto {
+    type Impl = FieldByField;
 }
 
 const _: () = prove!(size_of::<FieldDescriptorProto>() <= FieldDescriptorProto::COST);
 
 impl FieldDescriptorProto {
     ghost use Rattle.std.specs.Prelude.{[], false, option_map, pos, string_bytes, unwrap_or, ◌≡◌};
-    ghost use Rattle.buffa_descriptor.specs.declared.messages.field_descriptor_proto_label.FieldDescriptorProtoLabel.TheVariants.{Optional as OptionalOfFieldDescriptorProtoLabel};
+    ghost use Rattle.buffa_descriptor.specs.declared.messages.field_descriptor_proto_label.FieldDescriptorProtoLabel.TheVariants.{Optional};
     ghost use Rattle.buffa_descriptor.specs.declared.messages.field_descriptor_proto_type.FieldDescriptorProtoType.TheVariants.{Double as DoubleOfFieldDescriptorProtoType};
 
     /// The full name of the message.
@@ -224,7 +231,7 @@ impl FieldDescriptorProto {
 
     /// `label`, or the default of its type where it isn't there: LABEL_OPTIONAL.
     pub fn label(&self) -> FieldDescriptorProtoLabel
-        ensures is { result ≡ unwrap_or self.now.label OptionalOfFieldDescriptorProtoLabel }
+        ensures is { result ≡ unwrap_or self.now.label Optional }
     {
         self.label.unwrap_or(FieldDescriptorProtoLabel::Optional)
     }

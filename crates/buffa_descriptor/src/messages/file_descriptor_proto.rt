@@ -1,7 +1,7 @@
 //! google.protobuf.FileDescriptorProto, made of descriptor.proto by protoc-gen-buffa.
 
 ghost use Rattle.std.proofs.Common.{lit<, refl};
-ghost use Rattle.buffa_fields.specs.Terms.{field, keep};
+ghost use Rattle.buffa_fields.specs.Terms.{field, keep_unknown};
 
 use crate::messages::descriptor_proto::DescriptorProto;
 use crate::messages::enum_descriptor_proto::EnumDescriptorProto;
@@ -11,8 +11,9 @@ use crate::messages::service_descriptor_proto::ServiceDescriptorProto;
 use crate::messages::source_code_info::SourceCodeInfo;
 use buffa_fields::map_codec::{Int32, Str};
 use buffa_fields::{
-    And13, Blank, DecodeContext, DecodeError, Fields, Formed, KeptFields, Listed, Listing, Member,
-    Nested, Optional, Repeated, RepeatedNested, Tag, UnknownFields, Visitor, kept,
+    And13, Blank, DecodeContext, DecodeError, ExplicitField, FieldByField, FieldsMeaning, Member,
+    MessageField, MessageFields, MessageImpl, RepeatedField, RepeatedMessageField, Tag,
+    UnknownFields, Unknowns, Visitor, unknown,
 };
 use std::alloc::Global;
 use std::string::String;
@@ -60,10 +61,10 @@ pub struct FileDescriptorProto {
     /// `proto2` or `proto3`; protoc leaves it out for `proto2`.
     pub syntax: Option<String>,
     /// The fields that aren't declared, in order.
-    pub rest: UnknownFields,
+    pub unknown_fields: UnknownFields,
 }
 
-impl Fields for FileDescriptorProto {
+impl MessageFields for FileDescriptorProto {
     type Meaning = And13<
         Option<[u8; 0]>,
         Option<[u8; 0]>,
@@ -77,7 +78,7 @@ impl Fields for FileDescriptorProto {
         [i32; 0],
         [i32; 0],
         Option<[u8; 0]>,
-        KeptFields,
+        Unknowns,
     >;
 
     const COST: usize = 376;
@@ -86,36 +87,36 @@ impl Fields for FileDescriptorProto {
 
     ghost positive = { lit< tt };
 
-    ghost layout = { field 1 (λ m. m.name) ⟦<Optional<Str> as Member>⟧.shape (
-        field 2 (λ m. m.«package») ⟦<Optional<Str> as Member>⟧.shape (
-        field 3 (λ m. m.dependency) ⟦<Repeated<Str> as Member>⟧.shape (
-        field 4 (λ m. m.message_type) ⟦<RepeatedNested<DescriptorProto> as Member>⟧.shape (
-        field 5 (λ m. m.enum_type) ⟦<RepeatedNested<EnumDescriptorProto> as Member>⟧.shape (
-        field 6 (λ m. m.service) ⟦<RepeatedNested<ServiceDescriptorProto> as Member>⟧.shape (
-        field 7 (λ m. m.extension) ⟦<RepeatedNested<FieldDescriptorProto> as Member>⟧.shape (
-        field 8 (λ m. m.options) ⟦<Nested<FileOptions> as Member>⟧.shape (
-        field 9 (λ m. m.source_code_info) ⟦<Nested<SourceCodeInfo> as Member>⟧.shape (
-        field 10 (λ m. m.public_dependency) ⟦<Repeated<Int32> as Member>⟧.shape (
-        field 11 (λ m. m.weak_dependency) ⟦<Repeated<Int32> as Member>⟧.shape (
-        field 12 (λ m. m.syntax) ⟦<Optional<Str> as Member>⟧.shape (
-        keep (λ m. m.rest.records))))))))))))) };
+    ghost schema = { field 1 (λ m. m.name) ⟦<ExplicitField<Str> as Member>⟧.shape (
+        field 2 (λ m. m.«package») ⟦<ExplicitField<Str> as Member>⟧.shape (
+        field 3 (λ m. m.dependency) ⟦<RepeatedField<Str> as Member>⟧.shape (
+        field 4 (λ m. m.message_type) ⟦<RepeatedMessageField<DescriptorProto> as Member>⟧.shape (
+        field 5 (λ m. m.enum_type) ⟦<RepeatedMessageField<EnumDescriptorProto> as Member>⟧.shape (
+        field 6 (λ m. m.service) ⟦<RepeatedMessageField<ServiceDescriptorProto> as Member>⟧.shape (
+        field 7 (λ m. m.extension) ⟦<RepeatedMessageField<FieldDescriptorProto> as Member>⟧.shape (
+        field 8 (λ m. m.options) ⟦<MessageField<FileOptions> as Member>⟧.shape (
+        field 9 (λ m. m.source_code_info) ⟦<MessageField<SourceCodeInfo> as Member>⟧.shape (
+        field 10 (λ m. m.public_dependency) ⟦<RepeatedField<Int32> as Member>⟧.shape (
+        field 11 (λ m. m.weak_dependency) ⟦<RepeatedField<Int32> as Member>⟧.shape (
+        field 12 (λ m. m.syntax) ⟦<ExplicitField<Str> as Member>⟧.shape (
+        keep_unknown (λ m. m.unknown_fields.records))))))))))))) };
 
     ghost sound = { refl };
 
     fn visit<V: Visitor>(&self, visitor: &mut V) {
-        visitor.visit::<Optional<Str>>(1, &self.name);
-        visitor.visit::<Optional<Str>>(2, &self.package);
-        visitor.visit::<Repeated<Str>>(3, &self.dependency);
-        visitor.visit::<RepeatedNested<DescriptorProto>>(4, &self.message_type);
-        visitor.visit::<RepeatedNested<EnumDescriptorProto>>(5, &self.enum_type);
-        visitor.visit::<RepeatedNested<ServiceDescriptorProto>>(6, &self.service);
-        visitor.visit::<RepeatedNested<FieldDescriptorProto>>(7, &self.extension);
-        visitor.visit::<Nested<FileOptions>>(8, &self.options);
-        visitor.visit::<Nested<SourceCodeInfo>>(9, &self.source_code_info);
-        visitor.visit::<Repeated<Int32>>(10, &self.public_dependency);
-        visitor.visit::<Repeated<Int32>>(11, &self.weak_dependency);
-        visitor.visit::<Optional<Str>>(12, &self.syntax);
-        visitor.visit_kept(&self.rest);
+        visitor.visit::<ExplicitField<Str>>(1, &self.name);
+        visitor.visit::<ExplicitField<Str>>(2, &self.package);
+        visitor.visit::<RepeatedField<Str>>(3, &self.dependency);
+        visitor.visit::<RepeatedMessageField<DescriptorProto>>(4, &self.message_type);
+        visitor.visit::<RepeatedMessageField<EnumDescriptorProto>>(5, &self.enum_type);
+        visitor.visit::<RepeatedMessageField<ServiceDescriptorProto>>(6, &self.service);
+        visitor.visit::<RepeatedMessageField<FieldDescriptorProto>>(7, &self.extension);
+        visitor.visit::<MessageField<FileOptions>>(8, &self.options);
+        visitor.visit::<MessageField<SourceCodeInfo>>(9, &self.source_code_info);
+        visitor.visit::<RepeatedField<Int32>>(10, &self.public_dependency);
+        visitor.visit::<RepeatedField<Int32>>(11, &self.weak_dependency);
+        visitor.visit::<ExplicitField<Str>>(12, &self.syntax);
+        visitor.visit_unknown_fields(&self.unknown_fields);
     }
 
     fn take(
@@ -126,53 +127,59 @@ impl Fields for FileDescriptorProto {
         ctx: DecodeContext<'_>,
     ) -> Result<(), DecodeError> {
         match tag.field_number() {
-            1 => Optional::<Str>::merge(&mut self.name, alloc, tag, buf, ctx),
-            2 => Optional::<Str>::merge(&mut self.package, alloc, tag, buf, ctx),
-            3 => Repeated::<Str>::merge(&mut self.dependency, alloc, tag, buf, ctx),
-            4 => RepeatedNested::<DescriptorProto>::merge(
+            1 => ExplicitField::<Str>::merge(&mut self.name, alloc, tag, buf, ctx),
+            2 => ExplicitField::<Str>::merge(&mut self.package, alloc, tag, buf, ctx),
+            3 => RepeatedField::<Str>::merge(&mut self.dependency, alloc, tag, buf, ctx),
+            4 => RepeatedMessageField::<DescriptorProto>::merge(
                 &mut self.message_type,
                 alloc,
                 tag,
                 buf,
                 ctx,
             ),
-            5 => RepeatedNested::<EnumDescriptorProto>::merge(
+            5 => RepeatedMessageField::<EnumDescriptorProto>::merge(
                 &mut self.enum_type,
                 alloc,
                 tag,
                 buf,
                 ctx,
             ),
-            6 => RepeatedNested::<ServiceDescriptorProto>::merge(
+            6 => RepeatedMessageField::<ServiceDescriptorProto>::merge(
                 &mut self.service,
                 alloc,
                 tag,
                 buf,
                 ctx,
             ),
-            7 => RepeatedNested::<FieldDescriptorProto>::merge(
+            7 => RepeatedMessageField::<FieldDescriptorProto>::merge(
                 &mut self.extension,
                 alloc,
                 tag,
                 buf,
                 ctx,
             ),
-            8 => Nested::<FileOptions>::merge(&mut self.options, alloc, tag, buf, ctx),
-            9 => Nested::<SourceCodeInfo>::merge(&mut self.source_code_info, alloc, tag, buf, ctx),
-            10 => Repeated::<Int32>::merge(&mut self.public_dependency, alloc, tag, buf, ctx),
-            11 => Repeated::<Int32>::merge(&mut self.weak_dependency, alloc, tag, buf, ctx),
-            12 => Optional::<Str>::merge(&mut self.syntax, alloc, tag, buf, ctx),
-            _ => kept::keep(alloc, &mut self.rest, tag, buf, ctx),
+            8 => MessageField::<FileOptions>::merge(&mut self.options, alloc, tag, buf, ctx),
+            9 => MessageField::<SourceCodeInfo>::merge(
+                &mut self.source_code_info,
+                alloc,
+                tag,
+                buf,
+                ctx,
+            ),
+            10 => RepeatedField::<Int32>::merge(&mut self.public_dependency, alloc, tag, buf, ctx),
+            11 => RepeatedField::<Int32>::merge(&mut self.weak_dependency, alloc, tag, buf, ctx),
+            12 => ExplicitField::<Str>::merge(&mut self.syntax, alloc, tag, buf, ctx),
+            _ => unknown::keep(alloc, &mut self.unknown_fields, tag, buf, ctx),
         }
     }
 }
 
 impl Blank for FileDescriptorProto {
-    type Meaning = <FileDescriptorProto as Fields>::Meaning;
+    type Meaning = <FileDescriptorProto as MessageFields>::Meaning;
 
-    ghost meaning = { ⟦<FileDescriptorProto as Fields>⟧.layout.meaning };
+    ghost meaning = { ⟦<FileDescriptorProto as MessageFields>⟧.schema.meaning };
 
-    ghost blank_is = { ⟦<FileDescriptorProto as Fields>⟧.layout.blank };
+    ghost blank_is = { ⟦<FileDescriptorProto as MessageFields>⟧.schema.blank };
 
     fn blank(alloc: Global) -> FileDescriptorProto {
         FileDescriptorProto {
@@ -188,19 +195,19 @@ impl Blank for FileDescriptorProto {
             public_dependency: Vec::new(alloc),
             weak_dependency: Vec::new(alloc),
             syntax: None,
-            rest: UnknownFields::new(alloc),
+            unknown_fields: UnknownFields::new(alloc),
         }
     }
 }
 
-impl Listing for FileDescriptorProto {
+impl FieldsMeaning for FileDescriptorProto {
     ghost means = { λ m. refl };
 
     ghost starts = { refl };
 }
 
-impl Formed for FileDescriptorProto {
-    type Form = Listed;
+impl MessageImpl for FileDescriptorProto {
+    type Impl = FieldByField;
 }
 
 const _: () = prove!(size_of::<FileDescriptorProto>() <= FileDescriptorProto::COST);

@@ -1,12 +1,12 @@
 //! google.protobuf.FileDescriptorSet, made of descriptor.proto by protoc-gen-buffa.
 
 ghost use Rattle.std.proofs.Common.{lit<, refl};
-ghost use Rattle.buffa_fields.specs.Terms.{field, keep};
+ghost use Rattle.buffa_fields.specs.Terms.{field, keep_unknown};
 
 use crate::messages::file_descriptor_proto::FileDescriptorProto;
 use buffa_fields::{
-    And, Blank, DecodeContext, DecodeError, Fields, Formed, KeptFields, Listed, Listing, Member,
-    RepeatedNested, Tag, UnknownFields, Visitor, kept,
+    And, Blank, DecodeContext, DecodeError, FieldByField, FieldsMeaning, Member, MessageFields,
+    MessageImpl, RepeatedMessageField, Tag, UnknownFields, Unknowns, Visitor, unknown,
 };
 use std::alloc::Global;
 
@@ -20,11 +20,11 @@ pub struct FileDescriptorSet {
     /// The files. One that is imported stands before those that import it.
     pub file: Vec<FileDescriptorProto>,
     /// The fields that aren't declared, in order.
-    pub rest: UnknownFields,
+    pub unknown_fields: UnknownFields,
 }
 
-impl Fields for FileDescriptorSet {
-    type Meaning = And<[<FileDescriptorProto as Blank>::Meaning; 0], KeptFields>;
+impl MessageFields for FileDescriptorSet {
+    type Meaning = And<[<FileDescriptorProto as Blank>::Meaning; 0], Unknowns>;
 
     const COST: usize = 48;
 
@@ -32,14 +32,14 @@ impl Fields for FileDescriptorSet {
 
     ghost positive = { lit< tt };
 
-    ghost layout = { field 1 (λ m. m.file) ⟦<RepeatedNested<FileDescriptorProto> as Member>⟧.shape (
-        keep (λ m. m.rest.records)) };
+    ghost schema = { field 1 (λ m. m.file) ⟦<RepeatedMessageField<FileDescriptorProto> as Member>⟧.shape (
+        keep_unknown (λ m. m.unknown_fields.records)) };
 
     ghost sound = { refl };
 
     fn visit<V: Visitor>(&self, visitor: &mut V) {
-        visitor.visit::<RepeatedNested<FileDescriptorProto>>(1, &self.file);
-        visitor.visit_kept(&self.rest);
+        visitor.visit::<RepeatedMessageField<FileDescriptorProto>>(1, &self.file);
+        visitor.visit_unknown_fields(&self.unknown_fields);
     }
 
     fn take(
@@ -50,35 +50,41 @@ impl Fields for FileDescriptorSet {
         ctx: DecodeContext<'_>,
     ) -> Result<(), DecodeError> {
         match tag.field_number() {
-            1 => RepeatedNested::<FileDescriptorProto>::merge(&mut self.file, alloc, tag, buf, ctx),
-            _ => kept::keep(alloc, &mut self.rest, tag, buf, ctx),
+            1 => RepeatedMessageField::<FileDescriptorProto>::merge(
+                &mut self.file,
+                alloc,
+                tag,
+                buf,
+                ctx,
+            ),
+            _ => unknown::keep(alloc, &mut self.unknown_fields, tag, buf, ctx),
         }
     }
 }
 
 impl Blank for FileDescriptorSet {
-    type Meaning = <FileDescriptorSet as Fields>::Meaning;
+    type Meaning = <FileDescriptorSet as MessageFields>::Meaning;
 
-    ghost meaning = { ⟦<FileDescriptorSet as Fields>⟧.layout.meaning };
+    ghost meaning = { ⟦<FileDescriptorSet as MessageFields>⟧.schema.meaning };
 
-    ghost blank_is = { ⟦<FileDescriptorSet as Fields>⟧.layout.blank };
+    ghost blank_is = { ⟦<FileDescriptorSet as MessageFields>⟧.schema.blank };
 
     fn blank(alloc: Global) -> FileDescriptorSet {
         FileDescriptorSet {
             file: Vec::new(alloc),
-            rest: UnknownFields::new(alloc),
+            unknown_fields: UnknownFields::new(alloc),
         }
     }
 }
 
-impl Listing for FileDescriptorSet {
+impl FieldsMeaning for FileDescriptorSet {
     ghost means = { λ m. refl };
 
     ghost starts = { refl };
 }
 
-impl Formed for FileDescriptorSet {
-    type Form = Listed;
+impl MessageImpl for FileDescriptorSet {
+    type Impl = FieldByField;
 }
 
 const _: () = prove!(size_of::<FileDescriptorSet>() <= FileDescriptorSet::COST);

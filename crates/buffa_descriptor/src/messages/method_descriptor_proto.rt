@@ -1,13 +1,13 @@
 //! google.protobuf.MethodDescriptorProto, made of descriptor.proto by protoc-gen-buffa.
 
 ghost use Rattle.std.proofs.Common.{lit<, refl};
-ghost use Rattle.buffa_fields.specs.Terms.{field, keep};
+ghost use Rattle.buffa_fields.specs.Terms.{field, keep_unknown};
 
 use crate::messages::method_options::MethodOptions;
 use buffa_fields::map_codec::{Bool, Str};
 use buffa_fields::{
-    And7, Blank, DecodeContext, DecodeError, Fields, Formed, KeptFields, Listed, Listing, Member,
-    Nested, Optional, Tag, UnknownFields, Visitor, kept,
+    And7, Blank, DecodeContext, DecodeError, ExplicitField, FieldByField, FieldsMeaning, Member,
+    MessageField, MessageFields, MessageImpl, Tag, UnknownFields, Unknowns, Visitor, unknown,
 };
 use std::alloc::Global;
 use std::string::String;
@@ -37,10 +37,10 @@ pub struct MethodDescriptorProto {
     /// Whether it answers with a stream of messages.
     pub server_streaming: Option<bool>,
     /// The fields that aren't declared, in order.
-    pub rest: UnknownFields,
+    pub unknown_fields: UnknownFields,
 }
 
-impl Fields for MethodDescriptorProto {
+impl MessageFields for MethodDescriptorProto {
     type Meaning = And7<
         Option<[u8; 0]>,
         Option<[u8; 0]>,
@@ -48,7 +48,7 @@ impl Fields for MethodDescriptorProto {
         Option<<MethodOptions as Blank>::Meaning>,
         Option<bool>,
         Option<bool>,
-        KeptFields,
+        Unknowns,
     >;
 
     const COST: usize = 184;
@@ -57,24 +57,24 @@ impl Fields for MethodDescriptorProto {
 
     ghost positive = { lit< tt };
 
-    ghost layout = { field 1 (λ m. m.name) ⟦<Optional<Str> as Member>⟧.shape (
-        field 2 (λ m. m.input_type) ⟦<Optional<Str> as Member>⟧.shape (
-        field 3 (λ m. m.output_type) ⟦<Optional<Str> as Member>⟧.shape (
-        field 4 (λ m. m.options) ⟦<Nested<MethodOptions> as Member>⟧.shape (
-        field 5 (λ m. m.client_streaming) ⟦<Optional<Bool> as Member>⟧.shape (
-        field 6 (λ m. m.server_streaming) ⟦<Optional<Bool> as Member>⟧.shape (
-        keep (λ m. m.rest.records))))))) };
+    ghost schema = { field 1 (λ m. m.name) ⟦<ExplicitField<Str> as Member>⟧.shape (
+        field 2 (λ m. m.input_type) ⟦<ExplicitField<Str> as Member>⟧.shape (
+        field 3 (λ m. m.output_type) ⟦<ExplicitField<Str> as Member>⟧.shape (
+        field 4 (λ m. m.options) ⟦<MessageField<MethodOptions> as Member>⟧.shape (
+        field 5 (λ m. m.client_streaming) ⟦<ExplicitField<Bool> as Member>⟧.shape (
+        field 6 (λ m. m.server_streaming) ⟦<ExplicitField<Bool> as Member>⟧.shape (
+        keep_unknown (λ m. m.unknown_fields.records))))))) };
 
     ghost sound = { refl };
 
     fn visit<V: Visitor>(&self, visitor: &mut V) {
-        visitor.visit::<Optional<Str>>(1, &self.name);
-        visitor.visit::<Optional<Str>>(2, &self.input_type);
-        visitor.visit::<Optional<Str>>(3, &self.output_type);
-        visitor.visit::<Nested<MethodOptions>>(4, &self.options);
-        visitor.visit::<Optional<Bool>>(5, &self.client_streaming);
-        visitor.visit::<Optional<Bool>>(6, &self.server_streaming);
-        visitor.visit_kept(&self.rest);
+        visitor.visit::<ExplicitField<Str>>(1, &self.name);
+        visitor.visit::<ExplicitField<Str>>(2, &self.input_type);
+        visitor.visit::<ExplicitField<Str>>(3, &self.output_type);
+        visitor.visit::<MessageField<MethodOptions>>(4, &self.options);
+        visitor.visit::<ExplicitField<Bool>>(5, &self.client_streaming);
+        visitor.visit::<ExplicitField<Bool>>(6, &self.server_streaming);
+        visitor.visit_unknown_fields(&self.unknown_fields);
     }
 
     fn take(
@@ -85,23 +85,23 @@ impl Fields for MethodDescriptorProto {
         ctx: DecodeContext<'_>,
     ) -> Result<(), DecodeError> {
         match tag.field_number() {
-            1 => Optional::<Str>::merge(&mut self.name, alloc, tag, buf, ctx),
-            2 => Optional::<Str>::merge(&mut self.input_type, alloc, tag, buf, ctx),
-            3 => Optional::<Str>::merge(&mut self.output_type, alloc, tag, buf, ctx),
-            4 => Nested::<MethodOptions>::merge(&mut self.options, alloc, tag, buf, ctx),
-            5 => Optional::<Bool>::merge(&mut self.client_streaming, alloc, tag, buf, ctx),
-            6 => Optional::<Bool>::merge(&mut self.server_streaming, alloc, tag, buf, ctx),
-            _ => kept::keep(alloc, &mut self.rest, tag, buf, ctx),
+            1 => ExplicitField::<Str>::merge(&mut self.name, alloc, tag, buf, ctx),
+            2 => ExplicitField::<Str>::merge(&mut self.input_type, alloc, tag, buf, ctx),
+            3 => ExplicitField::<Str>::merge(&mut self.output_type, alloc, tag, buf, ctx),
+            4 => MessageField::<MethodOptions>::merge(&mut self.options, alloc, tag, buf, ctx),
+            5 => ExplicitField::<Bool>::merge(&mut self.client_streaming, alloc, tag, buf, ctx),
+            6 => ExplicitField::<Bool>::merge(&mut self.server_streaming, alloc, tag, buf, ctx),
+            _ => unknown::keep(alloc, &mut self.unknown_fields, tag, buf, ctx),
         }
     }
 }
 
 impl Blank for MethodDescriptorProto {
-    type Meaning = <MethodDescriptorProto as Fields>::Meaning;
+    type Meaning = <MethodDescriptorProto as MessageFields>::Meaning;
 
-    ghost meaning = { ⟦<MethodDescriptorProto as Fields>⟧.layout.meaning };
+    ghost meaning = { ⟦<MethodDescriptorProto as MessageFields>⟧.schema.meaning };
 
-    ghost blank_is = { ⟦<MethodDescriptorProto as Fields>⟧.layout.blank };
+    ghost blank_is = { ⟦<MethodDescriptorProto as MessageFields>⟧.schema.blank };
 
     fn blank(alloc: Global) -> MethodDescriptorProto {
         MethodDescriptorProto {
@@ -111,19 +111,19 @@ impl Blank for MethodDescriptorProto {
             options: None,
             client_streaming: None,
             server_streaming: None,
-            rest: UnknownFields::new(alloc),
+            unknown_fields: UnknownFields::new(alloc),
         }
     }
 }
 
-impl Listing for MethodDescriptorProto {
+impl FieldsMeaning for MethodDescriptorProto {
     ghost means = { λ m. refl };
 
     ghost starts = { refl };
 }
 
-impl Formed for MethodDescriptorProto {
-    type Form = Listed;
+impl MessageImpl for MethodDescriptorProto {
+    type Impl = FieldByField;
 }
 
 const _: () = prove!(size_of::<MethodDescriptorProto>() <= MethodDescriptorProto::COST);

@@ -1,13 +1,13 @@
 //! google.protobuf.OneofDescriptorProto, made of descriptor.proto by protoc-gen-buffa.
 
 ghost use Rattle.std.proofs.Common.{lit<, refl};
-ghost use Rattle.buffa_fields.specs.Terms.{field, keep};
+ghost use Rattle.buffa_fields.specs.Terms.{field, keep_unknown};
 
 use crate::messages::oneof_options::OneofOptions;
 use buffa_fields::map_codec::Str;
 use buffa_fields::{
-    And3, Blank, DecodeContext, DecodeError, Fields, Formed, KeptFields, Listed, Listing, Member,
-    Nested, Optional, Tag, UnknownFields, Visitor, kept,
+    And3, Blank, DecodeContext, DecodeError, ExplicitField, FieldByField, FieldsMeaning, Member,
+    MessageField, MessageFields, MessageImpl, Tag, UnknownFields, Unknowns, Visitor, unknown,
 };
 use std::alloc::Global;
 use std::string::String;
@@ -25,11 +25,11 @@ pub struct OneofDescriptorProto {
     /// The options of the oneof.
     pub options: Option<OneofOptions>,
     /// The fields that aren't declared, in order.
-    pub rest: UnknownFields,
+    pub unknown_fields: UnknownFields,
 }
 
-impl Fields for OneofDescriptorProto {
-    type Meaning = And3<Option<[u8; 0]>, Option<<OneofOptions as Blank>::Meaning>, KeptFields>;
+impl MessageFields for OneofDescriptorProto {
+    type Meaning = And3<Option<[u8; 0]>, Option<<OneofOptions as Blank>::Meaning>, Unknowns>;
 
     const COST: usize = 88;
 
@@ -37,16 +37,16 @@ impl Fields for OneofDescriptorProto {
 
     ghost positive = { lit< tt };
 
-    ghost layout = { field 1 (λ m. m.name) ⟦<Optional<Str> as Member>⟧.shape (
-        field 2 (λ m. m.options) ⟦<Nested<OneofOptions> as Member>⟧.shape (
-        keep (λ m. m.rest.records))) };
+    ghost schema = { field 1 (λ m. m.name) ⟦<ExplicitField<Str> as Member>⟧.shape (
+        field 2 (λ m. m.options) ⟦<MessageField<OneofOptions> as Member>⟧.shape (
+        keep_unknown (λ m. m.unknown_fields.records))) };
 
     ghost sound = { refl };
 
     fn visit<V: Visitor>(&self, visitor: &mut V) {
-        visitor.visit::<Optional<Str>>(1, &self.name);
-        visitor.visit::<Nested<OneofOptions>>(2, &self.options);
-        visitor.visit_kept(&self.rest);
+        visitor.visit::<ExplicitField<Str>>(1, &self.name);
+        visitor.visit::<MessageField<OneofOptions>>(2, &self.options);
+        visitor.visit_unknown_fields(&self.unknown_fields);
     }
 
     fn take(
@@ -57,37 +57,37 @@ impl Fields for OneofDescriptorProto {
         ctx: DecodeContext<'_>,
     ) -> Result<(), DecodeError> {
         match tag.field_number() {
-            1 => Optional::<Str>::merge(&mut self.name, alloc, tag, buf, ctx),
-            2 => Nested::<OneofOptions>::merge(&mut self.options, alloc, tag, buf, ctx),
-            _ => kept::keep(alloc, &mut self.rest, tag, buf, ctx),
+            1 => ExplicitField::<Str>::merge(&mut self.name, alloc, tag, buf, ctx),
+            2 => MessageField::<OneofOptions>::merge(&mut self.options, alloc, tag, buf, ctx),
+            _ => unknown::keep(alloc, &mut self.unknown_fields, tag, buf, ctx),
         }
     }
 }
 
 impl Blank for OneofDescriptorProto {
-    type Meaning = <OneofDescriptorProto as Fields>::Meaning;
+    type Meaning = <OneofDescriptorProto as MessageFields>::Meaning;
 
-    ghost meaning = { ⟦<OneofDescriptorProto as Fields>⟧.layout.meaning };
+    ghost meaning = { ⟦<OneofDescriptorProto as MessageFields>⟧.schema.meaning };
 
-    ghost blank_is = { ⟦<OneofDescriptorProto as Fields>⟧.layout.blank };
+    ghost blank_is = { ⟦<OneofDescriptorProto as MessageFields>⟧.schema.blank };
 
     fn blank(alloc: Global) -> OneofDescriptorProto {
         OneofDescriptorProto {
             name: None,
             options: None,
-            rest: UnknownFields::new(alloc),
+            unknown_fields: UnknownFields::new(alloc),
         }
     }
 }
 
-impl Listing for OneofDescriptorProto {
+impl FieldsMeaning for OneofDescriptorProto {
     ghost means = { λ m. refl };
 
     ghost starts = { refl };
 }
 
-impl Formed for OneofDescriptorProto {
-    type Form = Listed;
+impl MessageImpl for OneofDescriptorProto {
+    type Impl = FieldByField;
 }
 
 const _: () = prove!(size_of::<OneofDescriptorProto>() <= OneofDescriptorProto::COST);

@@ -1,14 +1,15 @@
 //! google.protobuf.ServiceDescriptorProto, made of descriptor.proto by protoc-gen-buffa.
 
 ghost use Rattle.std.proofs.Common.{lit<, refl};
-ghost use Rattle.buffa_fields.specs.Terms.{field, keep};
+ghost use Rattle.buffa_fields.specs.Terms.{field, keep_unknown};
 
 use crate::messages::method_descriptor_proto::MethodDescriptorProto;
 use crate::messages::service_options::ServiceOptions;
 use buffa_fields::map_codec::Str;
 use buffa_fields::{
-    And4, Blank, DecodeContext, DecodeError, Fields, Formed, KeptFields, Listed, Listing, Member,
-    Nested, Optional, RepeatedNested, Tag, UnknownFields, Visitor, kept,
+    And4, Blank, DecodeContext, DecodeError, ExplicitField, FieldByField, FieldsMeaning, Member,
+    MessageField, MessageFields, MessageImpl, RepeatedMessageField, Tag, UnknownFields, Unknowns,
+    Visitor, unknown,
 };
 use std::alloc::Global;
 use std::string::String;
@@ -29,15 +30,15 @@ pub struct ServiceDescriptorProto {
     /// The options of the service.
     pub options: Option<ServiceOptions>,
     /// The fields that aren't declared, in order.
-    pub rest: UnknownFields,
+    pub unknown_fields: UnknownFields,
 }
 
-impl Fields for ServiceDescriptorProto {
+impl MessageFields for ServiceDescriptorProto {
     type Meaning = And4<
         Option<[u8; 0]>,
         [<MethodDescriptorProto as Blank>::Meaning; 0],
         Option<<ServiceOptions as Blank>::Meaning>,
-        KeptFields,
+        Unknowns,
     >;
 
     const COST: usize = 112;
@@ -46,18 +47,18 @@ impl Fields for ServiceDescriptorProto {
 
     ghost positive = { lit< tt };
 
-    ghost layout = { field 1 (λ m. m.name) ⟦<Optional<Str> as Member>⟧.shape (
-        field 2 (λ m. m.method) ⟦<RepeatedNested<MethodDescriptorProto> as Member>⟧.shape (
-        field 3 (λ m. m.options) ⟦<Nested<ServiceOptions> as Member>⟧.shape (
-        keep (λ m. m.rest.records)))) };
+    ghost schema = { field 1 (λ m. m.name) ⟦<ExplicitField<Str> as Member>⟧.shape (
+        field 2 (λ m. m.method) ⟦<RepeatedMessageField<MethodDescriptorProto> as Member>⟧.shape (
+        field 3 (λ m. m.options) ⟦<MessageField<ServiceOptions> as Member>⟧.shape (
+        keep_unknown (λ m. m.unknown_fields.records)))) };
 
     ghost sound = { refl };
 
     fn visit<V: Visitor>(&self, visitor: &mut V) {
-        visitor.visit::<Optional<Str>>(1, &self.name);
-        visitor.visit::<RepeatedNested<MethodDescriptorProto>>(2, &self.method);
-        visitor.visit::<Nested<ServiceOptions>>(3, &self.options);
-        visitor.visit_kept(&self.rest);
+        visitor.visit::<ExplicitField<Str>>(1, &self.name);
+        visitor.visit::<RepeatedMessageField<MethodDescriptorProto>>(2, &self.method);
+        visitor.visit::<MessageField<ServiceOptions>>(3, &self.options);
+        visitor.visit_unknown_fields(&self.unknown_fields);
     }
 
     fn take(
@@ -68,45 +69,45 @@ impl Fields for ServiceDescriptorProto {
         ctx: DecodeContext<'_>,
     ) -> Result<(), DecodeError> {
         match tag.field_number() {
-            1 => Optional::<Str>::merge(&mut self.name, alloc, tag, buf, ctx),
-            2 => RepeatedNested::<MethodDescriptorProto>::merge(
+            1 => ExplicitField::<Str>::merge(&mut self.name, alloc, tag, buf, ctx),
+            2 => RepeatedMessageField::<MethodDescriptorProto>::merge(
                 &mut self.method,
                 alloc,
                 tag,
                 buf,
                 ctx,
             ),
-            3 => Nested::<ServiceOptions>::merge(&mut self.options, alloc, tag, buf, ctx),
-            _ => kept::keep(alloc, &mut self.rest, tag, buf, ctx),
+            3 => MessageField::<ServiceOptions>::merge(&mut self.options, alloc, tag, buf, ctx),
+            _ => unknown::keep(alloc, &mut self.unknown_fields, tag, buf, ctx),
         }
     }
 }
 
 impl Blank for ServiceDescriptorProto {
-    type Meaning = <ServiceDescriptorProto as Fields>::Meaning;
+    type Meaning = <ServiceDescriptorProto as MessageFields>::Meaning;
 
-    ghost meaning = { ⟦<ServiceDescriptorProto as Fields>⟧.layout.meaning };
+    ghost meaning = { ⟦<ServiceDescriptorProto as MessageFields>⟧.schema.meaning };
 
-    ghost blank_is = { ⟦<ServiceDescriptorProto as Fields>⟧.layout.blank };
+    ghost blank_is = { ⟦<ServiceDescriptorProto as MessageFields>⟧.schema.blank };
 
     fn blank(alloc: Global) -> ServiceDescriptorProto {
         ServiceDescriptorProto {
             name: None,
             method: Vec::new(alloc),
             options: None,
-            rest: UnknownFields::new(alloc),
+            unknown_fields: UnknownFields::new(alloc),
         }
     }
 }
 
-impl Listing for ServiceDescriptorProto {
+impl FieldsMeaning for ServiceDescriptorProto {
     ghost means = { λ m. refl };
 
     ghost starts = { refl };
 }
 
-impl Formed for ServiceDescriptorProto {
-    type Form = Listed;
+impl MessageImpl for ServiceDescriptorProto {
+    type Impl = FieldByField;
 }
 
 const _: () = prove!(size_of::<ServiceDescriptorProto>() <= ServiceDescriptorProto::COST);

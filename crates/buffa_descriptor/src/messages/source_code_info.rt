@@ -1,12 +1,12 @@
 //! google.protobuf.SourceCodeInfo, made of descriptor.proto by protoc-gen-buffa.
 
 ghost use Rattle.std.proofs.Common.{lit<, refl};
-ghost use Rattle.buffa_fields.specs.Terms.{field, keep};
+ghost use Rattle.buffa_fields.specs.Terms.{field, keep_unknown};
 
 use crate::messages::source_code_info_location::SourceCodeInfoLocation;
 use buffa_fields::{
-    And, Blank, DecodeContext, DecodeError, Fields, Formed, KeptFields, Listed, Listing, Member,
-    RepeatedNested, Tag, UnknownFields, Visitor, kept,
+    And, Blank, DecodeContext, DecodeError, FieldByField, FieldsMeaning, Member, MessageFields,
+    MessageImpl, RepeatedMessageField, Tag, UnknownFields, Unknowns, Visitor, unknown,
 };
 use std::alloc::Global;
 
@@ -20,11 +20,11 @@ pub struct SourceCodeInfo {
     /// The places.
     pub location: Vec<SourceCodeInfoLocation>,
     /// The fields that aren't declared, in order.
-    pub rest: UnknownFields,
+    pub unknown_fields: UnknownFields,
 }
 
-impl Fields for SourceCodeInfo {
-    type Meaning = And<[<SourceCodeInfoLocation as Blank>::Meaning; 0], KeptFields>;
+impl MessageFields for SourceCodeInfo {
+    type Meaning = And<[<SourceCodeInfoLocation as Blank>::Meaning; 0], Unknowns>;
 
     const COST: usize = 48;
 
@@ -32,14 +32,14 @@ impl Fields for SourceCodeInfo {
 
     ghost positive = { lit< tt };
 
-    ghost layout = { field 1 (λ m. m.location) ⟦<RepeatedNested<SourceCodeInfoLocation> as Member>⟧.shape (
-        keep (λ m. m.rest.records)) };
+    ghost schema = { field 1 (λ m. m.location) ⟦<RepeatedMessageField<SourceCodeInfoLocation> as Member>⟧.shape (
+        keep_unknown (λ m. m.unknown_fields.records)) };
 
     ghost sound = { refl };
 
     fn visit<V: Visitor>(&self, visitor: &mut V) {
-        visitor.visit::<RepeatedNested<SourceCodeInfoLocation>>(1, &self.location);
-        visitor.visit_kept(&self.rest);
+        visitor.visit::<RepeatedMessageField<SourceCodeInfoLocation>>(1, &self.location);
+        visitor.visit_unknown_fields(&self.unknown_fields);
     }
 
     fn take(
@@ -50,41 +50,41 @@ impl Fields for SourceCodeInfo {
         ctx: DecodeContext<'_>,
     ) -> Result<(), DecodeError> {
         match tag.field_number() {
-            1 => RepeatedNested::<SourceCodeInfoLocation>::merge(
+            1 => RepeatedMessageField::<SourceCodeInfoLocation>::merge(
                 &mut self.location,
                 alloc,
                 tag,
                 buf,
                 ctx,
             ),
-            _ => kept::keep(alloc, &mut self.rest, tag, buf, ctx),
+            _ => unknown::keep(alloc, &mut self.unknown_fields, tag, buf, ctx),
         }
     }
 }
 
 impl Blank for SourceCodeInfo {
-    type Meaning = <SourceCodeInfo as Fields>::Meaning;
+    type Meaning = <SourceCodeInfo as MessageFields>::Meaning;
 
-    ghost meaning = { ⟦<SourceCodeInfo as Fields>⟧.layout.meaning };
+    ghost meaning = { ⟦<SourceCodeInfo as MessageFields>⟧.schema.meaning };
 
-    ghost blank_is = { ⟦<SourceCodeInfo as Fields>⟧.layout.blank };
+    ghost blank_is = { ⟦<SourceCodeInfo as MessageFields>⟧.schema.blank };
 
     fn blank(alloc: Global) -> SourceCodeInfo {
         SourceCodeInfo {
             location: Vec::new(alloc),
-            rest: UnknownFields::new(alloc),
+            unknown_fields: UnknownFields::new(alloc),
         }
     }
 }
 
-impl Listing for SourceCodeInfo {
+impl FieldsMeaning for SourceCodeInfo {
     ghost means = { λ m. refl };
 
     ghost starts = { refl };
 }
 
-impl Formed for SourceCodeInfo {
-    type Form = Listed;
+impl MessageImpl for SourceCodeInfo {
+    type Impl = FieldByField;
 }
 
 const _: () = prove!(size_of::<SourceCodeInfo>() <= SourceCodeInfo::COST);

@@ -1,12 +1,13 @@
 //! google.protobuf.SourceCodeInfo.Location, made of descriptor.proto by protoc-gen-buffa.
 
 ghost use Rattle.std.proofs.Common.{lit<, refl};
-ghost use Rattle.buffa_fields.specs.Terms.{field, keep};
+ghost use Rattle.buffa_fields.specs.Terms.{field, keep_unknown};
 
 use buffa_fields::map_codec::{Int32, Str};
 use buffa_fields::{
-    And6, Blank, DecodeContext, DecodeError, Fields, Formed, KeptFields, Listed, Listing, Member,
-    Optional, Packed, Repeated, Tag, UnknownFields, Visitor, kept,
+    And6, Blank, DecodeContext, DecodeError, ExplicitField, FieldByField, FieldsMeaning, Member,
+    MessageFields, MessageImpl, PackedField, RepeatedField, Tag, UnknownFields, Unknowns, Visitor,
+    unknown,
 };
 use std::alloc::Global;
 use std::string::String;
@@ -35,17 +36,17 @@ pub struct SourceCodeInfoLocation {
     /// The comments before it that an empty line parts from it.
     pub leading_detached_comments: Vec<String>,
     /// The fields that aren't declared, in order.
-    pub rest: UnknownFields,
+    pub unknown_fields: UnknownFields,
 }
 
-impl Fields for SourceCodeInfoLocation {
+impl MessageFields for SourceCodeInfoLocation {
     type Meaning = And6<
         [i32; 0],
         [i32; 0],
         Option<[u8; 0]>,
         Option<[u8; 0]>,
         [[u8; 0]; 0],
-        KeptFields,
+        Unknowns,
     >;
 
     const COST: usize = 160;
@@ -54,22 +55,22 @@ impl Fields for SourceCodeInfoLocation {
 
     ghost positive = { lit< tt };
 
-    ghost layout = { field 1 (λ m. m.path) ⟦<Packed<Int32> as Member>⟧.shape (
-        field 2 (λ m. m.span) ⟦<Packed<Int32> as Member>⟧.shape (
-        field 3 (λ m. m.leading_comments) ⟦<Optional<Str> as Member>⟧.shape (
-        field 4 (λ m. m.trailing_comments) ⟦<Optional<Str> as Member>⟧.shape (
-        field 6 (λ m. m.leading_detached_comments) ⟦<Repeated<Str> as Member>⟧.shape (
-        keep (λ m. m.rest.records)))))) };
+    ghost schema = { field 1 (λ m. m.path) ⟦<PackedField<Int32> as Member>⟧.shape (
+        field 2 (λ m. m.span) ⟦<PackedField<Int32> as Member>⟧.shape (
+        field 3 (λ m. m.leading_comments) ⟦<ExplicitField<Str> as Member>⟧.shape (
+        field 4 (λ m. m.trailing_comments) ⟦<ExplicitField<Str> as Member>⟧.shape (
+        field 6 (λ m. m.leading_detached_comments) ⟦<RepeatedField<Str> as Member>⟧.shape (
+        keep_unknown (λ m. m.unknown_fields.records)))))) };
 
     ghost sound = { refl };
 
     fn visit<V: Visitor>(&self, visitor: &mut V) {
-        visitor.visit::<Packed<Int32>>(1, &self.path);
-        visitor.visit::<Packed<Int32>>(2, &self.span);
-        visitor.visit::<Optional<Str>>(3, &self.leading_comments);
-        visitor.visit::<Optional<Str>>(4, &self.trailing_comments);
-        visitor.visit::<Repeated<Str>>(6, &self.leading_detached_comments);
-        visitor.visit_kept(&self.rest);
+        visitor.visit::<PackedField<Int32>>(1, &self.path);
+        visitor.visit::<PackedField<Int32>>(2, &self.span);
+        visitor.visit::<ExplicitField<Str>>(3, &self.leading_comments);
+        visitor.visit::<ExplicitField<Str>>(4, &self.trailing_comments);
+        visitor.visit::<RepeatedField<Str>>(6, &self.leading_detached_comments);
+        visitor.visit_unknown_fields(&self.unknown_fields);
     }
 
     fn take(
@@ -80,22 +81,28 @@ impl Fields for SourceCodeInfoLocation {
         ctx: DecodeContext<'_>,
     ) -> Result<(), DecodeError> {
         match tag.field_number() {
-            1 => Packed::<Int32>::merge(&mut self.path, alloc, tag, buf, ctx),
-            2 => Packed::<Int32>::merge(&mut self.span, alloc, tag, buf, ctx),
-            3 => Optional::<Str>::merge(&mut self.leading_comments, alloc, tag, buf, ctx),
-            4 => Optional::<Str>::merge(&mut self.trailing_comments, alloc, tag, buf, ctx),
-            6 => Repeated::<Str>::merge(&mut self.leading_detached_comments, alloc, tag, buf, ctx),
-            _ => kept::keep(alloc, &mut self.rest, tag, buf, ctx),
+            1 => PackedField::<Int32>::merge(&mut self.path, alloc, tag, buf, ctx),
+            2 => PackedField::<Int32>::merge(&mut self.span, alloc, tag, buf, ctx),
+            3 => ExplicitField::<Str>::merge(&mut self.leading_comments, alloc, tag, buf, ctx),
+            4 => ExplicitField::<Str>::merge(&mut self.trailing_comments, alloc, tag, buf, ctx),
+            6 => RepeatedField::<Str>::merge(
+                &mut self.leading_detached_comments,
+                alloc,
+                tag,
+                buf,
+                ctx,
+            ),
+            _ => unknown::keep(alloc, &mut self.unknown_fields, tag, buf, ctx),
         }
     }
 }
 
 impl Blank for SourceCodeInfoLocation {
-    type Meaning = <SourceCodeInfoLocation as Fields>::Meaning;
+    type Meaning = <SourceCodeInfoLocation as MessageFields>::Meaning;
 
-    ghost meaning = { ⟦<SourceCodeInfoLocation as Fields>⟧.layout.meaning };
+    ghost meaning = { ⟦<SourceCodeInfoLocation as MessageFields>⟧.schema.meaning };
 
-    ghost blank_is = { ⟦<SourceCodeInfoLocation as Fields>⟧.layout.blank };
+    ghost blank_is = { ⟦<SourceCodeInfoLocation as MessageFields>⟧.schema.blank };
 
     fn blank(alloc: Global) -> SourceCodeInfoLocation {
         SourceCodeInfoLocation {
@@ -104,19 +111,19 @@ impl Blank for SourceCodeInfoLocation {
             leading_comments: None,
             trailing_comments: None,
             leading_detached_comments: Vec::new(alloc),
-            rest: UnknownFields::new(alloc),
+            unknown_fields: UnknownFields::new(alloc),
         }
     }
 }
 
-impl Listing for SourceCodeInfoLocation {
+impl FieldsMeaning for SourceCodeInfoLocation {
     ghost means = { λ m. refl };
 
     ghost starts = { refl };
 }
 
-impl Formed for SourceCodeInfoLocation {
-    type Form = Listed;
+impl MessageImpl for SourceCodeInfoLocation {
+    type Impl = FieldByField;
 }
 
 const _: () = prove!(size_of::<SourceCodeInfoLocation>() <= SourceCodeInfoLocation::COST);

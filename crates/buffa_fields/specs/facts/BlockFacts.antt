@@ -1,6 +1,6 @@
 -- What is proved of the sizes that come next, where members of a block are visited one after the other.
 use Rattle.std.proofs.Common.{◌≡◌, ◌∙◌, ℕ, Bool, false, true, List, [], ◌∷◌, ◌++◌, subst, sym, append_assoc}
-use Rattle.buffa_fields.specs.Layout.{Choice, Comes}
+use Rattle.buffa_fields.specs.Schema.{Choice, Comes}
 
 -- a block has the number, or hasn't, as it answered
 pub here : {A : Type 0} (B : Type 0) {mine said : Bool} → said ≡ mine → said ≡ true → A → Choice mine A B

@@ -3,7 +3,7 @@ use Rattle.std.proofs.Common.{◌≡◌, ℕ, ◌≤◌, Bool, true, false, ◌|
 use Rattle.std.proofs.lemmas.Bool.{and_parts, or_left, or_right}
 use Rattle.std.specs.List.{AllByRecursion}
 use Rattle.std.specs.Option.{option_map}
-use Rattle.buffa_bytes.specs.Front.{FullOnlyIf}
+use Rattle.buffa_bytes.specs.Readings.{FullOnlyIf}
 use Rattle.buffa_bytes.specs.declared.error.DecodeError.{DecodeError}
 use Rattle.buffa_bytes.specs.declared.wire_type.WireType.{WireType}
 use Rattle.buffa_wire.specs.BudgetLeft.{BudgetLeft}
@@ -12,10 +12,10 @@ use Rattle.buffa_wire.specs.Parse.{AreValid}
 use Rattle.buffa_wire.specs.ReadableFacts.{Readable}
 use Rattle.buffa_wire.specs.Records.{records_of}
 use Rattle.buffa_wire.specs.Takes.{IsTaken, Leads, Piece, ReadsBack}
-use Rattle.buffa_fields.specs.Aside.{Kept}
+use Rattle.buffa_fields.specs.Unknowns.{Kept}
 use Rattle.buffa_fields.specs.Cases.{Cases, CasesLaws, CaseWords, IsCasePut, IsPutNew, IsPutOver, either, or_cases, if_there, none_of, single_case, other_of, this_of}
-use Rattle.buffa_fields.specs.Keep.{AllNumbers}
-use Rattle.buffa_fields.specs.Layout.{Choice, Seen, Shape, Took, more}
+use Rattle.buffa_fields.specs.UndeclaredFields.{AllNumbers}
+use Rattle.buffa_fields.specs.Schema.{Choice, Seen, Shape, Took, more}
 use Rattle.buffa_fields.specs.facts.LevelFacts.{some_mapped}
 use Rattle.buffa_fields.specs.Levels.{IsTakenWritten}
 use Rattle.buffa_fields.specs.facts.PairFacts.{either_stays, not_declared, part_taken, sound_parts}
@@ -96,22 +96,22 @@ module _ {P A : Type 0} (k : ℕ) (s : Shape (Option P) (Option A)) (merges : Bo
   -- ---- a field is taken
   module _ {O : Type 0} (at : Option O → Option P) (d : ℕ) (old : Option O) (n : ℕ) (w : WireType) (bs : List ℕ) (before : BudgetLeft) (new : Option O) (after : BudgetLeft) (rest : List ℕ) where
     abbrev Its : answer → Type 0
-    Its r = IsTaken s.takes s.need d (s.meaning (at old)) n w bs before r (s.meaning (at new)) after rest
+    Its r = IsTaken s.takes s.charge d (s.meaning (at old)) n w bs before r (s.meaning (at new)) after rest
 
-    took : (stood q : Option P) (r : answer) → Took s d stood n w bs before r q after rest → IsTaken s.takes s.need d (s.meaning stood) n w bs before r (s.meaning q) after rest
+    took : (stood q : Option P) (r : answer) → Took s d stood n w bs before r q after rest → IsTaken s.takes s.charge d (s.meaning stood) n w bs before r (s.meaning q) after rest
     unfolding Took
     took stood q r h = h.0
 
     -- it makes of this value that stood what it makes of what is there
     from : (stood : Option P) → ((p : List ℕ) → s.takes d (s.meaning (at old)) n w p ≡ s.takes d (s.meaning stood) n w p) → (r : answer) (q : Option P) → Took s d stood n w bs before r q after rest →
-        IsTaken s.takes s.need d (s.meaning (at old)) n w bs before r (s.meaning q) after rest
+        IsTaken s.takes s.charge d (s.meaning (at old)) n w bs before r (s.meaning q) after rest
     from stood same r q h =
-        part_taken s.takes s.need s.takes s.need d n w (s.meaning stood) (s.meaning (at old)) (λ x. x)
+        part_taken s.takes s.charge s.takes s.charge d n w (s.meaning stood) (s.meaning (at old)) (λ x. x)
         (λ p. same p ∙ sym (map_same (s.takes d (s.meaning stood) n w p))) (λ x. refl) bs rest before after r (s.meaning q) (took stood q r h)
 
     over : (stood : Option P) → ((p : List ℕ) → s.takes d (s.meaning (at old)) n w p ≡ s.takes d (s.meaning stood) n w p) → (r : answer) (q : Option P) → at new ≡ q → IsPutOver at s d old n w bs before stood r q after rest → Its r
     over stood same r None is h = absurd h
-    over stood same r (Some q) is h = subst (λ z. IsTaken s.takes s.need d (s.meaning (at old)) n w bs before r (s.meaning z) after rest) (sym is) (from stood same r (Some q) h)
+    over stood same r (Some q) is h = subst (λ z. IsTaken s.takes s.charge d (s.meaning (at old)) n w bs before r (s.meaning z) after rest) (sym is) (from stood same r (Some q) h)
 
     anew : ((p : List ℕ) → s.takes d (s.meaning (at old)) n w p ≡ s.takes d (s.meaning None) n w p) → (r : answer) → IsPutNew at s d old n w bs before r new after rest → Its r
     anew same (Ok x) h = over None same (Ok x) (at new) refl h
@@ -204,7 +204,7 @@ module _ {V X W Y : Type 0} (first : Cases V X) (others : Cases W Y) (its : Case
   -- ---- a field is taken
   module _ {O : Type 0} (at : Option O → Option (Or V W)) (d : ℕ) (old : Option O) (n : ℕ) (w : WireType) (bs : List ℕ) (before : BudgetLeft) (new : Option O) (after : BudgetLeft) (rest : List ℕ) where
     abbrev Is : answer → Type 0
-    Is r = IsTaken c.takes c.need d (c.meaning (at old)) n w bs before r (c.meaning (at new)) after rest
+    Is r = IsTaken c.takes c.charge d (c.meaning (at old)) n w bs before r (c.meaning (at new)) after rest
 
     abbrev First : answer → Type 0
     First r = first.Took (λ o. this_of (at o)) d old n w bs before r new after rest
@@ -213,9 +213,9 @@ module _ {V X W Y : Type 0} (first : Cases V X) (others : Cases W Y) (its : Case
     Others r = others.Took (λ o. other_of (at o)) d old n w bs before r new after rest
 
     -- by one of the first
-    this_lifted : (r : answer) → first.mine n ≡ true → First r → IsTaken c.takes c.need d (c.meaning (at old)) n w bs before r (option_map This (first.meaning (this_of (at new)))) after rest
+    this_lifted : (r : answer) → first.mine n ≡ true → First r → IsTaken c.takes c.charge d (c.meaning (at old)) n w bs before r (option_map This (first.meaning (this_of (at new)))) after rest
     this_lifted r is h =
-        part_taken first.takes first.need c.takes c.need d n w (first.meaning (this_of (at old))) (c.meaning (at old)) (option_map This)
+        part_taken first.takes first.charge c.takes c.charge d n w (first.meaning (this_of (at old))) (c.meaning (at old)) (option_map This)
         (λ p. rw is (ap (λ z. option_map (option_map This) (first.takes d z n w p)) (this_either (first.meaning (this_of (at old))) (others.meaning (other_of (at old))))))
         (λ x. rw is refl) bs rest before after r (first.meaning (this_of (at new))) (its.taken_is (λ o. this_of (at o)) d old n w bs before r new after rest is h)
 
@@ -223,13 +223,13 @@ module _ {V X W Y : Type 0} (first : Cases V X) (others : Cases W Y) (its : Case
     by_first (Ok x) is h =
         let there = its.puts (λ o. this_of (at o)) d old n w bs before x new after rest is h in
         let puts = ap (λ z. option_map This (first.meaning z)) there.1 ∙ this_is there.0 ∙ ap (λ z. c.meaning z) (sym (seen_this (at new) there.0 there.1)) in
-        subst (λ z. IsTaken c.takes c.need d (c.meaning (at old)) n w bs before (Ok x) z after rest) puts (this_lifted (Ok x) is h)
+        subst (λ z. IsTaken c.takes c.charge d (c.meaning (at old)) n w bs before (Ok x) z after rest) puts (this_lifted (Ok x) is h)
     by_first (Err e) is h = this_lifted (Err e) is h
 
     -- by one of the others
-    other_lifted : (r : answer) → first.mine n ≡ false → others.mine n ≡ true → Others r → IsTaken c.takes c.need d (c.meaning (at old)) n w bs before r (option_map Other (others.meaning (other_of (at new)))) after rest
+    other_lifted : (r : answer) → first.mine n ≡ false → others.mine n ≡ true → Others r → IsTaken c.takes c.charge d (c.meaning (at old)) n w bs before r (option_map Other (others.meaning (other_of (at new)))) after rest
     other_lifted r off mine h =
-        part_taken others.takes others.need c.takes c.need d n w (others.meaning (other_of (at old))) (c.meaning (at old)) (option_map Other)
+        part_taken others.takes others.charge c.takes c.charge d n w (others.meaning (other_of (at old))) (c.meaning (at old)) (option_map Other)
         (λ p. rw off (ap (λ z. option_map (option_map Other) (others.takes d z n w p)) (others_mean (at old)))) (λ x. rw off refl) bs rest before after r (others.meaning (other_of (at new)))
         (laws.taken_is (λ o. other_of (at o)) d old n w bs before r new after rest mine h)
 
@@ -237,7 +237,7 @@ module _ {V X W Y : Type 0} (first : Cases V X) (others : Cases W Y) (its : Case
     by_others (Ok x) off mine h =
         let there = laws.puts (λ o. other_of (at o)) d old n w bs before x new after rest mine h in
         let puts = ap (λ z. option_map Other (others.meaning z)) there.1 ∙ other_is there.0 ∙ ap (λ z. c.meaning z) (sym (seen_other (at new) there.0 there.1)) in
-        subst (λ z. IsTaken c.takes c.need d (c.meaning (at old)) n w bs before (Ok x) z after rest) puts (other_lifted (Ok x) off mine h)
+        subst (λ z. IsTaken c.takes c.charge d (c.meaning (at old)) n w bs before (Ok x) z after rest) puts (other_lifted (Ok x) off mine h)
     by_others (Err e) off mine h = other_lifted (Err e) off mine h
 
     is_taken : (r : answer) (t : Bool) → first.mine n ≡ t → (t || others.mine n) ≡ true → Choice t (First r) (Others r) → Is r
@@ -291,15 +291,15 @@ module _ {V X W Y : Type 0} (first : Cases V X) (others : Cases W Y) (its : Case
     this_lead d u y fs l,
   )
 
-  other_lead : (apart : (n : ℕ) → others.mine n ≡ true → first.mine n ≡ false) (d : ℕ) (x y : Option Y) (fs : List Piece) → Leads others.takes others.mine d x fs y → Leads c.takes c.mine d (option_map Other x) fs (option_map Other y)
-  other_lead apart d x y [] h = ap (option_map Other) h
-  other_lead apart d x y (f ∷ fs) (is, tag, payload, u, h, l) = (
+  other_lead : (differs_only : (n : ℕ) → others.mine n ≡ true → first.mine n ≡ false) (d : ℕ) (x y : Option Y) (fs : List Piece) → Leads others.takes others.mine d x fs y → Leads c.takes c.mine d (option_map Other x) fs (option_map Other y)
+  other_lead differs_only d x y [] h = ap (option_map Other) h
+  other_lead differs_only d x y (f ∷ fs) (is, tag, payload, u, h, l) = (
     or_right (first.mine f.number) (others.mine f.number) is,
     tag,
     payload,
     option_map Other u,
-    rw (apart f.number is) (ap (λ z. option_map (option_map Other) (others.takes d z f.number f.wire f.payload)) (other_back X x) ∙ ap (option_map (option_map Other)) h),
-    other_lead apart d u y fs l,
+    rw (differs_only f.number is) (ap (λ z. option_map (option_map Other) (others.takes d z f.number f.wire f.payload)) (other_back X x) ∙ ap (option_map (option_map Other)) h),
+    other_lead differs_only d u y fs l,
   )
 
   case_back : c.Owes → c.Fine → (d : ℕ) (x : Or X Y) → Readable (records_of (c.records x)) → c.normal x → c.levels x ≤ d → ReadsBack c.takes c.mine d None (records_encoding (c.records x)) (Some x)
@@ -335,12 +335,12 @@ module _ {V X W Y : Type 0} (first : Cases V X) (others : Cases W Y) (its : Case
       let t = some_mapped (λ (x : Option X). option_map (λ a. (let z : Or X Y = This a in z)) x) (first.takes d (this_of v) y.0 (wire_of y.1) (payload_encoding y.0 y.1)) u (sym same ∙ h) in
       ((number, fits, low, this_of v, t.0, t.1), this_alone d ys n.1 all)
 
-  other_alone : (apart : (n : ℕ) → others.mine n ≡ true → first.mine n ≡ false) (d : ℕ) (ys : Kept) → AllNumbers others.mine ys → AllByRecursion (IsTakenWritten c.takes d) ys → AllByRecursion (IsTakenWritten others.takes d) ys
-  other_alone apart d [] n h = tt
-  other_alone apart d (y ∷ ys) n ((number, fits, low, v, u, h), all) =
-      let same : c.takes d v y.0 (wire_of y.1) (payload_encoding y.0 y.1) ≡ option_map (option_map Other) (others.takes d (other_of v) y.0 (wire_of y.1) (payload_encoding y.0 y.1)) = rw (apart y.0 n.0) refl in
+  other_alone : (differs_only : (n : ℕ) → others.mine n ≡ true → first.mine n ≡ false) (d : ℕ) (ys : Kept) → AllNumbers others.mine ys → AllByRecursion (IsTakenWritten c.takes d) ys → AllByRecursion (IsTakenWritten others.takes d) ys
+  other_alone differs_only d [] n h = tt
+  other_alone differs_only d (y ∷ ys) n ((number, fits, low, v, u, h), all) =
+      let same : c.takes d v y.0 (wire_of y.1) (payload_encoding y.0 y.1) ≡ option_map (option_map Other) (others.takes d (other_of v) y.0 (wire_of y.1) (payload_encoding y.0 y.1)) = rw (differs_only y.0 n.0) refl in
       let t = some_mapped (λ (x : Option Y). option_map (λ b. (let z : Or X Y = Other b in z)) x) (others.takes d (other_of v) y.0 (wire_of y.1) (payload_encoding y.0 y.1)) u (sym same ∙ h) in
-      ((number, fits, low, other_of v, t.0, t.1), other_alone apart d ys n.1 all)
+      ((number, fits, low, other_of v, t.0, t.1), other_alone differs_only d ys n.1 all)
 
   case_least : c.Owes → c.Exact → c.Fine → (d : ℕ) (x : Or X Y) → c.normal x → AllByRecursion (IsTakenWritten c.takes d) (c.records x) → c.levels x ≤ d
   case_least owes exact fine d (This a) normal own = its.least owes.0 exact.0 fine.0 d a normal (this_alone d (first.records a) (its.numbers owes.0 exact.0 a) own)
@@ -361,7 +361,7 @@ module _ {V X W Y : Type 0} (first : Cases V X) (others : Cases W Y) (its : Case
     fine = case_fine;
     absent = ap (λ z. either z (others.meaning None)) its.absent ∙ ap (option_map Other) laws.absent;
     there = each_means;
-    stays = either_stays first.mine first.need others.need its.stays laws.stays;
+    stays = either_stays first.mine first.charge others.charge its.stays laws.stays;
     taken_is = λ at d old n w bs before r new after rest mine h. is_taken at d old n w bs before new after rest r (first.mine n) refl mine h;
     puts = λ at d old n w bs before x new after rest mine h. is_there at d old n w bs before new after rest x (first.mine n) refl mine h;
     asks_is = λ at d old n w bs before r new after rest mine h. asks_case at d old n w bs before new after rest r (first.mine n) refl mine h;

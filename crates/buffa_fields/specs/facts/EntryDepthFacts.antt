@@ -4,7 +4,7 @@ use Rattle.std.proofs.Common.{◌≡◌, ◌⊎◌, inl, inr, ℕ, zero, suc, �
 use Rattle.std.specs.Prelude.{is_some}
 use Rattle.buffa_bytes.proofs.FieldLemmas.{tag_some}
 use Rattle.buffa_bytes.proofs.StepLemmas.{agree_ok}
-use Rattle.buffa_bytes.specs.Content.{Content}
+use Rattle.buffa_bytes.specs.PayloadValue.{PayloadValue}
 use Rattle.buffa_bytes.specs.Field.{Group, PayloadOver, SomeFieldOver}
 use Rattle.buffa_bytes.specs.declared.error.DecodeError.{DecodeError}
 use Rattle.buffa_bytes.specs.declared.wire_type.WireType.{WireType}
@@ -21,7 +21,7 @@ use Rattle.buffa_map.specs.EntryReading.{blanks, entry_of}
 use Rattle.buffa_map.specs.declared.map_entry.MapEntry.{MapEntry}
 use Rattle.buffa_wire.specs.ByField.{value_of}
 use Rattle.buffa_fields.specs.facts.ValueFacts.{open_level}
-use Rattle.buffa_fields.specs.KeptMaps.{IsAsideEntry, IsUndeclaredAt, entry_depth, first_entry_depth}
+use Rattle.buffa_fields.specs.ClosedEnumMaps.{IsUnknownEntry, IsUndeclaredAt, entry_depth, first_entry_depth}
 
 -- ---- fields at another depth
 shift_join : (P Q : List ℕ → Type 0) (l : ℕ) → ((f : List ℕ) → length f ≤ l → P f → Q f) → (b : List ℕ) → Join P b → length b ≤ l → Join Q b
@@ -55,7 +55,7 @@ group_at (suc k) (suc d) n p (inr s) (b, t, j, tag, is) =
 
 -- a plain codec reads the same at each depth
 abbrev pub IsEven : {V : Type 0} → Reading V → Type 0
-IsEven {V} codec = (codec.nested ≡ false) × ((k d : ℕ) (old : V) (c : Content) → codec.reads k old c ≡ codec.reads d old c)
+IsEven {V} codec = (codec.nested ≡ false) × ((k d : ℕ) (old : V) (c : PayloadValue) → codec.reads k old c ≡ codec.reads d old c)
 
 codec_field : {V : Type 0} (codec : Reading V) → IsEven codec → (k d n : ℕ) (old new : V) (known : Bool) (f : List ℕ) → IsCodecField codec d n old f new known → IsCodecField codec k n old f new known
 codec_field codec even k d n old new known f (t, p, c, tag, low, has, reads, is) = (t, p, c, tag, open_level codec k even.0, has, even.1 k d old c ∙ reads, is)
@@ -103,8 +103,8 @@ module _ {K V : Type 0} (key : Reading K) (val : Reading V) (even_key : IsEven k
   one_answer a b h = ok_same h
 
   -- a length-delimited entry that isn't known may have been put aside, and only such a one may
-  pub undeclared_aside : (c : ℕ) (e : List ℕ) → IsUndeclaredAt key val c e → IsAsideEntry key val (bytes e)
-  undeclared_aside c e (s, entry, known) = (e, refl, at)
+  pub undeclared_among_unknowns : (c : ℕ) (e : List ℕ) → IsUndeclaredAt key val c e → IsUnknownEntry key val (bytes e)
+  undeclared_among_unknowns c e (s, entry, known) = (e, refl, at)
     where
       at : (d : ℕ) → entry_depth key val e ≤ d → IsUndeclaredAt key val d e
       at d low =

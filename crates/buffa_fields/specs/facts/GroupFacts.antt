@@ -10,14 +10,14 @@ use Rattle.buffa_bytes.specs.Field.{Group, IsTag, Payload, SomeField}
 use Rattle.buffa_bytes.specs.Join.{Join}
 use Rattle.buffa_bytes.specs.Join.Join.{none, more}
 use Rattle.buffa_bytes.specs.Number.{IsNumber}
-use Rattle.buffa_bytes.specs.Front.{same_wire, skip_at, tag_at}
+use Rattle.buffa_bytes.specs.Readings.{same_wire, skip_at, tag_at}
 use Rattle.buffa_bytes.specs.Scan.{step_then}
 use Rattle.buffa_bytes.specs.Values.{tag_encoding}
 use Rattle.buffa_wire.specs.BudgetLeft.{BudgetLeft}
 use Rattle.buffa_wire.specs.Encoding.{records_encoding}
 use Rattle.buffa_wire.specs.Parse.{Fits}
 use Rattle.buffa_wire.specs.ReadableFacts.{Readable, readable_fits}
-use Rattle.buffa_wire.specs.Records.{Datum, records_of}
+use Rattle.buffa_wire.specs.Records.{FieldData, records_of}
 use Rattle.buffa_bytes.proofs.FieldLemmas.{is_tag}
 use Rattle.buffa_fields.specs.Groups.{body_behind, body_step, group_body, group_merged}
 use Rattle.buffa_wire.specs.Takes.{front_of}
@@ -82,7 +82,7 @@ inside_stays cost zero n p x h = refl
 inside_stays cost (suc d) n p x h = let e : suc d - 1 ≡ d = omega arith in rw e (ap (cost d) (body_stays d n p x h))
 
 -- ---- it reads back
-module _ {X : Type 0} (merged : ℕ → X → List ℕ → Option X) (blank : X) (encoding : X → List ℕ) (records : X → List (ℕ × Datum)) (level : X → ℕ) (Normal : X → Type 0)
+module _ {X : Type 0} (merged : ℕ → X → List ℕ → Option X) (blank : X) (encoding : X → List ℕ) (records : X → List (ℕ × FieldData)) (level : X → ℕ) (Normal : X → Type 0)
     (as_records : (v : X) → encoding v ≡ records_encoding (records v)) (whole : (d : ℕ) (v u : X) (b : List ℕ) → merged d v b ≡ Some u → Join (SomeField d) b)
     (back : (d : ℕ) (v : X) → Fits (records_of (records v)) → Normal v → level v ≤ d → merged d blank (encoding v) ≡ Some v) (n : ℕ) (number : IsNumber n) where
   pub group_again : (d : ℕ) (v : X) → Readable (records_of (records v)) → Normal v → suc (level v) ≤ d →

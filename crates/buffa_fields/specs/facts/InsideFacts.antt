@@ -5,7 +5,7 @@ use Rattle.std.specs.Option.{option_map}
 use Rattle.buffa_bytes.proofs.DelimitedLemmas.{delimited_complete}
 use Rattle.buffa_bytes.proofs.FieldLemmas.{same_true}
 use Rattle.buffa_bytes.specs.Field.{Payload}
-use Rattle.buffa_bytes.specs.Front.{delimited_at, same_wire}
+use Rattle.buffa_bytes.specs.Readings.{delimited_at, same_wire}
 use Rattle.buffa_bytes.specs.Number.{IsNumber}
 use Rattle.buffa_bytes.specs.Values.{tag_encoding}
 use Rattle.buffa_bytes.specs.declared.error.DecodeError.{DecodeError}
@@ -14,14 +14,14 @@ use Rattle.buffa_bytes.specs.declared.wire_type.WireType.TheVariants.{LengthDeli
 use Rattle.buffa_wire.specs.BudgetLeft.{BudgetLeft, nothing}
 use Rattle.buffa_wire.specs.Encoding.{records_encoding, tagged_encoding}
 use Rattle.buffa_wire.specs.Message.{cost_of_payload, merged_in}
-use Rattle.buffa_wire.specs.ReadableFacts.{Readable, ReadableDatum}
-use Rattle.buffa_wire.specs.Records.{Datum, records_of}
+use Rattle.buffa_wire.specs.ReadableFacts.{Readable, ReadableFieldData}
+use Rattle.buffa_wire.specs.Records.{FieldData, records_of}
 use Rattle.buffa_wire.specs.Takes.{ReadsBack, Stays, Taker}
-use Rattle.buffa_fields.specs.facts.BackFacts.{one_back}
+use Rattle.buffa_fields.specs.facts.ReadBackFacts.{one_back}
 use Rattle.buffa_fields.specs.facts.ListFacts.{records_back}
 use Rattle.buffa_fields.specs.Lists.{element_records}
-use Rattle.buffa_fields.specs.Nested.{taken_behind, taken_there}
-use Rattle.buffa_fields.specs.RepeatedNested.{messages_levels}
+use Rattle.buffa_fields.specs.Submessages.{taken_behind, taken_there}
+use Rattle.buffa_fields.specs.RepeatedMessages.{messages_levels}
 
 -- ---- a payload that is a length and so many bytes
 pub delimited_alone : (d n : ℕ) (w : WireType) (p more bs : List ℕ) → w ≡ LengthDelimited → Payload d n w p → bs ≡ p ++ more → (b : List ℕ) × (delimited_at bs ≡ Ok (b, more)) × (delimited_at p ≡ Ok (b, []))
@@ -59,26 +59,26 @@ payload_stays cost d n p x h =
     ap (cost_of_payload cost d) u.1 ∙ ap (cost_of_payload cost d) (sym u.2)
 
 -- ---- messages that read back, whatever their records are
-module _ {X : Type 0} (takes : Taker X) (blank : X) (datum : X → Datum) (level : X → ℕ) (Normal : X → Type 0) (n : ℕ) (number : IsNumber n) (wire : WireType) (payload : X → List ℕ)
-    (spelled : (v : X) → tagged_encoding n (datum v) ≡ tag_encoding n wire ++ payload v)
-    (one : (d : ℕ) (v : X) → ReadableDatum (datum v) → Normal v → suc (level v) ≤ d → Payload d n wire (payload v) × (takes d blank n wire (payload v) ≡ Some v)) (d : ℕ) where
+module _ {X : Type 0} (takes : Taker X) (blank : X) (field_data : X → FieldData) (level : X → ℕ) (Normal : X → Type 0) (n : ℕ) (number : IsNumber n) (wire : WireType) (payload : X → List ℕ)
+    (spelled : (v : X) → tagged_encoding n (field_data v) ≡ tag_encoding n wire ++ payload v)
+    (one : (d : ℕ) (v : X) → ReadableFieldData (field_data v) → Normal v → suc (level v) ≤ d → Payload d n wire (payload v) × (takes d blank n wire (payload v) ≡ Some v)) (d : ℕ) where
   -- one, where none stood
-  pub inside_back : (v : X) → ReadableDatum (datum v) → Normal v → suc (level v) ≤ d → ReadsBack (taken_there blank takes) (λ m. m == n) d None (records_encoding ((n, datum v) ∷ [])) (Some v)
+  pub inside_back : (v : X) → ReadableFieldData (field_data v) → Normal v → suc (level v) ≤ d → ReadsBack (taken_there blank takes) (λ m. m == n) d None (records_encoding ((n, field_data v) ∷ [])) (Some v)
   inside_back v fits normal low =
       let first = one d v fits normal low in
-      one_back (taken_there blank takes) n number wire (payload v) d None (Some v) (records_encoding ((n, datum v) ∷ [])) (ap (λ (z : List ℕ). z ++ []) (spelled v)) first.0 (ap (option_map (λ x. Some x)) first.1)
+      one_back (taken_there blank takes) n number wire (payload v) d None (Some v) (records_encoding ((n, field_data v) ∷ [])) (ap (λ (z : List ℕ). z ++ []) (spelled v)) first.0 (ap (option_map (λ x. Some x)) first.1)
 
   -- a list of them
   abbrev IsGood : X → Type 0
-  IsGood v = ReadableDatum (datum v) × Normal v × (suc (level v) ≤ d)
+  IsGood v = ReadableFieldData (field_data v) × Normal v × (suc (level v) ≤ d)
 
-  all_good : (vs : List X) → Readable (records_of (element_records datum n vs)) → AllByRecursion Normal vs → messages_levels level vs ≤ d → AllByRecursion IsGood vs
+  all_good : (vs : List X) → Readable (records_of (element_records field_data n vs)) → AllByRecursion Normal vs → messages_levels level vs ≤ d → AllByRecursion IsGood vs
   unfolding element_records
   all_good [] fits normal low = tt
   all_good (v ∷ vs) fits normal low = ((fits.1, normal.0, omega (arith, low)), all_good vs fits.2 normal.1 (omega (arith, low)))
 
-  pub all_inside_back : (vs : List X) → Readable (records_of (element_records datum n vs)) → AllByRecursion Normal vs → messages_levels level vs ≤ d →
-      ReadsBack (taken_behind blank takes) (λ m. m == n) d [] (records_encoding (element_records datum n vs)) vs
+  pub all_inside_back : (vs : List X) → Readable (records_of (element_records field_data n vs)) → AllByRecursion Normal vs → messages_levels level vs ≤ d →
+      ReadsBack (taken_behind blank takes) (λ m. m == n) d [] (records_encoding (element_records field_data n vs)) vs
   all_inside_back vs fits normal low =
-      records_back (taken_behind blank takes) datum n number wire payload d IsGood spelled
+      records_back (taken_behind blank takes) field_data n number wire payload d IsGood spelled
       (λ old v good. let first = one d v good.0 good.1 good.2 in (first.0, ap (option_map (λ x. old ++ x ∷ [])) first.1)) vs (all_good vs fits normal low)

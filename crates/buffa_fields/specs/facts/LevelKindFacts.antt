@@ -5,7 +5,7 @@ use Rattle.std.proofs.lemmas.Bool.{cases_lt, eq-eqb}
 use Rattle.std.specs.List.{AllByRecursion}
 use Rattle.buffa_bytes.proofs.FieldLemmas.{is_tag, tag_some}
 use Rattle.buffa_bytes.proofs.VarintLemmas.{IsVarint-varint_encoding}
-use Rattle.buffa_bytes.specs.Content.{HasContent, bytes as payload_of}
+use Rattle.buffa_bytes.specs.PayloadValue.{HasPayloadValue, bytes as payload_of}
 use Rattle.buffa_bytes.specs.Field.{IsTag}
 use Rattle.buffa_bytes.specs.Number.{IsNumber}
 use Rattle.buffa_bytes.specs.Values.{delimited_encoding, tag_encoding}
@@ -19,8 +19,8 @@ use Rattle.buffa_wire.specs.BudgetLeft.{BudgetLeft}
 use Rattle.buffa_wire.specs.ByField.{value_of}
 use Rattle.buffa_wire.specs.Encoding.{payload_encoding, records_encoding, wire_of}
 use Rattle.buffa_wire.specs.Message.{merged_in}
-use Rattle.buffa_wire.specs.ReadableFacts.{Readable, ReadableDatum, readable_fits}
-use Rattle.buffa_wire.specs.Records.{Datum, bytes, datum_height, fixed32, fixed64, group, records_of, varint}
+use Rattle.buffa_wire.specs.ReadableFacts.{Readable, ReadableFieldData, readable_fits}
+use Rattle.buffa_wire.specs.Records.{FieldData, bytes, field_data_height, fixed32, fixed64, group, records_of, varint}
 use Rattle.buffa_wire.specs.Takes.{Taker}
 use Rattle.buffa_map.proofs.BackLemmas.{IsReadBack}
 use Rattle.buffa_map.proofs.EntryLemmas.{entry_faulty}
@@ -29,51 +29,51 @@ use Rattle.buffa_map.specs.Codec.{Reading, ValueFault, Writing}
 use Rattle.buffa_map.specs.Encoding.{AllHold, entry_encoding}
 use Rattle.buffa_map.specs.Entry.{FaultOf}
 use Rattle.buffa_map.specs.EntryReading.{entry_of}
-use Rattle.buffa_map.specs.Message.{meant, message_reading}
+use Rattle.buffa_map.specs.Message.{merged_value, message_reading}
 use Rattle.buffa_map.specs.Scalars.{delimited_writing}
 use Rattle.buffa_map.specs.declared.map_entry.MapEntry.{MapEntry}
-use Rattle.buffa_fields.specs.Aside.{Aside, IsExactKeeping}
+use Rattle.buffa_fields.specs.Unknowns.{Unknowns, IsExactWithUnknowns}
 use Rattle.buffa_fields.specs.Entries.{entry_taken}
 use Rattle.buffa_fields.specs.facts.GroupFacts.{body_is}
-use Rattle.buffa_fields.specs.Groups.{group_datum, group_merged}
-use Rattle.buffa_fields.specs.Keep.{AllNumbers}
-use Rattle.buffa_fields.specs.KeptMaps.{aside_entry_levels, first_entry_depth, kept_pair_taken, put_or_keep}
-use Rattle.buffa_fields.specs.Layout.{IsExactMember, Shape}
+use Rattle.buffa_fields.specs.Groups.{group_field_data, group_merged}
+use Rattle.buffa_fields.specs.UndeclaredFields.{AllNumbers}
+use Rattle.buffa_fields.specs.ClosedEnumMaps.{unknown_entry_levels, first_entry_depth, kept_pair_taken, put_or_keep}
+use Rattle.buffa_fields.specs.Schema.{IsExactMember, Shape}
 use Rattle.buffa_fields.specs.facts.LevelFacts.{some_mapped}
 use Rattle.buffa_fields.specs.Levels.{AreExactLevels, IsTakenWritten}
 use Rattle.buffa_fields.specs.Lists.{element_records, packed_records}
 use Rattle.buffa_fields.specs.MapFields.{entry_records, map_records, pair_taken, stepped}
-use Rattle.buffa_fields.specs.MemberRecords.{optional_records, plain_records}
-use Rattle.buffa_fields.specs.Nested.{FitsInside, message_merged, or_blank, taken_behind, taken_there}
-use Rattle.buffa_fields.specs.NestedMaps.{pair_levels, pair_records}
-use Rattle.buffa_fields.specs.RepeatedNested.{messages_levels, messages_records, messages_taken}
+use Rattle.buffa_fields.specs.MemberRecords.{explicit_records, implicit_records}
+use Rattle.buffa_fields.specs.Submessages.{FitsInside, message_merged, or_blank, taken_behind, taken_there}
+use Rattle.buffa_fields.specs.MapsOfMessages.{pair_levels, pair_records}
+use Rattle.buffa_fields.specs.RepeatedMessages.{messages_levels, messages_records, messages_taken}
 use Rattle.buffa_fields.specs.facts.ValueFacts.{delimited_whole}
 use Rattle.buffa_fields.specs.Values.{records_unless}
 
 -- ---- records of one number
-abbrev pub AllOf : ℕ → List (ℕ × Datum) → Type 0
+abbrev pub AllOf : ℕ → List (ℕ × FieldData) → Type 0
 AllOf k ys = AllNumbers (λ n. n == k) ys
 
-one_number_alone : (k : ℕ) (x : Datum) → AllOf k ((k, x) ∷ [])
+one_number_alone : (k : ℕ) (x : FieldData) → AllOf k ((k, x) ∷ [])
 one_number_alone k x = (eq-eqb k k refl, tt)
 
-pub plain_numbers : {V : Type 0} (test : V → Bool) (datum : V → Datum) (k : ℕ) (v : V) → AllOf k (plain_records test datum k v)
-unfolding plain_records
-plain_numbers test datum k v = by (test v)
+pub implicit_numbers : {V : Type 0} (test : V → Bool) (field_data : V → FieldData) (k : ℕ) (v : V) → AllOf k (implicit_records test field_data k v)
+unfolding implicit_records
+implicit_numbers test field_data k v = by (test v)
   where
-    by : (t : Bool) → AllOf k (records_unless t ((k, datum v) ∷ []))
+    by : (t : Bool) → AllOf k (records_unless t ((k, field_data v) ∷ []))
     by true = tt
-    by false = one_number_alone k (datum v)
+    by false = one_number_alone k (field_data v)
 
-pub optional_numbers : {V : Type 0} (datum : V → Datum) (k : ℕ) (v : Option V) → AllOf k (optional_records datum k v)
-unfolding optional_records
-optional_numbers datum k None = tt
-optional_numbers datum k (Some v) = one_number_alone k (datum v)
+pub explicit_numbers : {V : Type 0} (field_data : V → FieldData) (k : ℕ) (v : Option V) → AllOf k (explicit_records field_data k v)
+unfolding explicit_records
+explicit_numbers field_data k None = tt
+explicit_numbers field_data k (Some v) = one_number_alone k (field_data v)
 
-pub element_numbers : {V : Type 0} (datum : V → Datum) (k : ℕ) (vs : List V) → AllOf k (element_records datum k vs)
+pub element_numbers : {V : Type 0} (field_data : V → FieldData) (k : ℕ) (vs : List V) → AllOf k (element_records field_data k vs)
 unfolding element_records
-element_numbers datum k [] = tt
-element_numbers datum k (v ∷ vs) = (eq-eqb k k refl, element_numbers datum k vs)
+element_numbers field_data k [] = tt
+element_numbers field_data k (v ∷ vs) = (eq-eqb k k refl, element_numbers field_data k vs)
 
 pub messages_numbers : {X : Type 0} (encoding : X → List ℕ) (k : ℕ) (vs : List X) → AllOf k (messages_records encoding k vs)
 messages_numbers encoding k vs = element_numbers (λ v. bytes (encoding v)) k vs
@@ -99,32 +99,32 @@ pair_numbers kw encoding k l = map_numbers kw (delimited_writing encoding) k l
 pub exact_flat : {P X : Type 0} (s : Shape P X) → ((k : ℕ) (v : X) → AllOf k (s.records k v)) → ((v : X) → s.levels v ≡ 0) → IsExactMember s
 exact_flat s all flat = record { numbers = all; least = λ k d v normal taken. omega (arith, flat v) }
 
-pub exact_flat_keeping : {P X : Type 0} (s : Shape P X) (a : Aside X) → ((k : ℕ) (v : X) → AllOf k (s.records k v)) → ((v : X) → s.levels v ≡ 0) → ((k d : ℕ) (x : Datum) → IsTakenWritten a.takes d (k, x) → a.levels x ≤ d) → IsExactKeeping s a
-exact_flat_keeping s a all flat low = record { numbers = all; least = λ k d v normal taken. omega (arith, flat v); aside = λ k d x is taken. low k d x taken }
+pub exact_flat_unknowns : {P X : Type 0} (s : Shape P X) (a : Unknowns X) → ((k : ℕ) (v : X) → AllOf k (s.records k v)) → ((v : X) → s.levels v ≡ 0) → ((k d : ℕ) (x : FieldData) → IsTakenWritten a.takes d (k, x) → a.levels x ≤ d) → IsExactWithUnknowns s a
+exact_flat_unknowns s a all flat low = record { numbers = all; least = λ k d v normal taken. omega (arith, flat v); unknowns = λ k d x is taken. low k d x taken }
 
 -- neither a value nor what is put aside nests
-pub exact_numbers : {P X : Type 0} (s : Shape P X) (a : Aside X) → ((k : ℕ) (v : X) → AllOf k (s.records k v)) → ((v : X) → s.levels v ≡ 0) → ((x : Datum) → a.levels x ≡ 0) → IsExactKeeping s a
-exact_numbers s a all flat even = exact_flat_keeping s a all flat (λ k d x taken. omega (arith, even x))
+pub exact_numbers : {P X : Type 0} (s : Shape P X) (a : Unknowns X) → ((k : ℕ) (v : X) → AllOf k (s.records k v)) → ((v : X) → s.levels v ≡ 0) → ((x : FieldData) → a.levels x ≡ 0) → IsExactWithUnknowns s a
+exact_numbers s a all flat even = exact_flat_unknowns s a all flat (λ k d x taken. omega (arith, even x))
 
 -- ---- messages
 -- members whose records are messages, each of which is taken only at a depth of one more than its levels
-module _ {X : Type 0} (takes : Taker X) (blank : X) (datum : X → Datum) (level : X → ℕ) (Normal : X → Type 0)
-    (one : (d n : ℕ) (old v u : X) → IsNumber n → ReadableDatum (datum v) → datum_height (datum v) ≤ d → Normal v → takes d old n (wire_of (datum v)) (payload_encoding n (datum v)) ≡ Some u → suc (level v) ≤ d) (d n : ℕ) where
-  pub there_low : (v : X) → Normal v → IsTakenWritten (taken_there blank takes) d (n, datum v) → suc (level v) ≤ d
+module _ {X : Type 0} (takes : Taker X) (blank : X) (field_data : X → FieldData) (level : X → ℕ) (Normal : X → Type 0)
+    (one : (d n : ℕ) (old v u : X) → IsNumber n → ReadableFieldData (field_data v) → field_data_height (field_data v) ≤ d → Normal v → takes d old n (wire_of (field_data v)) (payload_encoding n (field_data v)) ≡ Some u → suc (level v) ≤ d) (d n : ℕ) where
+  pub there_low : (v : X) → Normal v → IsTakenWritten (taken_there blank takes) d (n, field_data v) → suc (level v) ≤ d
   there_low v normal (number, fits, low, old, u, h) =
-      let t = some_mapped (λ (x : X). Some x) (takes d (or_blank blank old) n (wire_of (datum v)) (payload_encoding n (datum v))) u h in
+      let t = some_mapped (λ (x : X). Some x) (takes d (or_blank blank old) n (wire_of (field_data v)) (payload_encoding n (field_data v))) u h in
       one d n (or_blank blank old) v t.0 number fits low normal t.1
 
-  pub behind_low : (vs : List X) → AllByRecursion Normal vs → AllByRecursion (IsTakenWritten (taken_behind blank takes) d) (element_records datum n vs) → messages_levels level vs ≤ d
+  pub behind_low : (vs : List X) → AllByRecursion Normal vs → AllByRecursion (IsTakenWritten (taken_behind blank takes) d) (element_records field_data n vs) → messages_levels level vs ≤ d
   unfolding element_records
   behind_low [] normal h = omega arith
   behind_low (v ∷ vs) normal h =
       let put : List X → X → List X = λ old x. old ++ x ∷ [] in
       let (number, fits, low, old, u, taken) = h.0 in
-      let t = some_mapped (put old) (takes d blank n (wire_of (datum v)) (payload_encoding n (datum v))) u taken in
+      let t = some_mapped (put old) (takes d blank n (wire_of (field_data v)) (payload_encoding n (field_data v))) u taken in
       omega (arith, one d n blank v t.0 number fits low normal.0 t.1, behind_low vs normal.1 h.1)
 
-module _ {X : Type 0} (merged : ℕ → X → List ℕ → Option X) (blank : X) (encoding : X → List ℕ) (records : X → List (ℕ × Datum)) (Normal : X → Type 0) (level : X → ℕ) (exact : AreExactLevels merged encoding records Normal level) where
+module _ {X : Type 0} (merged : ℕ → X → List ℕ → Option X) (blank : X) (encoding : X → List ℕ) (records : X → List (ℕ × FieldData)) (Normal : X → Type 0) (level : X → ℕ) (exact : AreExactLevels merged encoding records Normal level) where
   -- what is merged one level down has one level less
   inside_low : (d : ℕ) (old v u : X) → FitsInside Normal records v → merged_in merged d old (encoding v) ≡ Some u → suc (level v) ≤ d
   inside_low zero old v u normal h = cc
@@ -134,7 +134,7 @@ module _ {X : Type 0} (merged : ℕ → X → List ℕ → Option X) (blank : X)
   ]
 
   -- ---- as a length and so many bytes
-  pub message_low : (d n : ℕ) (old v u : X) → IsNumber n → ReadableDatum (bytes (encoding v)) → datum_height (bytes (encoding v)) ≤ d → FitsInside Normal records v →
+  pub message_low : (d n : ℕ) (old v u : X) → IsNumber n → ReadableFieldData (bytes (encoding v)) → field_data_height (bytes (encoding v)) ≤ d → FitsInside Normal records v →
       message_merged merged d old n LengthDelimited (delimited_encoding (encoding v)) ≡ Some u → suc (level v) ≤ d
   unfolding message_merged
   message_low d n old v u number fits low normal h =
@@ -146,7 +146,7 @@ module _ {X : Type 0} (merged : ℕ → X → List ℕ → Option X) (blank : X)
 
   -- ---- as a group
   module _ (as_records : (v : X) → encoding v ≡ records_encoding (records v)) where
-    pub group_low : (d n : ℕ) (old v u : X) → IsNumber n → Readable (records_of (records v)) → datum_height (group_datum records v) ≤ d → Normal v →
+    pub group_low : (d n : ℕ) (old v u : X) → IsNumber n → Readable (records_of (records v)) → field_data_height (group_field_data records v) ≤ d → Normal v →
         group_merged merged d old n StartGroup (records_encoding (records v) ++ tag_encoding n EndGroup) ≡ Some u → suc (level v) ≤ d
     unfolding group_merged
     group_low zero n old v u number fits low normal h = absurd (omega (arith, low))
@@ -183,7 +183,7 @@ module _ {K V : Type 0} (key : Reading K) (val : Reading V) where
       by true is again = low
       by false is again = again (omega (arith, low, differs is))
 
-  pub kept_pair_low : (puts : List (K × V) → K → V → List (K × V)) (k d : ℕ) (x : Datum) → IsTakenWritten (kept_pair_taken key val puts) d (k, x) → aside_entry_levels key val x ≤ d
+  pub kept_pair_low : (puts : List (K × V) → K → V → List (K × V)) (k d : ℕ) (x : FieldData) → IsTakenWritten (kept_pair_taken key val puts) d (k, x) → unknown_entry_levels key val x ≤ d
   kept_pair_low puts k d (bytes e) (number, fits, low, old, u, h) =
       let s = entry_read (put_or_keep key val puts k) d k old u e fits h in
       first_low (length e) 0 d e (omega arith) (rw s.1 refl)
@@ -194,7 +194,7 @@ module _ {K V : Type 0} (key : Reading K) (val : Reading V) where
 
 -- ---- maps of messages
 module _ {K X : Type 0} (key : Reading K) (kw : Writing K) (same_key : kw.wire ≡ key.wire) (KeyOk : K → Type 0) (key_back : (d : ℕ) (v : K) → KeyOk v → IsReadBack key kw d v)
-    (merged : ℕ → X → List ℕ → Option X) (blank : X) (cost : ℕ → List ℕ → BudgetLeft) (encoding : X → List ℕ) (records : X → List (ℕ × Datum)) (Normal : X → Type 0) (level : X → ℕ) (exact : AreExactLevels merged encoding records Normal level) where
+    (merged : ℕ → X → List ℕ → Option X) (blank : X) (cost : ℕ → List ℕ → BudgetLeft) (encoding : X → List ℕ) (records : X → List (ℕ × FieldData)) (Normal : X → Type 0) (level : X → ℕ) (exact : AreExactLevels merged encoding records Normal level) where
   abbrev val : Reading X
   val = message_reading blank merged cost
 
@@ -209,7 +209,7 @@ module _ {K X : Type 0} (key : Reading K) (kw : Writing K) (same_key : kw.wire �
       let rest : List ℕ = tag_encoding 2 LengthDelimited ++ delimited_encoding (encoding p.1) in
       let back = key_back d p.0 ok in
       let first : IsTag (tag_encoding 1 kw.wire) 1 key.wire = subst (λ z. IsTag (tag_encoding 1 kw.wire) 1 z) same_key (is_tag 1 kw.wire (omega arith, omega arith)) in
-      let has : HasContent key.wire (kw.encoding p.0) back.1 = subst (λ z. HasContent z (kw.encoding p.0) back.1) same_key back.2 in
+      let has : HasPayloadValue key.wire (kw.encoding p.0) back.1 = subst (λ z. HasPayloadValue z (kw.encoding p.0) back.1) same_key back.2 in
       let s : MapEntry K X = record { key = p.0; value = blank; known = true } in (
         s,
         rest,
@@ -236,7 +236,7 @@ module _ {K X : Type 0} (key : Reading K) (kw : Writing K) (same_key : kw.wire �
             [],
             UnexpectedEof,
             (delimited_encoding (encoding p.1), (varint_encoding (length (encoding p.1)), IsVarint-varint_encoding (length (encoding p.1)) short, refl), sym (append-nil (delimited_encoding (encoding p.1)))),
-            ap meant none,
+            ap merged_value none,
             inl refl,
           ))))
 

@@ -12,7 +12,7 @@ use Rattle.buffa_wire.proofs.PassLemmas.{consumes_none, written_none}
 use Rattle.buffa_wire.specs.Records.{records_of}
 use Rattle.buffa_wire.specs.Encoding.{records_encoding}
 use Rattle.buffa_map.specs.Codec.{Reading, Writing}
-use Rattle.buffa_map.specs.EntryReading.{need_of}
+use Rattle.buffa_map.specs.EntryReading.{charge_of}
 use Rattle.buffa_map.specs.Pairs.{put}
 use Rattle.buffa_map.specs.Run.{EntryRecord, fold_entries, pair_entry}
 use Rattle.buffa_map.specs.Encoding.{AllHold, HasEncoding, entry_encoding, field_encoding, record_encoding}
@@ -23,7 +23,7 @@ use Rattle.buffa_wire.specs.Takes.{ReadsBack, Stays}
 use Rattle.buffa_map.proofs.BackLemmas.{IsReadBack, entry_back, fold_back}
 use Rattle.buffa_bytes.specs.Values.{delimited_encoding}
 use Rattle.buffa_fields.specs.facts.ValueFacts.{delimited_payload}
-use Rattle.buffa_fields.specs.facts.BackFacts.{all_back}
+use Rattle.buffa_fields.specs.facts.ReadBackFacts.{all_back}
 use Rattle.buffa_bytes.specs.Field.{Payload}
 
 -- ---- the encoding
@@ -37,7 +37,7 @@ map_has_encoding key val n (p ∷ ps) h = (h.1, map_has_encoding key val n ps h.
 
 -- what a pair costs is known by the payload
 pub map_stays : {K V : Type 0} (key : Reading K) (val : Reading V) (cost : ℕ) → Stays (pair_cost key val cost)
-map_stays key val cost = entry_stays (λ d e. need_of key val d cost e)
+map_stays key val cost = entry_stays (λ d e. charge_of key val d cost e)
 
 -- pairs of which no two have one key are put one behind the other
 module _ {K V : Type 0} (same : K → K → Bool) where

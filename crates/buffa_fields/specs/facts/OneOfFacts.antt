@@ -7,11 +7,11 @@ use Rattle.buffa_wire.specs.Parse.{AreValid}
 use Rattle.buffa_wire.specs.ReadableFacts.{Readable}
 use Rattle.buffa_wire.specs.Records.{records_of}
 use Rattle.buffa_wire.specs.Takes.{IsTaken, ReadsBack}
-use Rattle.buffa_fields.specs.facts.BackFacts.{no_pieces}
+use Rattle.buffa_fields.specs.facts.ReadBackFacts.{no_pieces}
 use Rattle.buffa_fields.specs.Cases.{Cases, CasesLaws, if_there}
-use Rattle.buffa_fields.specs.Keep.{AllNumbers}
-use Rattle.buffa_fields.specs.Layout.{Seen, more}
-use Rattle.buffa_fields.specs.facts.LayoutFacts.{more_none}
+use Rattle.buffa_fields.specs.UndeclaredFields.{AllNumbers}
+use Rattle.buffa_fields.specs.Schema.{Seen, more}
+use Rattle.buffa_fields.specs.facts.SchemaFacts.{more_none}
 use Rattle.buffa_fields.specs.Levels.{IsTakenWritten}
 use Rattle.buffa_fields.specs.facts.MemberPartFacts.{first_alone, first_back, first_of, none_mine}
 use Rattle.buffa_fields.specs.OneOfParts.{OneOf, one_of_part}
@@ -53,17 +53,17 @@ one_of_laws {M} get e =
       same_is = λ a b h. ap (λ o. c.meaning (option_map e.view o)) (sym h);
       seen_is = λ m z. there_seen c laws e.view (get m) z;
       taken_is = λ adds b u kept keeps S E d old n w bs before r new after rest mine same but h.
-          subst (λ z. IsTaken (first_of c.takes) c.need d (says old, b) n w bs before r (says new, z) after rest) (same h.1)
-          (part_taken c.takes c.need (first_of c.takes) c.need d n w (says old) (says old, b) (λ x. (x, b)) (λ x. refl) (λ x. refl) bs rest before after r (says new)
+          subst (λ z. IsTaken (first_of c.takes) c.charge d (says old, b) n w bs before r (says new, z) after rest) (same h.1)
+          (part_taken c.takes c.charge (first_of c.takes) c.charge d n w (says old) (says old, b) (λ x. (x, b)) (λ x. refl) (λ x. refl) bs rest before after r (says new)
           (laws.taken_is (λ o. option_map e.view o) d (get old) n w bs before r (get new) after rest mine h.0));
       asks_is = λ kept keeps d old n w bs before r new after rest mine h. laws.asks_is (λ o. option_map e.view o) d (get old) n w bs before r (get new) after rest mine h;
-      apart = λ adds b u none kept keeps S E d old n w bs before e new after rest same but h. same h.1;
+      differs_only = λ adds b u none kept keeps S E d old n w bs before e new after rest same but h. same h.1;
       others_low = λ v m kept. omega arith;
       valid = λ owes fine v normal. there_valid c laws owes fine v normal;
       back = λ owes fine adds none twice d v m kept b fits normal low. first_back c.takes c.mine d None v b _ (there_back c laws owes fine d v fits normal (omega (arith, low)));
       again = λ owes adds d v m kept beside low. none_mine c.mine _ kept beside;
       numbers = λ owes exact v. there_numbers c laws owes exact v;
-      least = λ owes exact fine {B} adds d v m kept normal beside low own aside.
+      least = λ owes exact fine {B} adds d v m kept normal beside low own unknowns.
           let mine = there_least c laws owes exact fine d v normal (first_alone B c.takes d (if_there [] c.records v) own) in
           omega (arith, mine, low);
     }

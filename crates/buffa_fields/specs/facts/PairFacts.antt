@@ -10,32 +10,32 @@ use Rattle.buffa_bytes.specs.declared.error.DecodeError.{DecodeError}
 use Rattle.buffa_bytes.specs.Number.{IsNumber}
 use Rattle.buffa_wire.specs.Parse.{Fits}
 use Rattle.buffa_wire.specs.ReadableFacts.{Readable}
-use Rattle.buffa_wire.specs.Records.{Datum, records_of}
+use Rattle.buffa_wire.specs.Records.{FieldData, records_of}
 use Rattle.buffa_wire.specs.Encoding.{records_encoding}
-use Rattle.buffa_wire.specs.Takes.{IsTaken, Leads, Need, Piece, ReadsBack, Stays, Taker, joined_fields}
+use Rattle.buffa_wire.specs.Takes.{IsTaken, Leads, Charge, Piece, ReadsBack, Stays, Taker, joined_fields}
 use Rattle.buffa_fields.specs.facts.BlankFacts.{same_false_only}
-use Rattle.buffa_fields.specs.Keep.{AllNumbers}
-use Rattle.buffa_fields.specs.Layout.{IsPutBehind, both_need, both_take, is_number}
+use Rattle.buffa_fields.specs.UndeclaredFields.{AllNumbers}
+use Rattle.buffa_fields.specs.Schema.{IsPutBehind, both_charge, both_take, is_number}
 use Rattle.buffa_wire.proofs.EncodingLemmas.{records_encoding-append}
 
 -- ---- records
-pub readable_both : (xs ys : List (ℕ × Datum)) → Readable (records_of (xs ++ ys)) → Readable (records_of xs) × Readable (records_of ys)
+pub readable_both : (xs ys : List (ℕ × FieldData)) → Readable (records_of (xs ++ ys)) → Readable (records_of xs) × Readable (records_of ys)
 readable_both [] ys h = (tt, h)
 readable_both (x ∷ xs) ys h = let k = readable_both xs ys h.2 in ((h.0, h.1, k.0), k.1)
 
-pub fits_both : (xs ys : List (ℕ × Datum)) → Fits (records_of (xs ++ ys)) → Fits (records_of xs) × Fits (records_of ys)
+pub fits_both : (xs ys : List (ℕ × FieldData)) → Fits (records_of (xs ++ ys)) → Fits (records_of xs) × Fits (records_of ys)
 fits_both [] ys h = (tt, h)
 fits_both (x ∷ xs) ys h = let k = fits_both xs ys h.1 in ((h.0, k.0), k.1)
 
 -- ---- costs
-pub either_stays : (mine : ℕ → Bool) (f g : Need) → Stays f → Stays g → Stays (λ d n w bs. if mine n then f d n w bs else g d n w bs)
+pub either_stays : (mine : ℕ → Bool) (f g : Charge) → Stays f → Stays g → Stays (λ d n w bs. if mine n then f d n w bs else g d n w bs)
 either_stays mine f g h j d n w p x payload = at (mine n)
   where
     at : (b : Bool) → (if b then f d n w (p ++ x) else g d n w (p ++ x)) ≡ (if b then f d n w p else g d n w p)
     at true = h d n w p x payload
     at false = j d n w p x payload
 
-pub both_stay : (k : ℕ) (f g : Need) → Stays f → Stays g → Stays (both_need k f g)
+pub both_stay : (k : ℕ) (f g : Charge) → Stays f → Stays g → Stays (both_charge k f g)
 both_stay k f g = either_stays (λ n. n == k) f g
 
 -- ---- encodings that read back
@@ -86,7 +86,7 @@ sound_parts k D sound ok =
     (number_of_test k one.0, same_false_only D one.1, two.1)
 
 -- encodings that read back, one behind the other
-pub joined_back : {X : Type 0} (T : Taker X) (P : ℕ → Bool) (d : ℕ) (s t u : X) (xs ys : List (ℕ × Datum)) (fs gs : List Piece) → records_encoding xs ≡ joined_fields fs → records_encoding ys ≡ joined_fields gs →
+pub joined_back : {X : Type 0} (T : Taker X) (P : ℕ → Bool) (d : ℕ) (s t u : X) (xs ys : List (ℕ × FieldData)) (fs gs : List Piece) → records_encoding xs ≡ joined_fields fs → records_encoding ys ≡ joined_fields gs →
     Leads T P d s fs t → Leads T P d t gs u → ReadsBack T P d s (records_encoding (xs ++ ys)) u
 joined_back T P d s t u xs ys fs gs is at h l = record {
   pieces = fs ++ gs;
@@ -94,7 +94,7 @@ joined_back T P d s t u xs ys fs gs is at h l = record {
   leads = leads_both T P d s t u fs gs h l;
 }
 
-pub both_back : {A B : Type 0} (k : ℕ) (f : Taker A) (g : Taker B) (D : ℕ → Bool) → D k ≡ false → (d : ℕ) (a v : A) (b u : B) (fr gr : List (ℕ × Datum)) →
+pub both_back : {A B : Type 0} (k : ℕ) (f : Taker A) (g : Taker B) (D : ℕ → Bool) → D k ≡ false → (d : ℕ) (a v : A) (b u : B) (fr gr : List (ℕ × FieldData)) →
     ReadsBack f (λ n. n == k) d a (records_encoding fr) v → ReadsBack g D d b (records_encoding gr) u →
     ReadsBack (both_take k f g) (λ n. n == k || D n) d (a, b) (records_encoding (fr ++ gr)) (v, u)
 both_back k f g D other d a v b u fr gr x y =
@@ -103,14 +103,14 @@ both_back k f g D other d a v b u fr gr x y =
     (others_lead (λ n. n == k) D (not_declared k D other) (both_take k f g) g (λ d a b u n w p off h. rw (off, h) refl) d v b u y.pieces y.leads)
 
 -- what is kept is put behind the others again
-pub both_again : {A B : Type 0} (k : ℕ) (f : Taker A) (g : Taker B) (adds : B → List (ℕ × Datum) → B) (d : ℕ) (ys : List (ℕ × Datum)) → AllNumbers (λ n. not (n == k)) ys → AllByRecursion (IsPutBehind g adds d) ys →
+pub both_again : {A B : Type 0} (k : ℕ) (f : Taker A) (g : Taker B) (adds : B → List (ℕ × FieldData) → B) (d : ℕ) (ys : List (ℕ × FieldData)) → AllNumbers (λ n. not (n == k)) ys → AllByRecursion (IsPutBehind g adds d) ys →
     AllByRecursion (IsPutBehind (both_take k f g) (λ v rs. (v.0, adds v.1 rs)) d) ys
 both_again k f g adds d [] other h = tt
 both_again k f g adds d (y ∷ ys) other h =
     (λ v p payload. rw (same_false_only (y.0 == k) other.0, h.0 v.1 p payload) refl, both_again k f g adds d ys other.1 h.1)
 
 -- ---- one field of several is merged
-module _ {A X : Type 0} (f : Taker A) (fn : Need) (T : Taker X) (N : Need) (d n : ℕ) (w : WireType) (a : A) (v : X) (set : A → X)
+module _ {A X : Type 0} (f : Taker A) (fn : Charge) (T : Taker X) (N : Charge) (d n : ℕ) (w : WireType) (a : A) (v : X) (set : A → X)
     (same : (p : List ℕ) → T d v n w p ≡ option_map set (f d a n w p)) (costs : (bs : List ℕ) → N d n w bs ≡ fn d n w bs) where
   pub part_taken : (bs rest : List ℕ) (before after : BudgetLeft) (r : Result (Unit {0}) DecodeError) (x : A) → IsTaken f fn d a n w bs before r x after rest →
       IsTaken T N d v n w bs before r (set x) after rest

@@ -2,20 +2,20 @@
 use Rattle.std.proofs.Common.{◌≡◌, inl, inr, ℕ, Bool, true, false, ◌||◌, List, [], ◌∷◌, ◌++◌, Result, Ok, Err, refl, sym, subst, ◌∙◌}
 use Rattle.std.proofs.lemmas.Bool.{or_left}
 use Rattle.std.specs.List.{AllByRecursion}
-use Rattle.buffa_bytes.specs.Front.{FullOnlyIf}
+use Rattle.buffa_bytes.specs.Readings.{FullOnlyIf}
 use Rattle.buffa_bytes.specs.declared.error.DecodeError.{DecodeError}
 use Rattle.buffa_bytes.specs.declared.wire_type.WireType.{WireType}
 use Rattle.buffa_wire.specs.BudgetLeft.{BudgetLeft, Lacks, Pays, PaysAtMost}
 use Rattle.buffa_wire.specs.Encoding.{payload_encoding, records_encoding, wire_of}
-use Rattle.buffa_wire.specs.Records.{Datum}
-use Rattle.buffa_wire.specs.Takes.{IsTaken, Leads, Need, Piece, ReadsBack, Taker}
-use Rattle.buffa_fields.specs.Aside.{Kept}
-use Rattle.buffa_fields.specs.Layout.{Choice, IsPutBehind, Layout}
+use Rattle.buffa_wire.specs.Records.{FieldData}
+use Rattle.buffa_wire.specs.Takes.{IsTaken, Leads, Charge, Piece, ReadsBack, Taker}
+use Rattle.buffa_fields.specs.Unknowns.{Kept}
+use Rattle.buffa_fields.specs.Schema.{Choice, IsPutBehind, Schema}
 use Rattle.buffa_fields.specs.facts.LevelFacts.{all_turn, front_holds}
-use Rattle.buffa_fields.specs.Keep.{AllNumbers}
+use Rattle.buffa_fields.specs.UndeclaredFields.{AllNumbers}
 use Rattle.buffa_fields.specs.Levels.{IsTakenWritten}
 use Rattle.buffa_fields.specs.facts.PairFacts.{joined_back, others_lead, part_taken}
-use Rattle.buffa_fields.specs.Parts.{Part, PartLaws, part_need, part_take}
+use Rattle.buffa_fields.specs.Parts.{Part, PartLaws, part_charge, part_take}
 
 abbrev answer : Type 0
 answer = Result (Unit {0}) DecodeError
@@ -61,7 +61,7 @@ module _ {A B : Type 0} (mine : ℕ → Bool) (D : ℕ → Bool) (other : (n : �
   mine_takes : (d : ℕ) (v : A × B) (n : ℕ) (w : WireType) (p : List ℕ) → mine n ≡ true → all d v n w p ≡ f d v n w p
   mine_takes d v n w p is = rw is refl
 
-  mine_one : (d : ℕ) (y : ℕ × Datum) → mine y.0 ≡ true → IsTakenWritten all d y → IsTakenWritten f d y
+  mine_one : (d : ℕ) (y : ℕ × FieldData) → mine y.0 ≡ true → IsTakenWritten all d y → IsTakenWritten f d y
   mine_one d y is (number, fits, low, v, u, h) = (number, fits, low, v, u, sym (mine_takes d v y.0 (wire_of y.1) (payload_encoding y.0 y.1) is) ∙ h)
 
   pub mine_kept : (d : ℕ) (ys : Kept) → AllByRecursion (λ y. declared y.0 ≡ true → IsTakenWritten all d y) ys → AllByRecursion (λ y. mine y.0 ≡ true → IsTakenWritten f d y) ys
@@ -72,7 +72,7 @@ module _ {A B : Type 0} (mine : ℕ → Bool) (D : ℕ → Bool) (other : (n : �
   mine_front d xs ys n h = all_turn (IsTakenWritten all d) (IsTakenWritten f d) mine (mine_one d) xs n (front_holds (IsTakenWritten all d) xs ys h)
 
 -- what takes a field alike takes it so, at the same cost
-module _ {X : Type 0} (f : Taker X) (fn : Need) (T : Taker X) (N : Need) (d n : ℕ) (w : WireType) (v : X) (same : (p : List ℕ) → T d v n w p ≡ f d v n w p) (costs : (bs : List ℕ) → N d n w bs ≡ fn d n w bs) where
+module _ {X : Type 0} (f : Taker X) (fn : Charge) (T : Taker X) (N : Charge) (d n : ℕ) (w : WireType) (v : X) (same : (p : List ℕ) → T d v n w p ≡ f d v n w p) (costs : (bs : List ℕ) → N d n w bs ≡ fn d n w bs) where
   pub taken_alike : (bs rest : List ℕ) (before after : BudgetLeft) (r : answer) (x : X) → IsTaken f fn d v n w bs before r x after rest → IsTaken T N d v n w bs before r x after rest
   taken_alike bs rest before after (Ok _) x (p, payload, split, h, pays) = (p, payload, split, same p ∙ h, subst (λ z. Pays before z after) (sym (costs bs)) pays)
   taken_alike bs rest before after (Err _) x (pays, why, full) = (
@@ -85,23 +85,23 @@ module _ {X : Type 0} (f : Taker X) (fn : Need) (T : Taker X) (N : Need) (d n : 
   )
 
 -- ---- a field is taken, by the part or by the others
-module _ {M A B : Type 0} (p : Part M A) (laws : PartLaws p) (l : Layout M B) (d : ℕ) (old : M) (n : ℕ) (w : WireType) (bs : List ℕ) (before : BudgetLeft) (r : answer) (new : M) (after : BudgetLeft) (rest : List ℕ) where
+module _ {M A B : Type 0} (p : Part M A) (laws : PartLaws p) (l : Schema M B) (d : ℕ) (old : M) (n : ℕ) (w : WireType) (bs : List ℕ) (before : BudgetLeft) (r : answer) (new : M) (after : BudgetLeft) (rest : List ℕ) where
   abbrev Own : Type 0
   Own = p.Took d old (l.kept (l.meaning old)) n w bs before r new (l.kept (l.meaning new)) after rest × p.Others l.Same l.SameBut old new
 
   abbrev Its : Type 0
   Its = p.Same old new × l.Taken d old n w bs before r new after rest
 
-  pub part_is_taken : Choice (p.mine n) Own Its → IsTaken (part_take p.mine (p.takes l.adds) l.takes) (part_need p.mine p.need l.need) d (p.meaning old, l.meaning old) n w bs before r (p.meaning new, l.meaning new) after rest
+  pub part_is_taken : Choice (p.mine n) Own Its → IsTaken (part_take p.mine (p.takes l.adds) l.takes) (part_charge p.mine p.charge l.charge) d (p.meaning old, l.meaning old) n w bs before r (p.meaning new, l.meaning new) after rest
   part_is_taken h = at (p.mine n) refl h
     where
-      at : (t : Bool) → p.mine n ≡ t → Choice t Own Its → IsTaken (part_take p.mine (p.takes l.adds) l.takes) (part_need p.mine p.need l.need) d (p.meaning old, l.meaning old) n w bs before r (p.meaning new, l.meaning new) after rest
+      at : (t : Bool) → p.mine n ≡ t → Choice t Own Its → IsTaken (part_take p.mine (p.takes l.adds) l.takes) (part_charge p.mine p.charge l.charge) d (p.meaning old, l.meaning old) n w bs before r (p.meaning new, l.meaning new) after rest
       at true is own =
-          taken_alike (p.takes l.adds) p.need (part_take p.mine (p.takes l.adds) l.takes) (part_need p.mine p.need l.need) d n w (p.meaning old, l.meaning old) (λ q. rw is refl) (λ x. rw is refl) bs rest before after r (p.meaning new, l.meaning new)
+          taken_alike (p.takes l.adds) p.charge (part_take p.mine (p.takes l.adds) l.takes) (part_charge p.mine p.charge l.charge) d n w (p.meaning old, l.meaning old) (λ q. rw is refl) (λ x. rw is refl) bs rest before after r (p.meaning new, l.meaning new)
           (laws.taken_is l.adds (l.meaning old) (l.meaning new) (l.kept (l.meaning old)) (l.kept (l.meaning new)) l.Same l.SameBut d old n w bs before r new after rest is (l.same_is old new) (λ h rs is. l.same_but old new rs h is) own)
       at false is its =
-          subst (λ z. IsTaken (part_take p.mine (p.takes l.adds) l.takes) (part_need p.mine p.need l.need) d (p.meaning old, l.meaning old) n w bs before r (z, l.meaning new) after rest) (laws.same_is old new its.0)
-          (part_taken l.takes l.need (part_take p.mine (p.takes l.adds) l.takes) (part_need p.mine p.need l.need) d n w (l.meaning old) (p.meaning old, l.meaning old) (λ y. (p.meaning old, y)) (λ q. rw is refl) (λ x. rw is refl) bs rest before after r (l.meaning new)
+          subst (λ z. IsTaken (part_take p.mine (p.takes l.adds) l.takes) (part_charge p.mine p.charge l.charge) d (p.meaning old, l.meaning old) n w bs before r (z, l.meaning new) after rest) (laws.same_is old new its.0)
+          (part_taken l.takes l.charge (part_take p.mine (p.takes l.adds) l.takes) (part_charge p.mine p.charge l.charge) d n w (l.meaning old) (p.meaning old, l.meaning old) (λ y. (p.meaning old, y)) (λ q. rw is refl) (λ x. rw is refl) bs rest before after r (l.meaning new)
           (l.taken_is d old n w bs before r new after rest its.1))
 
   pub part_asks : Choice (p.mine n) Own Its → FullOnlyIf r (Choice (p.mine n) (p.asks before.unknown d n w bs) (l.asks before.unknown d n w bs))
@@ -112,13 +112,13 @@ module _ {M A B : Type 0} (p : Part M A) (laws : PartLaws p) (l : Layout M B) (d
       at false is its = l.asks_is d old n w bs before r new after rest its.1
 
 -- a refused field changes its part alone
-pub part_apart : {M A B : Type 0} (p : Part M A) (laws : PartLaws p) (l : Layout M B) (d : ℕ) (old : M) (n : ℕ) (w : WireType) (bs : List ℕ) (before : BudgetLeft) (e : DecodeError) (new : M) (after : BudgetLeft) (rest : List ℕ) →
+pub part_differs_only_at : {M A B : Type 0} (p : Part M A) (laws : PartLaws p) (l : Schema M B) (d : ℕ) (old : M) (n : ℕ) (w : WireType) (bs : List ℕ) (before : BudgetLeft) (e : DecodeError) (new : M) (after : BudgetLeft) (rest : List ℕ) →
     Choice (p.mine n) (p.Took d old (l.kept (l.meaning old)) n w bs before (let r : answer = Err e in r) new (l.kept (l.meaning new)) after rest × p.Others l.Same l.SameBut old new) (p.Same old new × l.Taken d old n w bs before (let r : answer = Err e in r) new after rest) →
-    Choice (p.mine n) (l.meaning old ≡ l.meaning new) ((p.meaning old ≡ p.meaning new) × l.Apart n (l.meaning old) (l.meaning new))
-part_apart p laws l d old n w bs before e new after rest h = at (p.mine n) h
+    Choice (p.mine n) (l.meaning old ≡ l.meaning new) ((p.meaning old ≡ p.meaning new) × l.DiffersOnlyAt n (l.meaning old) (l.meaning new))
+part_differs_only_at p laws l d old n w bs before e new after rest h = at (p.mine n) h
   where
     at : (t : Bool) → Choice t (p.Took d old (l.kept (l.meaning old)) n w bs before (let r : answer = Err e in r) new (l.kept (l.meaning new)) after rest × p.Others l.Same l.SameBut old new) (p.Same old new × l.Taken d old n w bs before (let r : answer = Err e in r) new after rest) →
-        Choice t (l.meaning old ≡ l.meaning new) ((p.meaning old ≡ p.meaning new) × l.Apart n (l.meaning old) (l.meaning new))
+        Choice t (l.meaning old ≡ l.meaning new) ((p.meaning old ≡ p.meaning new) × l.DiffersOnlyAt n (l.meaning old) (l.meaning new))
     at true own =
-        laws.apart l.adds (l.meaning old) (l.meaning new) (l.adds_none (l.meaning old)) (l.kept (l.meaning old)) (l.kept (l.meaning new)) l.Same l.SameBut d old n w bs before e new after rest (l.same_is old new) (λ h rs is. l.same_but old new rs h is) own
-    at false its = (laws.same_is old new its.0, l.apart d old n w bs before e new after rest its.1)
+        laws.differs_only l.adds (l.meaning old) (l.meaning new) (l.adds_none (l.meaning old)) (l.kept (l.meaning old)) (l.kept (l.meaning new)) l.Same l.SameBut d old n w bs before e new after rest (l.same_is old new) (λ h rs is. l.same_but old new rs h is) own
+    at false its = (laws.same_is old new its.0, l.differs_only d old n w bs before e new after rest its.1)

@@ -5,39 +5,39 @@ use Rattle.std.specs.List.{AllByRecursion}
 use Rattle.buffa_bytes.proofs.IntLemmas.{int32_below}
 use Rattle.buffa_bytes.specs.Number.{IsNumber}
 use Rattle.buffa_wire.specs.Enums.{Numbers}
-use Rattle.buffa_wire.specs.Parse.{AreValid, IsValidDatum}
-use Rattle.buffa_wire.specs.Records.{Datum, records_of, varint}
+use Rattle.buffa_wire.specs.Parse.{AreValid, IsValidFieldData}
+use Rattle.buffa_wire.specs.Records.{FieldData, records_of, varint}
 use Rattle.buffa_map.specs.Codec.{Writing}
 use Rattle.buffa_map.specs.Enums.{ClosedFits}
 use Rattle.buffa_map.specs.Scalars.{delimited_writing}
 use Rattle.buffa_fields.specs.Lists.{element_records, packed_records}
 use Rattle.buffa_fields.specs.MapFields.{entry_records, map_records}
-use Rattle.buffa_fields.specs.MemberRecords.{optional_records, plain_records}
-use Rattle.buffa_fields.specs.NestedMaps.{pair_records}
+use Rattle.buffa_fields.specs.MemberRecords.{explicit_records, implicit_records}
+use Rattle.buffa_fields.specs.MapsOfMessages.{pair_records}
 use Rattle.buffa_fields.specs.Values.{IfThere, records_unless}
 
 -- ---- a record for each value, where the data of values are in range
-module _ {V : Type 0} (datum : V → Datum) (Ok : V → Type 0) (one : (v : V) → Ok v → IsValidDatum (datum v)) (k : ℕ) (number : IsNumber k) where
-  pub plain_valid : (test : V → Bool) (v : V) → Ok v → AreValid (records_of (plain_records test datum k v))
-  unfolding plain_records
-  plain_valid test v ok = by (test v)
+module _ {V : Type 0} (field_data : V → FieldData) (Ok : V → Type 0) (one : (v : V) → Ok v → IsValidFieldData (field_data v)) (k : ℕ) (number : IsNumber k) where
+  pub implicit_valid : (test : V → Bool) (v : V) → Ok v → AreValid (records_of (implicit_records test field_data k v))
+  unfolding implicit_records
+  implicit_valid test v ok = by (test v)
     where
-      by : (t : Bool) → AreValid (records_of (records_unless t ((k, datum v) ∷ [])))
+      by : (t : Bool) → AreValid (records_of (records_unless t ((k, field_data v) ∷ [])))
       by true = tt
       by false = (number, one v ok, tt)
 
-  pub optional_valid : (v : Option V) → IfThere Ok v → AreValid (records_of (optional_records datum k v))
-  unfolding optional_records
-  optional_valid None ok = tt
-  optional_valid (Some v) ok = (number, one v ok, tt)
+  pub explicit_valid : (v : Option V) → IfThere Ok v → AreValid (records_of (explicit_records field_data k v))
+  unfolding explicit_records
+  explicit_valid None ok = tt
+  explicit_valid (Some v) ok = (number, one v ok, tt)
 
-  pub element_valid : (vs : List V) → AllByRecursion Ok vs → AreValid (records_of (element_records datum k vs))
+  pub element_valid : (vs : List V) → AllByRecursion Ok vs → AreValid (records_of (element_records field_data k vs))
   unfolding element_records
   element_valid [] ok = tt
   element_valid (v ∷ vs) ok = (number, one v ok.0, element_valid vs ok.1)
 
 -- a number that a closed enum declares is in range
-pub number_valid : (e : Numbers) (v : ℤ) → ClosedFits e v × Unit {0} → IsValidDatum (varint (cast_unsigned w64 v))
+pub number_valid : (e : Numbers) (v : ℤ) → ClosedFits e v × Unit {0} → IsValidFieldData (varint (cast_unsigned w64 v))
 number_valid e v ok = int32_below v ok.0.0
 
 -- ---- records of bytes

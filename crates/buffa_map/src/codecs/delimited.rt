@@ -112,7 +112,7 @@ pub type Str = ProtoStringMap<String>;
 /// `bytes`: a `Vec<u8>`.
 ///
 /// ```ignore
-/// visitor.visit::<Plain<BytesVec>>(6, &self.blob);
+/// visitor.visit::<ImplicitField<BytesVec>>(6, &self.blob);
 /// ```
 pub type BytesVec = ProtoBytesMap<Vec<u8>>;
 

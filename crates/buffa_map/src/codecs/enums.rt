@@ -46,7 +46,7 @@ impl<E: Enumeration> MapValueDecode for ClosedEnum<E> {
 
     ghost reading = { closed_reading (numbers E.of_number E.blank_is) };
 
-    #[tactic(auto, unfolding(buffa_bytes::specs::Left::past_no_payload))]
+    #[tactic(auto, unfolding(buffa_bytes::specs::Unread::past_no_payload))]
     fn merge<B: Buf>(
         _alloc: Global,
         value: &mut E,
@@ -136,7 +136,7 @@ impl<E: Enumeration> MapValueDecode for OpenEnum<E> {
 
     ghost reading = { open_reading E.of_number };
 
-    #[tactic(auto, unfolding(buffa_bytes::specs::Left::past_no_payload))]
+    #[tactic(auto, unfolding(buffa_bytes::specs::Unread::past_no_payload))]
     fn merge<B: Buf>(
         _alloc: Global,
         value: &mut EnumValue<E>,

@@ -2,7 +2,7 @@
 
 ghost use Rattle.std.specs.Prelude.{false, refl, true};
 ghost use Rattle.std.proofs.Common.{Ok, ap};
-ghost use Rattle.buffa_bytes.specs.Content.Content.{number};
+ghost use Rattle.buffa_bytes.specs.PayloadValue.PayloadValue.{number};
 ghost use Rattle.buffa_map.specs.Scalars.{number_reading, number_writing};
 ghost use Rattle.buffa_map.specs.ScalarFacts.{always_known, never_faulty};
 

@@ -2,7 +2,7 @@
 use Rattle.std.proofs.Common.{◌≡◌, ℕ, zero, suc, ◌≤◌, ◌==◌, max, List, [], ◌∷◌, ◌++◌, length, Option, None, Result, Ok, Err, refl, subst, arith, if◌then◌else◌}
 use Rattle.std.specs.List.{AllByRecursion}
 use Rattle.std.specs.Option.{option_map}
-use Rattle.buffa_bytes.specs.Front.{delimited_at, same_wire}
+use Rattle.buffa_bytes.specs.Readings.{delimited_at, same_wire}
 use Rattle.buffa_bytes.specs.declared.error.DecodeError.{DecodeError}
 use Rattle.buffa_bytes.specs.declared.wire_type.WireType.TheVariants.{LengthDelimited}
 use Rattle.buffa_wire.specs.BudgetLeft.{BudgetLeft, nothing, plus, units}
@@ -15,18 +15,18 @@ use Rattle.buffa_wire.specs.Takes.{ReadsBack}
 use Rattle.buffa_fields.specs.Framing.{cost_as, each_cost_as, taken_as}
 use Rattle.buffa_fields.specs.facts.FramingFacts.{behind_back, behind_least, behind_valid, delimited_holds, there_back, there_least, there_valid}
 use Rattle.buffa_fields.specs.Framings.{delimited}
-use Rattle.buffa_fields.specs.Layout.{ReadsBackTo, Shape}
-use Rattle.buffa_fields.specs.facts.LevelKindFacts.{element_numbers, optional_numbers}
+use Rattle.buffa_fields.specs.Schema.{ReadsBackTo, Shape}
+use Rattle.buffa_fields.specs.facts.LevelKindFacts.{element_numbers, explicit_numbers}
 use Rattle.buffa_fields.specs.Lists.{element_records}
-use Rattle.buffa_fields.specs.MemberRecords.{optional_records}
-use Rattle.buffa_fields.specs.Nested.{FitsInside, inside, message_levels, message_slots, taken_there}
-use Rattle.buffa_fields.specs.RepeatedNested.{messages_levels, messages_slots}
+use Rattle.buffa_fields.specs.MemberRecords.{explicit_records}
+use Rattle.buffa_fields.specs.Submessages.{FitsInside, inside, message_levels, message_slots, taken_there}
+use Rattle.buffa_fields.specs.RepeatedMessages.{messages_levels, messages_slots}
 use Rattle.buffa_fields.specs.Values.{IfThere}
-use Rattle.buffa_recursive.specs.facts.TakenThroughFacts.{apart_back, apart_written}
-use Rattle.buffa_recursive.specs.MessageTree.{KnotList, Knot, Maybe, kid, children_height, knot_height, children_list, list_of-of_list, maybe_height, no_kid, nobody, of_list, of_list-list_of, of_option, of_option-option_of, option_of, option_of-of_option, somebody}
-use Rattle.buffa_recursive.specs.RecursiveLayout.{CostAlike, MergeAlike, SayAlike}
-use Rattle.buffa_recursive.specs.InnerMessages.{Words, as_other, encoding_by, list_shape, messages_by, child_shape}
-use Rattle.buffa_recursive.specs.TakenThrough.{taken_apart}
+use Rattle.buffa_recursive.specs.facts.TakenThroughFacts.{back_through, written_through}
+use Rattle.buffa_recursive.specs.MessageTree.{TreeList, MessageTree, Maybe, first_tree, children_height, tree_height, children_list, list_of-of_list, maybe_height, no_trees, no_tree, of_list, of_list-list_of, of_option, of_option-option_of, option_of, option_of-of_option, some_tree}
+use Rattle.buffa_recursive.specs.RecursiveSchema.{CostAlike, MergeAlike, SayAlike}
+use Rattle.buffa_recursive.specs.InnerMessages.{Semantics, as_other, encoding_by, list_shape, messages_by, child_shape}
+use Rattle.buffa_recursive.specs.TakenThrough.{taken_through}
 
 -- ---- a level down
 paid_alike : (c k : ℕ → List ℕ → BudgetLeft) (d : ℕ) → ((e : ℕ) → suc e ≡ d → c e ≡ k e) → (r : Result (List ℕ × List ℕ) DecodeError) → cost_of_payload c d r ≡ cost_of_payload k d r
@@ -34,10 +34,6 @@ paid_alike c k zero h (Ok p) = refl
 paid_alike c k (suc e) h (Ok p) = λ i. h e refl i p.0
 paid_alike c k zero h (Err e) = refl
 paid_alike c k (suc d) h (Err e) = refl
-
-cost_alike : (c k : ℕ → List ℕ → BudgetLeft) (d : ℕ) → ((e : ℕ) → suc e ≡ d → c e ≡ k e) → cost_as LengthDelimited (delimited.cost c) d ≡ cost_as LengthDelimited (delimited.cost k) d
-unfolding cost_as
-cost_alike c k d h = λ i n w bs. if same_wire LengthDelimited w then paid_alike c k d h (delimited_at bs) i else nothing
 
 each_cost_alike : (a b : ℕ) (c k : ℕ → List ℕ → BudgetLeft) (d : ℕ) → a ≡ b → ((e : ℕ) → suc e ≡ d → c e ≡ k e) → each_cost_as LengthDelimited a (delimited.cost c) d ≡ each_cost_as LengthDelimited b (delimited.cost k) d
 unfolding each_cost_as
@@ -62,58 +58,58 @@ module _ {A B : Type 0} (to : A → B) (from : B → A) (again : (a : A) → fro
   other_back = record {
     valid = λ k number b normal. back.valid k number (from b) normal;
     back = λ k number d b fits normal low.
-        subst (λ z. ReadsBack (taken_apart to from s.takes) (λ n. n == k) d (to s.blank) (records_encoding (s.records k (from b))) z) (whole b) (apart_back to from again s.takes d (λ n. n == k) s.blank (from b) _ (back.back k number d (from b) fits normal low));
+        subst (λ z. ReadsBack (taken_through to from s.takes) (λ n. n == k) d (to s.blank) (records_encoding (s.records k (from b))) z) (whole b) (back_through to from again s.takes d (λ n. n == k) s.blank (from b) _ (back.back k number d (from b) fits normal low));
     exact = λ exact. let one = back.exact exact in record {
       numbers = λ k b. one.numbers k (from b);
-      least = λ k d b normal h. one.least k d (from b) normal (apart_written to from s.takes d (s.records k (from b)) h);
+      least = λ k d b normal h. one.least k d (from b) normal (written_through to from s.takes d (s.records k (from b)) h);
     };
   }
 
-module _ {W : Type 0} (v w : Words (Knot W)) where
+module _ {W : Type 0} (v w : Semantics (MessageTree W)) where
   -- ---- lists
   pub list_takes_alike : (d : ℕ) → MergeAlike v w d → (as_other of_list children_list (list_shape v)).takes d ≡ (as_other of_list children_list (list_shape w)).takes d
   list_takes_alike d h =
       let alike = message_alike v.merged w.merged d h.1 in
       λ i ks n wire p. option_map of_list (option_map (λ x. children_list ks ++ x ∷ []) (alike i (h.0 i) n wire p))
 
-  pub list_cost_alike : (d : ℕ) → CostAlike v w d → (list_shape v).need d ≡ (list_shape w).need d
+  pub list_cost_alike : (d : ℕ) → CostAlike v w d → (list_shape v).charge d ≡ (list_shape w).charge d
   list_cost_alike d h = each_cost_alike v.each w.each v.cost w.cost d h.0 h.1
 
-  module _ (h : ℕ) (alike : (x : Knot W) → knot_height x ≤ h → SayAlike v w x) where
-    kids_records : (k : ℕ) (ks : KnotList W) → children_height ks ≤ h → element_records (λ x. bytes (encoding_by v x)) k (children_list ks) ≡ element_records (λ x. bytes (encoding_by w x)) k (children_list ks)
+  module _ (h : ℕ) (alike : (x : MessageTree W) → tree_height x ≤ h → SayAlike v w x) where
+    children_records : (k : ℕ) (ks : TreeList W) → children_height ks ≤ h → element_records (λ x. bytes (encoding_by v x)) k (children_list ks) ≡ element_records (λ x. bytes (encoding_by w x)) k (children_list ks)
     unfolding element_records
-    kids_records k no_kid low = refl
-    kids_records k (kid t ks) low =
+    children_records k no_trees low = refl
+    children_records k (first_tree t ks) low =
         let one = alike t (omega (arith, low)) in
-        let others = kids_records k ks (omega (arith, low)) in
+        let others = children_records k ks (omega (arith, low)) in
         λ i. (k, bytes (records_encoding (one.0 i))) ∷ others i
 
-    kids_slots : (ks : KnotList W) → children_height ks ≤ h → messages_slots (encoding_by v) v.slots (children_list ks) ≡ messages_slots (encoding_by w) w.slots (children_list ks)
+    children_slots : (ks : TreeList W) → children_height ks ≤ h → messages_slots (encoding_by v) v.slots (children_list ks) ≡ messages_slots (encoding_by w) w.slots (children_list ks)
     unfolding messages_slots
-    kids_slots no_kid low = refl
-    kids_slots (kid t ks) low =
+    children_slots no_trees low = refl
+    children_slots (first_tree t ks) low =
         let one = alike t (omega (arith, low)) in
-        let others = kids_slots ks (omega (arith, low)) in
+        let others = children_slots ks (omega (arith, low)) in
         λ i. (cap (length (records_encoding (one.0 i))) ∷ one.1 i) ++ others i
 
-    kids_levels : (ks : KnotList W) → children_height ks ≤ h → messages_levels v.levels (children_list ks) ≡ messages_levels w.levels (children_list ks)
-    kids_levels no_kid low = refl
-    kids_levels (kid t ks) low =
+    children_levels : (ks : TreeList W) → children_height ks ≤ h → messages_levels v.levels (children_list ks) ≡ messages_levels w.levels (children_list ks)
+    children_levels no_trees low = refl
+    children_levels (first_tree t ks) low =
         let one = alike t (omega (arith, low)) in
-        let others = kids_levels ks (omega (arith, low)) in
+        let others = children_levels ks (omega (arith, low)) in
         λ i. max (suc (one.2 i)) (others i)
 
-    kids_normal : (ks : KnotList W) → children_height ks ≤ h → AllByRecursion (FitsInside v.normal v.records) (children_list ks) → AllByRecursion (FitsInside w.normal w.records) (children_list ks)
-    kids_normal no_kid low normal = tt
-    kids_normal (kid t ks) low normal =
+    children_normal : (ks : TreeList W) → children_height ks ≤ h → AllByRecursion (FitsInside v.normal v.records) (children_list ks) → AllByRecursion (FitsInside w.normal w.records) (children_list ks)
+    children_normal no_trees low normal = tt
+    children_normal (first_tree t ks) low normal =
         let one = alike t (omega (arith, low)) in
-        ((one.3 normal.0.0, subst (λ rs. Fits (records_of rs)) one.0 normal.0.1), kids_normal ks (omega (arith, low)) normal.1)
+        ((one.3 normal.0.0, subst (λ rs. Fits (records_of rs)) one.0 normal.0.1), children_normal ks (omega (arith, low)) normal.1)
 
-  pub list_say_alike : (k h : ℕ) (ks : KnotList W) → children_height ks ≤ h → ((x : Knot W) → knot_height x ≤ h → SayAlike v w x) →
+  pub list_say_alike : (k h : ℕ) (ks : TreeList W) → children_height ks ≤ h → ((x : MessageTree W) → tree_height x ≤ h → SayAlike v w x) →
       (element_records (λ x. bytes (encoding_by v x)) k (children_list ks) ≡ element_records (λ x. bytes (encoding_by w x)) k (children_list ks))
       × (messages_slots (encoding_by v) v.slots (children_list ks) ≡ messages_slots (encoding_by w) w.slots (children_list ks)) × (messages_levels v.levels (children_list ks) ≡ messages_levels w.levels (children_list ks))
       × (AllByRecursion (FitsInside v.normal v.records) (children_list ks) → AllByRecursion (FitsInside w.normal w.records) (children_list ks))
-  list_say_alike k h ks low alike = (kids_records h alike k ks low, kids_slots h alike ks low, kids_levels h alike ks low, kids_normal h alike ks low)
+  list_say_alike k h ks low alike = (children_records h alike k ks low, children_slots h alike ks low, children_levels h alike ks low, children_normal h alike ks low)
 
   -- ---- one that may be there
   pub one_takes_alike : (d : ℕ) → MergeAlike v w d → (as_other of_option option_of (child_shape v)).takes d ≡ (as_other of_option option_of (child_shape w)).takes d
@@ -121,16 +117,16 @@ module _ {W : Type 0} (v w : Words (Knot W)) where
       let alike = message_alike v.merged w.merged d h.1 in
       λ i m n wire p. option_map of_option (taken_there (h.0 i) (λ d. alike i) d (option_of m) n wire p)
 
-  pub one_cost_alike : (d : ℕ) → CostAlike v w d → (child_shape v).need d ≡ (child_shape w).need d
-  one_cost_alike d h = cost_alike v.cost w.cost d h.1
+  pub one_cost_alike : (d : ℕ) → CostAlike v w d → (child_shape v).charge d ≡ (child_shape w).charge d
+  one_cost_alike d h = each_cost_alike v.each w.each v.cost w.cost d h.0 h.1
 
-  pub one_say_alike : (k h : ℕ) (m : Maybe W) → maybe_height m ≤ h → ((x : Knot W) → knot_height x ≤ h → SayAlike v w x) →
-      (optional_records (λ x. bytes (encoding_by v x)) k (option_of m) ≡ optional_records (λ x. bytes (encoding_by w x)) k (option_of m))
+  pub one_say_alike : (k h : ℕ) (m : Maybe W) → maybe_height m ≤ h → ((x : MessageTree W) → tree_height x ≤ h → SayAlike v w x) →
+      (explicit_records (λ x. bytes (encoding_by v x)) k (option_of m) ≡ explicit_records (λ x. bytes (encoding_by w x)) k (option_of m))
       × (message_slots (encoding_by v) v.slots (option_of m) ≡ message_slots (encoding_by w) w.slots (option_of m)) × (message_levels v.levels (option_of m) ≡ message_levels w.levels (option_of m))
       × (IfThere (FitsInside v.normal v.records) (option_of m) → IfThere (FitsInside w.normal w.records) (option_of m))
-  unfolding optional_records message_slots
-  one_say_alike k h nobody low alike = (refl, refl, refl, λ normal. normal)
-  one_say_alike k h (somebody t) low alike =
+  unfolding explicit_records message_slots
+  one_say_alike k h no_tree low alike = (refl, refl, refl, λ normal. normal)
+  one_say_alike k h (some_tree t) low alike =
       let one = alike t low in (
         λ i. (k, bytes (records_encoding (one.0 i))) ∷ [],
         λ i. cap (length (records_encoding (one.0 i))) ∷ one.1 i,
@@ -139,7 +135,7 @@ module _ {W : Type 0} (v w : Words (Knot W)) where
       )
 
 -- ---- they read back
-module _ {W : Type 0} (w : Words (Knot W)) where
+module _ {W : Type 0} (w : Semantics (MessageTree W)) where
   list_itself : ReadsBackTo (list_shape w)
   list_itself = record {
     valid = behind_valid delimited delimited_holds (messages_by w);
@@ -158,7 +154,7 @@ module _ {W : Type 0} (w : Words (Knot W)) where
     valid = there_valid delimited delimited_holds (messages_by w);
     back = there_back delimited delimited_holds (messages_by w);
     exact = λ exact. record {
-      numbers = optional_numbers (λ x. bytes (encoding_by w x));
+      numbers = explicit_numbers (λ x. bytes (encoding_by w x));
       least = there_least delimited delimited_holds (messages_by w) exact;
     };
   }

@@ -5,8 +5,8 @@ use Rattle.buffa_wire.specs.Cache.{Cache}
 use Rattle.buffa_wire.specs.Encoding.{records_encoding}
 use Rattle.buffa_wire.specs.Passes.{IsNext, IsSized, IsWritten}
 use Rattle.buffa_wire.specs.Pinned.{done, refusal}
-use Rattle.buffa_fields.specs.Layout.{Follow, IsCounted, IsPut, Seen, Shape, visited}
-use Rattle.buffa_fields.specs.facts.LayoutFacts.{counted_err, counted_none, failed, follow_rest, is_counted, is_put, put_none, sum}
+use Rattle.buffa_fields.specs.Schema.{Follow, IsCounted, IsPut, Seen, Shape, visited}
+use Rattle.buffa_fields.specs.facts.SchemaFacts.{counted_err, counted_none, failed, follow_rest, is_counted, is_put, put_none, sum}
 use Rattle.buffa_recursive.specs.InnerMessages.{as_other}
 
 -- a member that is told as a value of A, and seen as one of B

@@ -1,12 +1,12 @@
 //! google.protobuf.Any, made of google/protobuf/any.proto by protoc-gen-buffa.
 
 ghost use Rattle.std.proofs.Common.{lit<, refl};
-ghost use Rattle.buffa_fields.specs.Terms.{field, keep};
+ghost use Rattle.buffa_fields.specs.Terms.{field, keep_unknown};
 
 use buffa_fields::map_codec::{BytesVec, Str};
 use buffa_fields::{
-    And3, Blank, DecodeContext, DecodeError, Fields, Formed, KeptFields, Listed, Listing, Member,
-    Plain, Tag, UnknownFields, Visitor, kept,
+    And3, Blank, DecodeContext, DecodeError, FieldByField, FieldsMeaning, ImplicitField, Member,
+    MessageFields, MessageImpl, Tag, UnknownFields, Unknowns, Visitor, unknown,
 };
 use std::alloc::Global;
 use std::string::String;
@@ -25,11 +25,11 @@ pub struct Any {
     /// The encoding of the message.
     pub value: Vec<u8>,
     /// The fields that aren't declared, in order.
-    pub rest: UnknownFields,
+    pub unknown_fields: UnknownFields,
 }
 
-impl Fields for Any {
-    type Meaning = And3<[u8; 0], [u8; 0], KeptFields>;
+impl MessageFields for Any {
+    type Meaning = And3<[u8; 0], [u8; 0], Unknowns>;
 
     const COST: usize = 72;
 
@@ -37,16 +37,16 @@ impl Fields for Any {
 
     ghost positive = { lit< tt };
 
-    ghost layout = { field 1 (λ m. m.type_url) ⟦<Plain<Str> as Member>⟧.shape (
-        field 2 (λ m. m.value) ⟦<Plain<BytesVec> as Member>⟧.shape (
-        keep (λ m. m.rest.records))) };
+    ghost schema = { field 1 (λ m. m.type_url) ⟦<ImplicitField<Str> as Member>⟧.shape (
+        field 2 (λ m. m.value) ⟦<ImplicitField<BytesVec> as Member>⟧.shape (
+        keep_unknown (λ m. m.unknown_fields.records))) };
 
     ghost sound = { refl };
 
     fn visit<V: Visitor>(&self, visitor: &mut V) {
-        visitor.visit::<Plain<Str>>(1, &self.type_url);
-        visitor.visit::<Plain<BytesVec>>(2, &self.value);
-        visitor.visit_kept(&self.rest);
+        visitor.visit::<ImplicitField<Str>>(1, &self.type_url);
+        visitor.visit::<ImplicitField<BytesVec>>(2, &self.value);
+        visitor.visit_unknown_fields(&self.unknown_fields);
     }
 
     fn take(
@@ -57,37 +57,37 @@ impl Fields for Any {
         ctx: DecodeContext<'_>,
     ) -> Result<(), DecodeError> {
         match tag.field_number() {
-            1 => Plain::<Str>::merge(&mut self.type_url, alloc, tag, buf, ctx),
-            2 => Plain::<BytesVec>::merge(&mut self.value, alloc, tag, buf, ctx),
-            _ => kept::keep(alloc, &mut self.rest, tag, buf, ctx),
+            1 => ImplicitField::<Str>::merge(&mut self.type_url, alloc, tag, buf, ctx),
+            2 => ImplicitField::<BytesVec>::merge(&mut self.value, alloc, tag, buf, ctx),
+            _ => unknown::keep(alloc, &mut self.unknown_fields, tag, buf, ctx),
         }
     }
 }
 
 impl Blank for Any {
-    type Meaning = <Any as Fields>::Meaning;
+    type Meaning = <Any as MessageFields>::Meaning;
 
-    ghost meaning = { ⟦<Any as Fields>⟧.layout.meaning };
+    ghost meaning = { ⟦<Any as MessageFields>⟧.schema.meaning };
 
-    ghost blank_is = { ⟦<Any as Fields>⟧.layout.blank };
+    ghost blank_is = { ⟦<Any as MessageFields>⟧.schema.blank };
 
     fn blank(alloc: Global) -> Any {
         Any {
             type_url: String::new(alloc),
             value: Vec::new(alloc),
-            rest: UnknownFields::new(alloc),
+            unknown_fields: UnknownFields::new(alloc),
         }
     }
 }
 
-impl Listing for Any {
+impl FieldsMeaning for Any {
     ghost means = { λ m. refl };
 
     ghost starts = { refl };
 }
 
-impl Formed for Any {
-    type Form = Listed;
+impl MessageImpl for Any {
+    type Impl = FieldByField;
 }
 
 const _: () = prove!(size_of::<Any>() <= Any::COST);

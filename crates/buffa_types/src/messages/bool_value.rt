@@ -1,12 +1,12 @@
 //! google.protobuf.BoolValue, made of google/protobuf/wrappers.proto by protoc-gen-buffa.
 
 ghost use Rattle.std.proofs.Common.{lit<, refl};
-ghost use Rattle.buffa_fields.specs.Terms.{field, keep};
+ghost use Rattle.buffa_fields.specs.Terms.{field, keep_unknown};
 
 use buffa_fields::map_codec::Bool;
 use buffa_fields::{
-    And, Blank, DecodeContext, DecodeError, Fields, Formed, KeptFields, Listed, Listing, Member,
-    Plain, Tag, UnknownFields, Visitor, kept,
+    And, Blank, DecodeContext, DecodeError, FieldByField, FieldsMeaning, ImplicitField, Member,
+    MessageFields, MessageImpl, Tag, UnknownFields, Unknowns, Visitor, unknown,
 };
 use std::alloc::Global;
 
@@ -20,11 +20,11 @@ pub struct BoolValue {
     /// The value.
     pub value: bool,
     /// The fields that aren't declared, in order.
-    pub rest: UnknownFields,
+    pub unknown_fields: UnknownFields,
 }
 
-impl Fields for BoolValue {
-    type Meaning = And<bool, KeptFields>;
+impl MessageFields for BoolValue {
+    type Meaning = And<bool, Unknowns>;
 
     const COST: usize = 32;
 
@@ -32,14 +32,14 @@ impl Fields for BoolValue {
 
     ghost positive = { lit< tt };
 
-    ghost layout = { field 1 (λ m. m.value) ⟦<Plain<Bool> as Member>⟧.shape (
-        keep (λ m. m.rest.records)) };
+    ghost schema = { field 1 (λ m. m.value) ⟦<ImplicitField<Bool> as Member>⟧.shape (
+        keep_unknown (λ m. m.unknown_fields.records)) };
 
     ghost sound = { refl };
 
     fn visit<V: Visitor>(&self, visitor: &mut V) {
-        visitor.visit::<Plain<Bool>>(1, &self.value);
-        visitor.visit_kept(&self.rest);
+        visitor.visit::<ImplicitField<Bool>>(1, &self.value);
+        visitor.visit_unknown_fields(&self.unknown_fields);
     }
 
     fn take(
@@ -50,35 +50,35 @@ impl Fields for BoolValue {
         ctx: DecodeContext<'_>,
     ) -> Result<(), DecodeError> {
         match tag.field_number() {
-            1 => Plain::<Bool>::merge(&mut self.value, alloc, tag, buf, ctx),
-            _ => kept::keep(alloc, &mut self.rest, tag, buf, ctx),
+            1 => ImplicitField::<Bool>::merge(&mut self.value, alloc, tag, buf, ctx),
+            _ => unknown::keep(alloc, &mut self.unknown_fields, tag, buf, ctx),
         }
     }
 }
 
 impl Blank for BoolValue {
-    type Meaning = <BoolValue as Fields>::Meaning;
+    type Meaning = <BoolValue as MessageFields>::Meaning;
 
-    ghost meaning = { ⟦<BoolValue as Fields>⟧.layout.meaning };
+    ghost meaning = { ⟦<BoolValue as MessageFields>⟧.schema.meaning };
 
-    ghost blank_is = { ⟦<BoolValue as Fields>⟧.layout.blank };
+    ghost blank_is = { ⟦<BoolValue as MessageFields>⟧.schema.blank };
 
     fn blank(alloc: Global) -> BoolValue {
         BoolValue {
             value: false,
-            rest: UnknownFields::new(alloc),
+            unknown_fields: UnknownFields::new(alloc),
         }
     }
 }
 
-impl Listing for BoolValue {
+impl FieldsMeaning for BoolValue {
     ghost means = { λ m. refl };
 
     ghost starts = { refl };
 }
 
-impl Formed for BoolValue {
-    type Form = Listed;
+impl MessageImpl for BoolValue {
+    type Impl = FieldByField;
 }
 
 const _: () = prove!(size_of::<BoolValue>() <= BoolValue::COST);

@@ -1,12 +1,12 @@
 //! google.protobuf.BytesValue, made of google/protobuf/wrappers.proto by protoc-gen-buffa.
 
 ghost use Rattle.std.proofs.Common.{lit<, refl};
-ghost use Rattle.buffa_fields.specs.Terms.{field, keep};
+ghost use Rattle.buffa_fields.specs.Terms.{field, keep_unknown};
 
 use buffa_fields::map_codec::BytesVec;
 use buffa_fields::{
-    And, Blank, DecodeContext, DecodeError, Fields, Formed, KeptFields, Listed, Listing, Member,
-    Plain, Tag, UnknownFields, Visitor, kept,
+    And, Blank, DecodeContext, DecodeError, FieldByField, FieldsMeaning, ImplicitField, Member,
+    MessageFields, MessageImpl, Tag, UnknownFields, Unknowns, Visitor, unknown,
 };
 use std::alloc::Global;
 
@@ -20,11 +20,11 @@ pub struct BytesValue {
     /// The value.
     pub value: Vec<u8>,
     /// The fields that aren't declared, in order.
-    pub rest: UnknownFields,
+    pub unknown_fields: UnknownFields,
 }
 
-impl Fields for BytesValue {
-    type Meaning = And<[u8; 0], KeptFields>;
+impl MessageFields for BytesValue {
+    type Meaning = And<[u8; 0], Unknowns>;
 
     const COST: usize = 48;
 
@@ -32,14 +32,14 @@ impl Fields for BytesValue {
 
     ghost positive = { lit< tt };
 
-    ghost layout = { field 1 (λ m. m.value) ⟦<Plain<BytesVec> as Member>⟧.shape (
-        keep (λ m. m.rest.records)) };
+    ghost schema = { field 1 (λ m. m.value) ⟦<ImplicitField<BytesVec> as Member>⟧.shape (
+        keep_unknown (λ m. m.unknown_fields.records)) };
 
     ghost sound = { refl };
 
     fn visit<V: Visitor>(&self, visitor: &mut V) {
-        visitor.visit::<Plain<BytesVec>>(1, &self.value);
-        visitor.visit_kept(&self.rest);
+        visitor.visit::<ImplicitField<BytesVec>>(1, &self.value);
+        visitor.visit_unknown_fields(&self.unknown_fields);
     }
 
     fn take(
@@ -50,35 +50,35 @@ impl Fields for BytesValue {
         ctx: DecodeContext<'_>,
     ) -> Result<(), DecodeError> {
         match tag.field_number() {
-            1 => Plain::<BytesVec>::merge(&mut self.value, alloc, tag, buf, ctx),
-            _ => kept::keep(alloc, &mut self.rest, tag, buf, ctx),
+            1 => ImplicitField::<BytesVec>::merge(&mut self.value, alloc, tag, buf, ctx),
+            _ => unknown::keep(alloc, &mut self.unknown_fields, tag, buf, ctx),
         }
     }
 }
 
 impl Blank for BytesValue {
-    type Meaning = <BytesValue as Fields>::Meaning;
+    type Meaning = <BytesValue as MessageFields>::Meaning;
 
-    ghost meaning = { ⟦<BytesValue as Fields>⟧.layout.meaning };
+    ghost meaning = { ⟦<BytesValue as MessageFields>⟧.schema.meaning };
 
-    ghost blank_is = { ⟦<BytesValue as Fields>⟧.layout.blank };
+    ghost blank_is = { ⟦<BytesValue as MessageFields>⟧.schema.blank };
 
     fn blank(alloc: Global) -> BytesValue {
         BytesValue {
             value: Vec::new(alloc),
-            rest: UnknownFields::new(alloc),
+            unknown_fields: UnknownFields::new(alloc),
         }
     }
 }
 
-impl Listing for BytesValue {
+impl FieldsMeaning for BytesValue {
     ghost means = { λ m. refl };
 
     ghost starts = { refl };
 }
 
-impl Formed for BytesValue {
-    type Form = Listed;
+impl MessageImpl for BytesValue {
+    type Impl = FieldByField;
 }
 
 const _: () = prove!(size_of::<BytesValue>() <= BytesValue::COST);

@@ -1,12 +1,12 @@
 //! google.protobuf.DoubleValue, made of google/protobuf/wrappers.proto by protoc-gen-buffa.
 
 ghost use Rattle.std.proofs.Common.{lit<, refl};
-ghost use Rattle.buffa_fields.specs.Terms.{field, keep};
+ghost use Rattle.buffa_fields.specs.Terms.{field, keep_unknown};
 
 use buffa_fields::map_codec::Double;
 use buffa_fields::{
-    And, Blank, DecodeContext, DecodeError, DoubleBits, Fields, Formed, KeptFields, Listed,
-    Listing, Member, Plain, Tag, UnknownFields, Visitor, kept,
+    And, Blank, DecodeContext, DecodeError, DoubleBits, FieldByField, FieldsMeaning, ImplicitField,
+    Member, MessageFields, MessageImpl, Tag, UnknownFields, Unknowns, Visitor, unknown,
 };
 use std::alloc::Global;
 
@@ -20,11 +20,11 @@ pub struct DoubleValue {
     /// The value.
     pub value: DoubleBits,
     /// The fields that aren't declared, in order.
-    pub rest: UnknownFields,
+    pub unknown_fields: UnknownFields,
 }
 
-impl Fields for DoubleValue {
-    type Meaning = And<u64, KeptFields>;
+impl MessageFields for DoubleValue {
+    type Meaning = And<u64, Unknowns>;
 
     const COST: usize = 32;
 
@@ -32,14 +32,14 @@ impl Fields for DoubleValue {
 
     ghost positive = { lit< tt };
 
-    ghost layout = { field 1 (λ m. m.value) ⟦<Plain<Double> as Member>⟧.shape (
-        keep (λ m. m.rest.records)) };
+    ghost schema = { field 1 (λ m. m.value) ⟦<ImplicitField<Double> as Member>⟧.shape (
+        keep_unknown (λ m. m.unknown_fields.records)) };
 
     ghost sound = { refl };
 
     fn visit<V: Visitor>(&self, visitor: &mut V) {
-        visitor.visit::<Plain<Double>>(1, &self.value);
-        visitor.visit_kept(&self.rest);
+        visitor.visit::<ImplicitField<Double>>(1, &self.value);
+        visitor.visit_unknown_fields(&self.unknown_fields);
     }
 
     fn take(
@@ -50,35 +50,35 @@ impl Fields for DoubleValue {
         ctx: DecodeContext<'_>,
     ) -> Result<(), DecodeError> {
         match tag.field_number() {
-            1 => Plain::<Double>::merge(&mut self.value, alloc, tag, buf, ctx),
-            _ => kept::keep(alloc, &mut self.rest, tag, buf, ctx),
+            1 => ImplicitField::<Double>::merge(&mut self.value, alloc, tag, buf, ctx),
+            _ => unknown::keep(alloc, &mut self.unknown_fields, tag, buf, ctx),
         }
     }
 }
 
 impl Blank for DoubleValue {
-    type Meaning = <DoubleValue as Fields>::Meaning;
+    type Meaning = <DoubleValue as MessageFields>::Meaning;
 
-    ghost meaning = { ⟦<DoubleValue as Fields>⟧.layout.meaning };
+    ghost meaning = { ⟦<DoubleValue as MessageFields>⟧.schema.meaning };
 
-    ghost blank_is = { ⟦<DoubleValue as Fields>⟧.layout.blank };
+    ghost blank_is = { ⟦<DoubleValue as MessageFields>⟧.schema.blank };
 
     fn blank(alloc: Global) -> DoubleValue {
         DoubleValue {
             value: DoubleBits { bits: 0 },
-            rest: UnknownFields::new(alloc),
+            unknown_fields: UnknownFields::new(alloc),
         }
     }
 }
 
-impl Listing for DoubleValue {
+impl FieldsMeaning for DoubleValue {
     ghost means = { λ m. refl };
 
     ghost starts = { refl };
 }
 
-impl Formed for DoubleValue {
-    type Form = Listed;
+impl MessageImpl for DoubleValue {
+    type Impl = FieldByField;
 }
 
 const _: () = prove!(size_of::<DoubleValue>() <= DoubleValue::COST);

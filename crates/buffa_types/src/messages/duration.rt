@@ -1,12 +1,12 @@
 //! google.protobuf.Duration, made of google/protobuf/duration.proto by protoc-gen-buffa.
 
 ghost use Rattle.std.proofs.Common.{lit<, refl};
-ghost use Rattle.buffa_fields.specs.Terms.{field, keep};
+ghost use Rattle.buffa_fields.specs.Terms.{field, keep_unknown};
 
 use buffa_fields::map_codec::{Int32, Int64};
 use buffa_fields::{
-    And3, Blank, DecodeContext, DecodeError, Fields, Formed, KeptFields, Listed, Listing, Member,
-    Plain, Tag, UnknownFields, Visitor, kept,
+    And3, Blank, DecodeContext, DecodeError, FieldByField, FieldsMeaning, ImplicitField, Member,
+    MessageFields, MessageImpl, Tag, UnknownFields, Unknowns, Visitor, unknown,
 };
 use std::alloc::Global;
 
@@ -23,11 +23,11 @@ pub struct Duration {
     /// The rest in nanoseconds, -999,999,999 to 999,999,999. Where neither it nor the seconds are 0 both have one sign.
     pub nanos: i32,
     /// The fields that aren't declared, in order.
-    pub rest: UnknownFields,
+    pub unknown_fields: UnknownFields,
 }
 
-impl Fields for Duration {
-    type Meaning = And3<i64, i32, KeptFields>;
+impl MessageFields for Duration {
+    type Meaning = And3<i64, i32, Unknowns>;
 
     const COST: usize = 40;
 
@@ -35,16 +35,16 @@ impl Fields for Duration {
 
     ghost positive = { lit< tt };
 
-    ghost layout = { field 1 (λ m. m.seconds) ⟦<Plain<Int64> as Member>⟧.shape (
-        field 2 (λ m. m.nanos) ⟦<Plain<Int32> as Member>⟧.shape (
-        keep (λ m. m.rest.records))) };
+    ghost schema = { field 1 (λ m. m.seconds) ⟦<ImplicitField<Int64> as Member>⟧.shape (
+        field 2 (λ m. m.nanos) ⟦<ImplicitField<Int32> as Member>⟧.shape (
+        keep_unknown (λ m. m.unknown_fields.records))) };
 
     ghost sound = { refl };
 
     fn visit<V: Visitor>(&self, visitor: &mut V) {
-        visitor.visit::<Plain<Int64>>(1, &self.seconds);
-        visitor.visit::<Plain<Int32>>(2, &self.nanos);
-        visitor.visit_kept(&self.rest);
+        visitor.visit::<ImplicitField<Int64>>(1, &self.seconds);
+        visitor.visit::<ImplicitField<Int32>>(2, &self.nanos);
+        visitor.visit_unknown_fields(&self.unknown_fields);
     }
 
     fn take(
@@ -55,37 +55,37 @@ impl Fields for Duration {
         ctx: DecodeContext<'_>,
     ) -> Result<(), DecodeError> {
         match tag.field_number() {
-            1 => Plain::<Int64>::merge(&mut self.seconds, alloc, tag, buf, ctx),
-            2 => Plain::<Int32>::merge(&mut self.nanos, alloc, tag, buf, ctx),
-            _ => kept::keep(alloc, &mut self.rest, tag, buf, ctx),
+            1 => ImplicitField::<Int64>::merge(&mut self.seconds, alloc, tag, buf, ctx),
+            2 => ImplicitField::<Int32>::merge(&mut self.nanos, alloc, tag, buf, ctx),
+            _ => unknown::keep(alloc, &mut self.unknown_fields, tag, buf, ctx),
         }
     }
 }
 
 impl Blank for Duration {
-    type Meaning = <Duration as Fields>::Meaning;
+    type Meaning = <Duration as MessageFields>::Meaning;
 
-    ghost meaning = { ⟦<Duration as Fields>⟧.layout.meaning };
+    ghost meaning = { ⟦<Duration as MessageFields>⟧.schema.meaning };
 
-    ghost blank_is = { ⟦<Duration as Fields>⟧.layout.blank };
+    ghost blank_is = { ⟦<Duration as MessageFields>⟧.schema.blank };
 
     fn blank(alloc: Global) -> Duration {
         Duration {
             seconds: 0,
             nanos: 0,
-            rest: UnknownFields::new(alloc),
+            unknown_fields: UnknownFields::new(alloc),
         }
     }
 }
 
-impl Listing for Duration {
+impl FieldsMeaning for Duration {
     ghost means = { λ m. refl };
 
     ghost starts = { refl };
 }
 
-impl Formed for Duration {
-    type Form = Listed;
+impl MessageImpl for Duration {
+    type Impl = FieldByField;
 }
 
 const _: () = prove!(size_of::<Duration>() <= Duration::COST);

@@ -1,11 +1,11 @@
 //! google.protobuf.Empty, made of google/protobuf/empty.proto by protoc-gen-buffa.
 
 ghost use Rattle.std.proofs.Common.{lit<, refl};
-ghost use Rattle.buffa_fields.specs.Terms.{keep};
+ghost use Rattle.buffa_fields.specs.Terms.{keep_unknown};
 
 use buffa_fields::{
-    Blank, DecodeContext, DecodeError, Fields, Formed, KeptFields, Listed, Listing, Tag,
-    UnknownFields, Visitor, kept,
+    Blank, DecodeContext, DecodeError, FieldByField, FieldsMeaning, MessageFields, MessageImpl,
+    Tag, UnknownFields, Unknowns, Visitor, unknown,
 };
 use std::alloc::Global;
 
@@ -16,11 +16,11 @@ use std::alloc::Global;
 #[derive(Debug, Drop)]
 pub struct Empty {
     /// The fields that aren't declared, in order.
-    pub rest: UnknownFields,
+    pub unknown_fields: UnknownFields,
 }
 
-impl Fields for Empty {
-    type Meaning = KeptFields;
+impl MessageFields for Empty {
+    type Meaning = Unknowns;
 
     const COST: usize = 24;
 
@@ -28,12 +28,12 @@ impl Fields for Empty {
 
     ghost positive = { lit< tt };
 
-    ghost layout = { keep (λ m. m.rest.records) };
+    ghost schema = { keep_unknown (λ m. m.unknown_fields.records) };
 
     ghost sound = { refl };
 
     fn visit<V: Visitor>(&self, visitor: &mut V) {
-        visitor.visit_kept(&self.rest);
+        visitor.visit_unknown_fields(&self.unknown_fields);
     }
 
     fn take(
@@ -43,32 +43,32 @@ impl Fields for Empty {
         buf: &mut &[u8],
         ctx: DecodeContext<'_>,
     ) -> Result<(), DecodeError> {
-        kept::keep(alloc, &mut self.rest, tag, buf, ctx)
+        unknown::keep(alloc, &mut self.unknown_fields, tag, buf, ctx)
     }
 }
 
 impl Blank for Empty {
-    type Meaning = <Empty as Fields>::Meaning;
+    type Meaning = <Empty as MessageFields>::Meaning;
 
-    ghost meaning = { ⟦<Empty as Fields>⟧.layout.meaning };
+    ghost meaning = { ⟦<Empty as MessageFields>⟧.schema.meaning };
 
-    ghost blank_is = { ⟦<Empty as Fields>⟧.layout.blank };
+    ghost blank_is = { ⟦<Empty as MessageFields>⟧.schema.blank };
 
     fn blank(alloc: Global) -> Empty {
         Empty {
-            rest: UnknownFields::new(alloc),
+            unknown_fields: UnknownFields::new(alloc),
         }
     }
 }
 
-impl Listing for Empty {
+impl FieldsMeaning for Empty {
     ghost means = { λ m. refl };
 
     ghost starts = { refl };
 }
 
-impl Formed for Empty {
-    type Form = Listed;
+impl MessageImpl for Empty {
+    type Impl = FieldByField;
 }
 
 const _: () = prove!(size_of::<Empty>() <= Empty::COST);

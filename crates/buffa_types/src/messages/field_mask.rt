@@ -1,12 +1,12 @@
 //! google.protobuf.FieldMask, made of google/protobuf/field_mask.proto by protoc-gen-buffa.
 
 ghost use Rattle.std.proofs.Common.{lit<, refl};
-ghost use Rattle.buffa_fields.specs.Terms.{field, keep};
+ghost use Rattle.buffa_fields.specs.Terms.{field, keep_unknown};
 
 use buffa_fields::map_codec::Str;
 use buffa_fields::{
-    And, Blank, DecodeContext, DecodeError, Fields, Formed, KeptFields, Listed, Listing, Member,
-    Repeated, Tag, UnknownFields, Visitor, kept,
+    And, Blank, DecodeContext, DecodeError, FieldByField, FieldsMeaning, Member, MessageFields,
+    MessageImpl, RepeatedField, Tag, UnknownFields, Unknowns, Visitor, unknown,
 };
 use std::alloc::Global;
 use std::string::String;
@@ -21,11 +21,11 @@ pub struct FieldMask {
     /// A path for each: the names of fields from the outermost one on, with a dot between them, such as `author.name`.
     pub paths: Vec<String>,
     /// The fields that aren't declared, in order.
-    pub rest: UnknownFields,
+    pub unknown_fields: UnknownFields,
 }
 
-impl Fields for FieldMask {
-    type Meaning = And<[[u8; 0]; 0], KeptFields>;
+impl MessageFields for FieldMask {
+    type Meaning = And<[[u8; 0]; 0], Unknowns>;
 
     const COST: usize = 48;
 
@@ -33,14 +33,14 @@ impl Fields for FieldMask {
 
     ghost positive = { lit< tt };
 
-    ghost layout = { field 1 (λ m. m.paths) ⟦<Repeated<Str> as Member>⟧.shape (
-        keep (λ m. m.rest.records)) };
+    ghost schema = { field 1 (λ m. m.paths) ⟦<RepeatedField<Str> as Member>⟧.shape (
+        keep_unknown (λ m. m.unknown_fields.records)) };
 
     ghost sound = { refl };
 
     fn visit<V: Visitor>(&self, visitor: &mut V) {
-        visitor.visit::<Repeated<Str>>(1, &self.paths);
-        visitor.visit_kept(&self.rest);
+        visitor.visit::<RepeatedField<Str>>(1, &self.paths);
+        visitor.visit_unknown_fields(&self.unknown_fields);
     }
 
     fn take(
@@ -51,35 +51,35 @@ impl Fields for FieldMask {
         ctx: DecodeContext<'_>,
     ) -> Result<(), DecodeError> {
         match tag.field_number() {
-            1 => Repeated::<Str>::merge(&mut self.paths, alloc, tag, buf, ctx),
-            _ => kept::keep(alloc, &mut self.rest, tag, buf, ctx),
+            1 => RepeatedField::<Str>::merge(&mut self.paths, alloc, tag, buf, ctx),
+            _ => unknown::keep(alloc, &mut self.unknown_fields, tag, buf, ctx),
         }
     }
 }
 
 impl Blank for FieldMask {
-    type Meaning = <FieldMask as Fields>::Meaning;
+    type Meaning = <FieldMask as MessageFields>::Meaning;
 
-    ghost meaning = { ⟦<FieldMask as Fields>⟧.layout.meaning };
+    ghost meaning = { ⟦<FieldMask as MessageFields>⟧.schema.meaning };
 
-    ghost blank_is = { ⟦<FieldMask as Fields>⟧.layout.blank };
+    ghost blank_is = { ⟦<FieldMask as MessageFields>⟧.schema.blank };
 
     fn blank(alloc: Global) -> FieldMask {
         FieldMask {
             paths: Vec::new(alloc),
-            rest: UnknownFields::new(alloc),
+            unknown_fields: UnknownFields::new(alloc),
         }
     }
 }
 
-impl Listing for FieldMask {
+impl FieldsMeaning for FieldMask {
     ghost means = { λ m. refl };
 
     ghost starts = { refl };
 }
 
-impl Formed for FieldMask {
-    type Form = Listed;
+impl MessageImpl for FieldMask {
+    type Impl = FieldByField;
 }
 
 const _: () = prove!(size_of::<FieldMask>() <= FieldMask::COST);

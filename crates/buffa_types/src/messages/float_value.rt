@@ -1,12 +1,12 @@
 //! google.protobuf.FloatValue, made of google/protobuf/wrappers.proto by protoc-gen-buffa.
 
 ghost use Rattle.std.proofs.Common.{lit<, refl};
-ghost use Rattle.buffa_fields.specs.Terms.{field, keep};
+ghost use Rattle.buffa_fields.specs.Terms.{field, keep_unknown};
 
 use buffa_fields::map_codec::Float;
 use buffa_fields::{
-    And, Blank, DecodeContext, DecodeError, Fields, FloatBits, Formed, KeptFields, Listed, Listing,
-    Member, Plain, Tag, UnknownFields, Visitor, kept,
+    And, Blank, DecodeContext, DecodeError, FieldByField, FieldsMeaning, FloatBits, ImplicitField,
+    Member, MessageFields, MessageImpl, Tag, UnknownFields, Unknowns, Visitor, unknown,
 };
 use std::alloc::Global;
 
@@ -20,11 +20,11 @@ pub struct FloatValue {
     /// The value.
     pub value: FloatBits,
     /// The fields that aren't declared, in order.
-    pub rest: UnknownFields,
+    pub unknown_fields: UnknownFields,
 }
 
-impl Fields for FloatValue {
-    type Meaning = And<u32, KeptFields>;
+impl MessageFields for FloatValue {
+    type Meaning = And<u32, Unknowns>;
 
     const COST: usize = 32;
 
@@ -32,14 +32,14 @@ impl Fields for FloatValue {
 
     ghost positive = { lit< tt };
 
-    ghost layout = { field 1 (λ m. m.value) ⟦<Plain<Float> as Member>⟧.shape (
-        keep (λ m. m.rest.records)) };
+    ghost schema = { field 1 (λ m. m.value) ⟦<ImplicitField<Float> as Member>⟧.shape (
+        keep_unknown (λ m. m.unknown_fields.records)) };
 
     ghost sound = { refl };
 
     fn visit<V: Visitor>(&self, visitor: &mut V) {
-        visitor.visit::<Plain<Float>>(1, &self.value);
-        visitor.visit_kept(&self.rest);
+        visitor.visit::<ImplicitField<Float>>(1, &self.value);
+        visitor.visit_unknown_fields(&self.unknown_fields);
     }
 
     fn take(
@@ -50,35 +50,35 @@ impl Fields for FloatValue {
         ctx: DecodeContext<'_>,
     ) -> Result<(), DecodeError> {
         match tag.field_number() {
-            1 => Plain::<Float>::merge(&mut self.value, alloc, tag, buf, ctx),
-            _ => kept::keep(alloc, &mut self.rest, tag, buf, ctx),
+            1 => ImplicitField::<Float>::merge(&mut self.value, alloc, tag, buf, ctx),
+            _ => unknown::keep(alloc, &mut self.unknown_fields, tag, buf, ctx),
         }
     }
 }
 
 impl Blank for FloatValue {
-    type Meaning = <FloatValue as Fields>::Meaning;
+    type Meaning = <FloatValue as MessageFields>::Meaning;
 
-    ghost meaning = { ⟦<FloatValue as Fields>⟧.layout.meaning };
+    ghost meaning = { ⟦<FloatValue as MessageFields>⟧.schema.meaning };
 
-    ghost blank_is = { ⟦<FloatValue as Fields>⟧.layout.blank };
+    ghost blank_is = { ⟦<FloatValue as MessageFields>⟧.schema.blank };
 
     fn blank(alloc: Global) -> FloatValue {
         FloatValue {
             value: FloatBits { bits: 0 },
-            rest: UnknownFields::new(alloc),
+            unknown_fields: UnknownFields::new(alloc),
         }
     }
 }
 
-impl Listing for FloatValue {
+impl FieldsMeaning for FloatValue {
     ghost means = { λ m. refl };
 
     ghost starts = { refl };
 }
 
-impl Formed for FloatValue {
-    type Form = Listed;
+impl MessageImpl for FloatValue {
+    type Impl = FieldByField;
 }
 
 const _: () = prove!(size_of::<FloatValue>() <= FloatValue::COST);

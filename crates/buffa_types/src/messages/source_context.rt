@@ -1,12 +1,12 @@
 //! google.protobuf.SourceContext, made of google/protobuf/source_context.proto by protoc-gen-buffa.
 
 ghost use Rattle.std.proofs.Common.{lit<, refl};
-ghost use Rattle.buffa_fields.specs.Terms.{field, keep};
+ghost use Rattle.buffa_fields.specs.Terms.{field, keep_unknown};
 
 use buffa_fields::map_codec::Str;
 use buffa_fields::{
-    And, Blank, DecodeContext, DecodeError, Fields, Formed, KeptFields, Listed, Listing, Member,
-    Plain, Tag, UnknownFields, Visitor, kept,
+    And, Blank, DecodeContext, DecodeError, FieldByField, FieldsMeaning, ImplicitField, Member,
+    MessageFields, MessageImpl, Tag, UnknownFields, Unknowns, Visitor, unknown,
 };
 use std::alloc::Global;
 use std::string::String;
@@ -21,11 +21,11 @@ pub struct SourceContext {
     /// The name of the .proto file, from the folder in which protoc looks for imports.
     pub file_name: String,
     /// The fields that aren't declared, in order.
-    pub rest: UnknownFields,
+    pub unknown_fields: UnknownFields,
 }
 
-impl Fields for SourceContext {
-    type Meaning = And<[u8; 0], KeptFields>;
+impl MessageFields for SourceContext {
+    type Meaning = And<[u8; 0], Unknowns>;
 
     const COST: usize = 48;
 
@@ -33,14 +33,14 @@ impl Fields for SourceContext {
 
     ghost positive = { lit< tt };
 
-    ghost layout = { field 1 (λ m. m.file_name) ⟦<Plain<Str> as Member>⟧.shape (
-        keep (λ m. m.rest.records)) };
+    ghost schema = { field 1 (λ m. m.file_name) ⟦<ImplicitField<Str> as Member>⟧.shape (
+        keep_unknown (λ m. m.unknown_fields.records)) };
 
     ghost sound = { refl };
 
     fn visit<V: Visitor>(&self, visitor: &mut V) {
-        visitor.visit::<Plain<Str>>(1, &self.file_name);
-        visitor.visit_kept(&self.rest);
+        visitor.visit::<ImplicitField<Str>>(1, &self.file_name);
+        visitor.visit_unknown_fields(&self.unknown_fields);
     }
 
     fn take(
@@ -51,35 +51,35 @@ impl Fields for SourceContext {
         ctx: DecodeContext<'_>,
     ) -> Result<(), DecodeError> {
         match tag.field_number() {
-            1 => Plain::<Str>::merge(&mut self.file_name, alloc, tag, buf, ctx),
-            _ => kept::keep(alloc, &mut self.rest, tag, buf, ctx),
+            1 => ImplicitField::<Str>::merge(&mut self.file_name, alloc, tag, buf, ctx),
+            _ => unknown::keep(alloc, &mut self.unknown_fields, tag, buf, ctx),
         }
     }
 }
 
 impl Blank for SourceContext {
-    type Meaning = <SourceContext as Fields>::Meaning;
+    type Meaning = <SourceContext as MessageFields>::Meaning;
 
-    ghost meaning = { ⟦<SourceContext as Fields>⟧.layout.meaning };
+    ghost meaning = { ⟦<SourceContext as MessageFields>⟧.schema.meaning };
 
-    ghost blank_is = { ⟦<SourceContext as Fields>⟧.layout.blank };
+    ghost blank_is = { ⟦<SourceContext as MessageFields>⟧.schema.blank };
 
     fn blank(alloc: Global) -> SourceContext {
         SourceContext {
             file_name: String::new(alloc),
-            rest: UnknownFields::new(alloc),
+            unknown_fields: UnknownFields::new(alloc),
         }
     }
 }
 
-impl Listing for SourceContext {
+impl FieldsMeaning for SourceContext {
     ghost means = { λ m. refl };
 
     ghost starts = { refl };
 }
 
-impl Formed for SourceContext {
-    type Form = Listed;
+impl MessageImpl for SourceContext {
+    type Impl = FieldByField;
 }
 
 const _: () = prove!(size_of::<SourceContext>() <= SourceContext::COST);

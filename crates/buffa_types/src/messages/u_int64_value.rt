@@ -1,12 +1,12 @@
 //! google.protobuf.UInt64Value, made of google/protobuf/wrappers.proto by protoc-gen-buffa.
 
 ghost use Rattle.std.proofs.Common.{lit<, refl};
-ghost use Rattle.buffa_fields.specs.Terms.{field, keep};
+ghost use Rattle.buffa_fields.specs.Terms.{field, keep_unknown};
 
 use buffa_fields::map_codec::Uint64;
 use buffa_fields::{
-    And, Blank, DecodeContext, DecodeError, Fields, Formed, KeptFields, Listed, Listing, Member,
-    Plain, Tag, UnknownFields, Visitor, kept,
+    And, Blank, DecodeContext, DecodeError, FieldByField, FieldsMeaning, ImplicitField, Member,
+    MessageFields, MessageImpl, Tag, UnknownFields, Unknowns, Visitor, unknown,
 };
 use std::alloc::Global;
 
@@ -20,11 +20,11 @@ pub struct UInt64Value {
     /// The value.
     pub value: u64,
     /// The fields that aren't declared, in order.
-    pub rest: UnknownFields,
+    pub unknown_fields: UnknownFields,
 }
 
-impl Fields for UInt64Value {
-    type Meaning = And<u64, KeptFields>;
+impl MessageFields for UInt64Value {
+    type Meaning = And<u64, Unknowns>;
 
     const COST: usize = 32;
 
@@ -32,14 +32,14 @@ impl Fields for UInt64Value {
 
     ghost positive = { lit< tt };
 
-    ghost layout = { field 1 (λ m. m.value) ⟦<Plain<Uint64> as Member>⟧.shape (
-        keep (λ m. m.rest.records)) };
+    ghost schema = { field 1 (λ m. m.value) ⟦<ImplicitField<Uint64> as Member>⟧.shape (
+        keep_unknown (λ m. m.unknown_fields.records)) };
 
     ghost sound = { refl };
 
     fn visit<V: Visitor>(&self, visitor: &mut V) {
-        visitor.visit::<Plain<Uint64>>(1, &self.value);
-        visitor.visit_kept(&self.rest);
+        visitor.visit::<ImplicitField<Uint64>>(1, &self.value);
+        visitor.visit_unknown_fields(&self.unknown_fields);
     }
 
     fn take(
@@ -50,35 +50,35 @@ impl Fields for UInt64Value {
         ctx: DecodeContext<'_>,
     ) -> Result<(), DecodeError> {
         match tag.field_number() {
-            1 => Plain::<Uint64>::merge(&mut self.value, alloc, tag, buf, ctx),
-            _ => kept::keep(alloc, &mut self.rest, tag, buf, ctx),
+            1 => ImplicitField::<Uint64>::merge(&mut self.value, alloc, tag, buf, ctx),
+            _ => unknown::keep(alloc, &mut self.unknown_fields, tag, buf, ctx),
         }
     }
 }
 
 impl Blank for UInt64Value {
-    type Meaning = <UInt64Value as Fields>::Meaning;
+    type Meaning = <UInt64Value as MessageFields>::Meaning;
 
-    ghost meaning = { ⟦<UInt64Value as Fields>⟧.layout.meaning };
+    ghost meaning = { ⟦<UInt64Value as MessageFields>⟧.schema.meaning };
 
-    ghost blank_is = { ⟦<UInt64Value as Fields>⟧.layout.blank };
+    ghost blank_is = { ⟦<UInt64Value as MessageFields>⟧.schema.blank };
 
     fn blank(alloc: Global) -> UInt64Value {
         UInt64Value {
             value: 0,
-            rest: UnknownFields::new(alloc),
+            unknown_fields: UnknownFields::new(alloc),
         }
     }
 }
 
-impl Listing for UInt64Value {
+impl FieldsMeaning for UInt64Value {
     ghost means = { λ m. refl };
 
     ghost starts = { refl };
 }
 
-impl Formed for UInt64Value {
-    type Form = Listed;
+impl MessageImpl for UInt64Value {
+    type Impl = FieldByField;
 }
 
 const _: () = prove!(size_of::<UInt64Value>() <= UInt64Value::COST);

@@ -190,7 +190,7 @@ impl Scalar for Uint64 {
 /// `sint32`: an `i32` as a varint of its zigzag; the low 32 bits are read.
 ///
 /// ```ignore
-/// visitor.visit::<Packed<Sint32>>(7, &self.steps);
+/// visitor.visit::<PackedField<Sint32>>(7, &self.steps);
 /// ```
 pub struct Sint32;
 

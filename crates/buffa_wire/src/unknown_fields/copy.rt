@@ -2,7 +2,7 @@
 
 ghost use Rattle.std.specs.Prelude.{◌≡◌, [], IfOk, IsOk};
 ghost use Rattle.buffa_wire.specs.Records.{IsEmpty, IsNumeric};
-ghost use Rattle.buffa_wire.specs.View.{datum_of, record_of};
+ghost use Rattle.buffa_wire.specs.View.{field_data_of, record_of};
 
 use crate::unknown_fields::{UnknownField, UnknownFieldData, UnknownFields};
 use std::alloc::AllocError;
@@ -19,8 +19,8 @@ impl UnknownField {
     #[cycle(copy)]
     pub fn copy(&self) -> Result<UnknownField, AllocError>
         ensures equal { IfOk result (λ f. record_of f ≡ record_of self.now) }
-        ensures number { IsNumeric (datum_of self.now.payload) → IsOk result }
-        ensures empty { IsEmpty (datum_of self.now.payload) → IsOk result }
+        ensures number { IsNumeric (field_data_of self.now.payload) → IsOk result }
+        ensures empty { IsEmpty (field_data_of self.now.payload) → IsOk result }
     {
         let payload = self.payload.copy()?;
         Ok(UnknownField {
@@ -34,9 +34,9 @@ impl UnknownFieldData {
     #[cycle(copy)]
     #[tactic(auto, using(crate::proofs::RecordLemmas::empty_records))]
     fn copy(&self) -> Result<UnknownFieldData, AllocError>
-        ensures equal { IfOk result (λ d. datum_of d ≡ datum_of self.now) }
-        ensures number { IsNumeric (datum_of self.now) → IsOk result }
-        ensures empty { IsEmpty (datum_of self.now) → IsOk result }
+        ensures equal { IfOk result (λ d. field_data_of d ≡ field_data_of self.now) }
+        ensures number { IsNumeric (field_data_of self.now) → IsOk result }
+        ensures empty { IsEmpty (field_data_of self.now) → IsOk result }
     {
         match self {
             UnknownFieldData::Varint(v) => Ok(UnknownFieldData::Varint(*v)),

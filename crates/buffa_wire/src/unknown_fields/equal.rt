@@ -1,8 +1,8 @@
 //! Equality of unknown fields: that of their records.
 
 ghost use Rattle.std.specs.Cmp.{partial_equiv_from_equiv, on_per, on_equiv};
-ghost use Rattle.buffa_wire.specs.Equal.{datum_eq, datum_eq_equiv, field_eq, field_eq_equiv, held_eq, held_eq_equiv};
-ghost use Rattle.buffa_wire.specs.View.{datum_of};
+ghost use Rattle.buffa_wire.specs.Equal.{field_data_eq, field_data_eq_equiv, field_eq, field_eq_equiv, held_eq, held_eq_equiv};
+ghost use Rattle.buffa_wire.specs.View.{field_data_of};
 
 use crate::unknown_fields::{UnknownField, UnknownFieldData, UnknownFields};
 
@@ -22,9 +22,9 @@ impl Eq for UnknownField {
 }
 
 impl PartialEq for UnknownFieldData {
-    ghost eq = { λ a b. datum_eq (datum_of a) (datum_of b) };
+    ghost eq = { λ a b. field_data_eq (field_data_of a) (field_data_of b) };
 
-    ghost laws = { on_per datum_of (partial_equiv_from_equiv datum_eq_equiv) };
+    ghost laws = { on_per field_data_of (partial_equiv_from_equiv field_data_eq_equiv) };
 
     #[cycle(equal)]
     fn eq(&self, other: &UnknownFieldData) -> bool {
@@ -54,7 +54,7 @@ impl PartialEq for UnknownFieldData {
 }
 
 impl Eq for UnknownFieldData {
-    ghost laws = { on_equiv datum_of datum_eq_equiv };
+    ghost laws = { on_equiv field_data_of field_data_eq_equiv };
 }
 
 impl PartialEq for UnknownFields {

@@ -4,7 +4,7 @@ ghost use Rattle.std.specs.Prelude.{◌≡◌, ◌+◌, ◌<◌, ◌≤◌, ℕ,
 ghost use Rattle.std.specs.Fn.{CalledAt};
 ghost use Rattle.std.specs.List.{filter};
 ghost use Rattle.std.specs.List.Retain.{IsFiltered};
-ghost use Rattle.buffa_wire.specs.Records.{Datum};
+ghost use Rattle.buffa_wire.specs.Records.{FieldData};
 ghost use Rattle.buffa_wire.specs.View.{AnswersRecords, CalledAtRecord, record_of, records_in};
 
 use crate::unknown_fields::{UnknownField, UnknownFields};
@@ -118,14 +118,14 @@ impl UnknownFields {
     /// once, in order. It takes no memory, and leaves no less spare capacity.
     ///
     /// ```ignore
-    /// info.rest.retain(|field| field.number != 9);
+    /// info.unknown_fields.retain(|field| field.number != 9);
     /// ```
     pub fn retain<F: FnMut(&UnknownField) -> bool>(&mut self, f: F)
     where
         F: Drop,
         requires { F.IsAlwaysCallable f }
         ensures calls { IsFiltered (CalledAtRecord (CalledAt F.FnMut)) f self.old.records self.new.records }
-        ensures records { (p : ℕ × Datum → Bool) → AnswersRecords (CalledAt F.FnMut) f p → self.new.records
+        ensures records { (p : ℕ × FieldData → Bool) → AnswersRecords (CalledAt F.FnMut) f p → self.new.records
             ≡ filter p self.old.records }
         ensures spare { self.old.spare ≤ self.new.spare }
     {

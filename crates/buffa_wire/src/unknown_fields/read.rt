@@ -1,12 +1,12 @@
 //! Reading unknown fields.
 
 ghost use Rattle.std.specs.Prelude.{◌≡◌, ◌≢◌, ◌+◌, ◌<◌, IfOk};
-ghost use Rattle.buffa_bytes.specs.Left.{LeavesUnlessFull, past_no_payload, IsTailOf, bytes_read};
-ghost use Rattle.buffa_bytes.specs.Front.{FullOnlyIf, GivesUnlessFull};
+ghost use Rattle.buffa_bytes.specs.Unread.{LeavesUnlessFull, past_no_payload, IsTailOf, bytes_read};
+ghost use Rattle.buffa_bytes.specs.Readings.{FullOnlyIf, GivesUnlessFull};
 ghost use Rattle.buffa_wire.specs.BudgetLeft.{UnknownTaken, UnknownsSpent, budget_left};
 ghost use Rattle.buffa_wire.specs.Records.{records_of};
 ghost use Rattle.buffa_wire.specs.RecordReading.{GroupRecordsTakeMemory, ListTakesMemory, PayloadTakesMemory, RecordTakesMemory, field_in, group_in, list_at, plain_at};
-ghost use Rattle.buffa_wire.specs.View.{datum_of};
+ghost use Rattle.buffa_wire.specs.View.{field_data_of};
 
 use crate::budget::{Budget, DEFAULT_UNKNOWN_FIELD_LIMIT};
 use crate::context::{DecodeContext, RECURSION_LIMIT};
@@ -25,7 +25,7 @@ fn decode_plain<B: Buf>(
 ) -> Result<UnknownFieldData, DecodeError>
     requires no_group { wire_type ≢ WireType.StartGroup }
     requires no_end { wire_type ≢ WireType.EndGroup }
-    ensures reads { GivesUnlessFull (λ d. (datum_of d, B.unread buf.new)) result
+    ensures reads { GivesUnlessFull (λ d. (field_data_of d, B.unread buf.new)) result
         (plain_at wire_type (B.unread buf.old)) }
     ensures full { FullOnlyIf result (PayloadTakesMemory (λ s bs. ⊥) 0 wire_type (B.unread buf.old)) }
     ensures left { LeavesUnlessFull result (past_no_payload wire_type (B.unread buf.old)) (B.unread buf.new) }
@@ -83,7 +83,7 @@ pub fn decode_unknown_field<B: Buf>(
 ) -> Result<UnknownField, DecodeError>
     // The payload, the unknown fields left and what is unread are what the field at the front says, or the error is its first
     // fault; or memory ran out.
-    ensures reads { GivesUnlessFull (λ f. (datum_of f.payload, (budget_left ctx.exit).unknown, B.unread buf.new)) result
+    ensures reads { GivesUnlessFull (λ f. (field_data_of f.payload, (budget_left ctx.exit).unknown, B.unread buf.new)) result
         (field_in ctx.entry tag.number tag.wire_type (B.unread buf.old)) }
     ensures full { FullOnlyIf result (RecordTakesMemory ctx.entry.depth ctx.entry.budget.now.unknown tag.wire_type
         (B.unread buf.old)) }

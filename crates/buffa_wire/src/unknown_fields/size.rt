@@ -2,7 +2,7 @@
 
 ghost use Rattle.std.specs.Prelude.{◌≡◌, ◌≤◌, length, min};
 ghost use Rattle.buffa_wire.specs.Encoding.{records_encoding, tagged_encoding, payload_encoding};
-ghost use Rattle.buffa_wire.specs.View.{datum_of};
+ghost use Rattle.buffa_wire.specs.View.{field_data_of};
 ghost use Rattle.buffa_bytes.specs.Values.{tag_encoding};
 ghost use Rattle.buffa_bytes.specs.Varint.{varint_encoding};
 
@@ -18,7 +18,7 @@ impl UnknownField {
     /// let len = field.encoded_len(); // 3 for 38 96 01
     /// ```
     pub fn encoded_len(&self) -> u64
-        ensures { result ≡ min (length (tagged_encoding self.now.number (datum_of self.now.payload))) 18446744073709551615 }
+        ensures { result ≡ min (length (tagged_encoding self.now.number (field_data_of self.now.payload))) 18446744073709551615 }
     {
         field_len(self.number, &self.payload)
     }
@@ -72,7 +72,7 @@ fn tag_len(number: u32, wire_type: WireType) -> u64
 #[cycle(size)]
 #[inline(always)]
 fn field_len(number: u32, payload: &UnknownFieldData) -> u64
-    ensures { result ≡ min (length (tagged_encoding number (datum_of payload.now))) 18446744073709551615 }
+    ensures { result ≡ min (length (tagged_encoding number (field_data_of payload.now))) 18446744073709551615 }
 {
     let tag = tag_len(number, payload.wire_type());
     match payload {
@@ -87,7 +87,7 @@ fn field_len(number: u32, payload: &UnknownFieldData) -> u64
 #[cycle(size)]
 #[inline(always)]
 fn payload_len(number: u32, payload: &UnknownFieldData) -> u64
-    ensures { result ≡ min (length (payload_encoding number (datum_of payload.now))) 18446744073709551615 }
+    ensures { result ≡ min (length (payload_encoding number (field_data_of payload.now))) 18446744073709551615 }
 {
     match payload {
         UnknownFieldData::Varint(v) => return number_len(*v),

@@ -2,7 +2,7 @@
 
 ghost use Rattle.std.specs.Prelude.{◌≡◌, ◌+◌, ◌*◌};
 ghost use Rattle.buffa_wire.specs.Encoding.{wire_of};
-ghost use Rattle.buffa_wire.specs.View.{datum_of};
+ghost use Rattle.buffa_wire.specs.View.{field_data_of};
 ghost use Rattle.buffa_bytes.specs.Number.{wire_number};
 
 use crate::unknown_fields::UnknownFieldData;
@@ -15,7 +15,7 @@ impl UnknownFieldData {
     /// let wire_type = payload.wire_type(); // WireType::Varint for UnknownFieldData::Varint(0)
     /// ```
     pub fn wire_type(&self) -> WireType
-        ensures { result ≡ wire_of (datum_of self.now) }
+        ensures { result ≡ wire_of (field_data_of self.now) }
     {
         match self {
             UnknownFieldData::Varint(_) => WireType::Varint,

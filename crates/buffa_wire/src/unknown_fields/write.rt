@@ -3,7 +3,7 @@
 ghost use Rattle.std.specs.Prelude.{◌++◌};
 ghost use Rattle.buffa_bytes.specs.Values.{tag_encoding};
 ghost use Rattle.buffa_wire.specs.Encoding.{records_encoding, tagged_encoding, write_outcome};
-ghost use Rattle.buffa_wire.specs.View.{datum_of};
+ghost use Rattle.buffa_wire.specs.View.{field_data_of};
 ghost use Rattle.buffa_bytes.specs.Written.{UsesRoom, Writes};
 
 use crate::short::{write_bytes, write_fixed32, write_fixed64, write_two};
@@ -20,12 +20,12 @@ impl UnknownField {
     /// ```ignore
     /// field.write_to(sink)?; // 38 96 01
     /// ```
-    #[tactic(auto, using(crate::proofs::EncodingLemmas::told_of, crate::proofs::EncodingLemmas::told_room))]
+    #[tactic(auto, using(crate::proofs::EncodingLemmas::reported_of, crate::proofs::EncodingLemmas::reported_room))]
     pub fn write_to<S: EncodeSink>(&self, sink: &mut S) -> Result<(), EncodeError>
         ensures writes { Writes result (S.written sink.old)
-            (tagged_encoding self.now.number (datum_of self.now.payload)) (S.written sink.new) }
+            (tagged_encoding self.now.number (field_data_of self.now.payload)) (S.written sink.new) }
         ensures room { UsesRoom result (S.room sink.old)
-            (tagged_encoding self.now.number (datum_of self.now.payload)) (S.room sink.new) }
+            (tagged_encoding self.now.number (field_data_of self.now.payload)) (S.room sink.new) }
     {
         if !write_field(self.number, &self.payload, sink) {
             return Err(EncodeError::OutOfMemory);
@@ -66,11 +66,11 @@ impl UnknownFields {
 // Writes a field, and answers whether all of it was written: by a `bool`, since a `Result` is made in memory.
 #[cycle(write)]
 #[inline(always)]
-#[tactic(auto, using(crate::proofs::EncodingLemmas::told_of, crate::proofs::EncodingLemmas::told_room))]
+#[tactic(auto, using(crate::proofs::EncodingLemmas::reported_of, crate::proofs::EncodingLemmas::reported_room))]
 fn write_field<S: EncodeSink>(number: u32, payload: &UnknownFieldData, sink: &mut S) -> bool
-    ensures writes { Writes (write_outcome result) (S.written sink.old) (tagged_encoding number (datum_of payload.now))
+    ensures writes { Writes (write_outcome result) (S.written sink.old) (tagged_encoding number (field_data_of payload.now))
         (S.written sink.new) }
-    ensures room { UsesRoom (write_outcome result) (S.room sink.old) (tagged_encoding number (datum_of payload.now))
+    ensures room { UsesRoom (write_outcome result) (S.room sink.old) (tagged_encoding number (field_data_of payload.now))
         (S.room sink.new) }
 {
     match payload {
@@ -99,7 +99,7 @@ fn write_field<S: EncodeSink>(number: u32, payload: &UnknownFieldData, sink: &mu
 // field, which are shorter without it.
 #[cycle(write)]
 #[inline(never)]
-#[tactic(auto, using(buffa_bytes::proofs::SinkLemmas::writes_then, buffa_bytes::proofs::SinkLemmas::front_first, buffa_bytes::proofs::SinkLemmas::room_then, crate::proofs::EncodingLemmas::told_of, crate::proofs::EncodingLemmas::told_room))]
+#[tactic(auto, using(buffa_bytes::proofs::SinkLemmas::writes_then, buffa_bytes::proofs::SinkLemmas::front_first, buffa_bytes::proofs::SinkLemmas::room_then, crate::proofs::EncodingLemmas::reported_of, crate::proofs::EncodingLemmas::reported_room))]
 fn write_group<S: EncodeSink>(number: u32, group: &UnknownFields, sink: &mut S) -> bool
     ensures writes { Writes (write_outcome result) (S.written sink.old) (tag_encoding number WireType.StartGroup ++ (records_encoding group.now.records ++ tag_encoding number WireType.EndGroup))
         (S.written sink.new) }

@@ -23,7 +23,7 @@ impl Parted<AllScalars> for Explicit {
         parts.maybe(15, &self.fixed64);
         parts.maybe(16, &self.sfixed32);
         parts.maybe(536870911, &self.sfixed64);
-        parts.kept(&self.rest);
+        parts.kept(&self.unknown_fields);
     }
 }
 
@@ -76,7 +76,7 @@ impl Parted<AllScalars> for Joined {
         parts.list(16, self.fixed64.as_slice());
         parts.list(2047, self.sfixed32.as_slice());
         parts.list(2048, self.sfixed64.as_slice());
-        parts.kept(&self.rest);
+        parts.kept(&self.unknown_fields);
     }
 }
 

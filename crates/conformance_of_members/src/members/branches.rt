@@ -26,7 +26,7 @@ fn branch_word(alloc: Global, branch: &Branch, levels: u32) -> Result<String, Fa
     }
     let name = text_word(alloc, branch.name.as_str())?;
     let leaves = numbers_word(alloc, branch.leaves.as_slice())?;
-    let rest = records_word(alloc, &branch.rest)?;
+    let rest = records_word(alloc, &branch.unknown_fields)?;
     Ok(format!(in alloc; "({name}|[{leaves}]|[{branches}]|{rest})")?)
 }
 
@@ -45,6 +45,6 @@ impl<T> Parted<Branches<T>> for Branch {
         parts.value(1, &self.name);
         parts.list(2, self.leaves.as_slice());
         parts.list(3, self.branches.as_slice());
-        parts.kept(&self.rest);
+        parts.kept(&self.unknown_fields);
     }
 }

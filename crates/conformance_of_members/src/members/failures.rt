@@ -24,7 +24,7 @@ fn failure_word(alloc: Global, failure: &Failure, levels: u32) -> Result<String,
     };
     let reason = text_word(alloc, failure.reason.as_str())?;
     let lines = numbers_word(alloc, failure.lines.as_slice())?;
-    let rest = records_word(alloc, &failure.rest)?;
+    let rest = records_word(alloc, &failure.unknown_fields)?;
     Ok(format!(in alloc; "({reason}|{cause}|[{lines}]|{rest})")?)
 }
 
@@ -46,6 +46,6 @@ impl<T> Parted<Failures<T>> for Failure {
             None => parts.maybe::<Failure>(2, &None),
         }
         parts.list(3, self.lines.as_slice());
-        parts.kept(&self.rest);
+        parts.kept(&self.unknown_fields);
     }
 }

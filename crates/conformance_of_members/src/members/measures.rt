@@ -1,7 +1,7 @@
 // Measures and spots as words, behind whose members stands what their calls say; none is read of a word.
 
 use crate::members::Members;
-use buffa_fields::required::Required;
+use buffa_fields::messages::required::Required;
 use buffa_wire::Enumeration;
 use conformance_messages::{Parted, Parts, parted_word};
 use conformance_rows::fault::Fault;
@@ -59,7 +59,7 @@ impl Parted<Members> for Measure {
         parts.maybe(7, &self.spot);
         parts.list(8, self.nearby.as_slice());
         parts.maybe(9, &self.note);
-        parts.kept(&self.rest);
+        parts.kept(&self.unknown_fields);
     }
 }
 
@@ -81,7 +81,7 @@ impl Parted<Members> for Spot {
         parts.maybe(1, &self.latitude);
         parts.maybe(2, &self.longitude);
         parts.maybe(3, &self.height);
-        parts.kept(&self.rest);
+        parts.kept(&self.unknown_fields);
     }
 }
 

@@ -31,7 +31,7 @@ impl<T> Parted<Payments<T>> for Payment {
             _ => parts.maybe::<Transfer>(4, &None),
         }
         parts.value(5, &self.note);
-        parts.kept(&self.rest);
+        parts.kept(&self.unknown_fields);
     }
 }
 
@@ -49,7 +49,7 @@ impl<T> Parted<Payments<T>> for Transfer {
     fn parts(&self, parts: &mut Parts<Payments<T>>) {
         parts.value(1, &self.to);
         parts.value(2, &self.day);
-        parts.kept(&self.rest);
+        parts.kept(&self.unknown_fields);
     }
 }
 

@@ -42,7 +42,7 @@ fn settings_word(alloc: Global, settings: &Settings, levels: u32) -> Result<Stri
     let sections = with_commas(alloc, sections.as_slice())?;
     let value = text_word(alloc, settings.value.as_str())?;
     let ports = numbers_word(alloc, settings.ports.as_slice())?;
-    let rest = records_word(alloc, &settings.rest)?;
+    let rest = records_word(alloc, &settings.unknown_fields)?;
     Ok(format!(in alloc; "({value}|{{{sections}}}|[{ports}]|{rest})")?)
 }
 
@@ -61,6 +61,6 @@ impl<T> Parted<Sections<T>> for Settings {
         parts.value(1, &self.value);
         parts.map(2, &self.sections);
         parts.list(3, self.ports.as_slice());
-        parts.kept(&self.rest);
+        parts.kept(&self.unknown_fields);
     }
 }

@@ -58,7 +58,7 @@ impl Parted<Members> for Assorted {
         parts.map(6, &self.marks);
         parts.map(7, &self.states);
         parts.value(8, &self.shared);
-        parts.kept(&self.rest);
+        parts.kept(&self.unknown_fields);
     }
 }
 
@@ -95,7 +95,7 @@ impl Parted<Members> for Inventory {
         parts.value(2, &self.note);
         parts.maybe(3, &self.listed);
         parts.map(5, &self.counts);
-        parts.kept(&self.rest);
+        parts.kept(&self.unknown_fields);
     }
 }
 
@@ -114,7 +114,7 @@ impl Parted<Members> for Ledger {
         parts.map(1, &self.balances);
         parts.map(2, &self.pages);
         parts.map(3, &self.seals);
-        parts.kept(&self.rest);
+        parts.kept(&self.unknown_fields);
     }
 }
 
@@ -132,7 +132,7 @@ impl Parted<Members> for Load {
     fn parts(&self, parts: &mut Parts<Members>) {
         parts.maybe(1, &self.weight);
         parts.maybe(2, &self.mark);
-        parts.kept(&self.rest);
+        parts.kept(&self.unknown_fields);
     }
 }
 
@@ -183,7 +183,7 @@ impl Parted<Members> for Palette {
         parts.map(7, &self.ordered);
         parts.maybe(8, &self.swatch);
         parts.maybe(9, &self.patch);
-        parts.kept(&self.rest);
+        parts.kept(&self.unknown_fields);
     }
 }
 
@@ -253,7 +253,7 @@ impl Parted<Members> for Swatch {
     fn parts(&self, parts: &mut Parts<Members>) {
         parts.maybe(1, &self.shade);
         parts.list(2, self.others.as_slice());
-        parts.kept(&self.rest);
+        parts.kept(&self.unknown_fields);
     }
 }
 
@@ -299,7 +299,7 @@ impl Parted<Members> for Wagon {
         parts.list(11, self.tags.as_slice());
         parts.map(12, &self.counts);
         parts.map(13, &self.axles);
-        parts.kept(&self.rest);
+        parts.kept(&self.unknown_fields);
     }
 }
 

@@ -54,7 +54,7 @@ fn node_word(alloc: Global, node: &Node, levels: u32) -> Result<String, Fault> {
     }
     let scores = scores_word(alloc, &node.scores)?;
     let shades = shades_word(alloc, &node.shades)?;
-    let rest = records_word(alloc, &node.rest)?;
+    let rest = records_word(alloc, &node.unknown_fields)?;
     Ok(format!(in alloc; "({scores}|{children}|{shades}|{rest})")?)
 }
 

@@ -18,7 +18,7 @@ pub enum StorageName {
 #[derive(Clone, Copy)]
 pub enum Group {
     /// It reads entries or records from a buffer into a map, which stands in any storage.
-    Fields,
+    MessageFields,
     /// It reads a field, an Item or a number from a buffer.
     Items,
     /// It reads a payload from a buffer, into a value or a message.
@@ -58,7 +58,7 @@ fn is_among(call: &str, calls: &str) -> bool {
 /// The group of a call.
 pub fn group_of(call: &str) -> Group {
     if is_among(call, "entry unlisted run rewrite") {
-        Group::Fields
+        Group::MessageFields
     } else if is_among(call, "item unknown skip varint decode copy tag") {
         Group::Items
     } else if is_among(call, "payload merge-delimited") {
@@ -95,7 +95,7 @@ pub fn group_of(call: &str) -> Group {
 /// Whether a call reads from a buffer, however it lies.
 pub fn reads_a_buffer(call: &str) -> bool {
     match group_of(call) {
-        Group::Fields | Group::Items | Group::Values => true,
+        Group::MessageFields | Group::Items | Group::Values => true,
         _ => false,
     }
 }
@@ -108,7 +108,7 @@ pub fn reads_to_the_end(call: &str) -> bool {
 /// Whether each beginning of what a call accepts is whole, or cut off.
 pub fn reads_bytes(call: &str) -> bool {
     match group_of(call) {
-        Group::Fields | Group::Items | Group::AnyTypes | Group::Values => true,
+        Group::MessageFields | Group::Items | Group::AnyTypes | Group::Values => true,
         _ => reads_to_the_end(call) || is_among(call, "merge-field"),
     }
 }
@@ -116,7 +116,7 @@ pub fn reads_bytes(call: &str) -> bool {
 /// Whether a call reads into a map, whose pairs stand after a refusal, or into a value, which then stands.
 pub fn keeps_a_map(call: &str) -> bool {
     match group_of(call) {
-        Group::Fields | Group::AnyTypes => true,
+        Group::MessageFields | Group::AnyTypes => true,
         _ => is_among(call, "put payload"),
     }
 }
@@ -141,7 +141,7 @@ pub fn is_run_in(case: &Case<'_>, storage: StorageName) -> bool {
         return names.contains(name);
     }
     match group_of(case.call) {
-        Group::Fields | Group::Writes => true,
+        Group::MessageFields | Group::Writes => true,
         _ => storage == StorageName::Indexed,
     }
 }

@@ -1,12 +1,12 @@
 //! google.rpc.ErrorInfo, made of error_info.proto by protoc-gen-buffa.
 
 ghost use Rattle.std.proofs.Common.{lit<, refl};
-ghost use Rattle.buffa_fields.specs.Terms.{field, keep};
+ghost use Rattle.buffa_fields.specs.Terms.{field, keep_unknown};
 
 use buffa_fields::map_codec::{Map, Str};
 use buffa_fields::{
-    And, And4, Blank, DecodeContext, DecodeError, Fields, Formed, KeptFields, Listed, Listing,
-    MapOf, Member, Plain, Tag, UnknownFields, Visitor, kept,
+    And, And4, Blank, DecodeContext, DecodeError, FieldByField, FieldsMeaning, ImplicitField,
+    MapField, Member, MessageFields, MessageImpl, Tag, UnknownFields, Unknowns, Visitor, unknown,
 };
 use std::alloc::Global;
 use std::string::String;
@@ -27,11 +27,11 @@ pub struct ErrorInfo {
     /// Additional structured details about this error.
     pub metadata: Map<String, String>,
     /// The fields that aren't declared, in order.
-    pub rest: UnknownFields,
+    pub unknown_fields: UnknownFields,
 }
 
-impl Fields for ErrorInfo {
-    type Meaning = And4<[u8; 0], [u8; 0], [And<[u8; 0], [u8; 0]>; 0], KeptFields>;
+impl MessageFields for ErrorInfo {
+    type Meaning = And4<[u8; 0], [u8; 0], [And<[u8; 0], [u8; 0]>; 0], Unknowns>;
 
     const COST: usize = 184;
 
@@ -39,18 +39,18 @@ impl Fields for ErrorInfo {
 
     ghost positive = { lit< tt };
 
-    ghost layout = { field 1 (λ m. m.reason) ⟦<Plain<Str> as Member>⟧.shape (
-        field 2 (λ m. m.domain) ⟦<Plain<Str> as Member>⟧.shape (
-        field 3 (λ m. m.metadata) ⟦<MapOf<Str, Str> as Member>⟧.shape (
-        keep (λ m. m.rest.records)))) };
+    ghost schema = { field 1 (λ m. m.reason) ⟦<ImplicitField<Str> as Member>⟧.shape (
+        field 2 (λ m. m.domain) ⟦<ImplicitField<Str> as Member>⟧.shape (
+        field 3 (λ m. m.metadata) ⟦<MapField<Str, Str> as Member>⟧.shape (
+        keep_unknown (λ m. m.unknown_fields.records)))) };
 
     ghost sound = { refl };
 
     fn visit<V: Visitor>(&self, visitor: &mut V) {
-        visitor.visit::<Plain<Str>>(1, &self.reason);
-        visitor.visit::<Plain<Str>>(2, &self.domain);
-        visitor.visit::<MapOf<Str, Str>>(3, &self.metadata);
-        visitor.visit_kept(&self.rest);
+        visitor.visit::<ImplicitField<Str>>(1, &self.reason);
+        visitor.visit::<ImplicitField<Str>>(2, &self.domain);
+        visitor.visit::<MapField<Str, Str>>(3, &self.metadata);
+        visitor.visit_unknown_fields(&self.unknown_fields);
     }
 
     fn take(
@@ -61,39 +61,39 @@ impl Fields for ErrorInfo {
         ctx: DecodeContext<'_>,
     ) -> Result<(), DecodeError> {
         match tag.field_number() {
-            1 => Plain::<Str>::merge(&mut self.reason, alloc, tag, buf, ctx),
-            2 => Plain::<Str>::merge(&mut self.domain, alloc, tag, buf, ctx),
-            3 => MapOf::<Str, Str>::merge(&mut self.metadata, alloc, tag, buf, ctx),
-            _ => kept::keep(alloc, &mut self.rest, tag, buf, ctx),
+            1 => ImplicitField::<Str>::merge(&mut self.reason, alloc, tag, buf, ctx),
+            2 => ImplicitField::<Str>::merge(&mut self.domain, alloc, tag, buf, ctx),
+            3 => MapField::<Str, Str>::merge(&mut self.metadata, alloc, tag, buf, ctx),
+            _ => unknown::keep(alloc, &mut self.unknown_fields, tag, buf, ctx),
         }
     }
 }
 
 impl Blank for ErrorInfo {
-    type Meaning = <ErrorInfo as Fields>::Meaning;
+    type Meaning = <ErrorInfo as MessageFields>::Meaning;
 
-    ghost meaning = { ⟦<ErrorInfo as Fields>⟧.layout.meaning };
+    ghost meaning = { ⟦<ErrorInfo as MessageFields>⟧.schema.meaning };
 
-    ghost blank_is = { ⟦<ErrorInfo as Fields>⟧.layout.blank };
+    ghost blank_is = { ⟦<ErrorInfo as MessageFields>⟧.schema.blank };
 
     fn blank(alloc: Global) -> ErrorInfo {
         ErrorInfo {
             reason: String::new(alloc),
             domain: String::new(alloc),
             metadata: Map::new(alloc),
-            rest: UnknownFields::new(alloc),
+            unknown_fields: UnknownFields::new(alloc),
         }
     }
 }
 
-impl Listing for ErrorInfo {
+impl FieldsMeaning for ErrorInfo {
     ghost means = { λ m. refl };
 
     ghost starts = { refl };
 }
 
-impl Formed for ErrorInfo {
-    type Form = Listed;
+impl MessageImpl for ErrorInfo {
+    type Impl = FieldByField;
 }
 
 const _: () = prove!(size_of::<ErrorInfo>() <= ErrorInfo::COST);

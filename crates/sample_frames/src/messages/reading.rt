@@ -1,12 +1,12 @@
 //! buffa.sample.Reading, made of readings.proto by protoc-gen-buffa.
 
 ghost use Rattle.std.proofs.Common.{lit<, refl};
-ghost use Rattle.buffa_fields.specs.Terms.{field, keep};
+ghost use Rattle.buffa_fields.specs.Terms.{field, keep_unknown};
 
 use buffa_fields::map_codec::{Sint32, Str};
 use buffa_fields::{
-    And3, Blank, DecodeContext, DecodeError, Fields, Formed, KeptFields, Listed, Listing, Member,
-    Plain, Tag, UnknownFields, Visitor, kept,
+    And3, Blank, DecodeContext, DecodeError, FieldByField, FieldsMeaning, ImplicitField, Member,
+    MessageFields, MessageImpl, Tag, UnknownFields, Unknowns, Visitor, unknown,
 };
 use std::alloc::Global;
 use std::string::String;
@@ -24,11 +24,11 @@ pub struct Reading {
     /// What it measured, in thousandths of a degree.
     pub value: i32,
     /// The fields that aren't declared, in order.
-    pub rest: UnknownFields,
+    pub unknown_fields: UnknownFields,
 }
 
-impl Fields for Reading {
-    type Meaning = And3<[u8; 0], i32, KeptFields>;
+impl MessageFields for Reading {
+    type Meaning = And3<[u8; 0], i32, Unknowns>;
 
     const COST: usize = 56;
 
@@ -36,16 +36,16 @@ impl Fields for Reading {
 
     ghost positive = { lit< tt };
 
-    ghost layout = { field 1 (λ m. m.sensor) ⟦<Plain<Str> as Member>⟧.shape (
-        field 2 (λ m. m.value) ⟦<Plain<Sint32> as Member>⟧.shape (
-        keep (λ m. m.rest.records))) };
+    ghost schema = { field 1 (λ m. m.sensor) ⟦<ImplicitField<Str> as Member>⟧.shape (
+        field 2 (λ m. m.value) ⟦<ImplicitField<Sint32> as Member>⟧.shape (
+        keep_unknown (λ m. m.unknown_fields.records))) };
 
     ghost sound = { refl };
 
     fn visit<V: Visitor>(&self, visitor: &mut V) {
-        visitor.visit::<Plain<Str>>(1, &self.sensor);
-        visitor.visit::<Plain<Sint32>>(2, &self.value);
-        visitor.visit_kept(&self.rest);
+        visitor.visit::<ImplicitField<Str>>(1, &self.sensor);
+        visitor.visit::<ImplicitField<Sint32>>(2, &self.value);
+        visitor.visit_unknown_fields(&self.unknown_fields);
     }
 
     fn take(
@@ -56,37 +56,37 @@ impl Fields for Reading {
         ctx: DecodeContext<'_>,
     ) -> Result<(), DecodeError> {
         match tag.field_number() {
-            1 => Plain::<Str>::merge(&mut self.sensor, alloc, tag, buf, ctx),
-            2 => Plain::<Sint32>::merge(&mut self.value, alloc, tag, buf, ctx),
-            _ => kept::keep(alloc, &mut self.rest, tag, buf, ctx),
+            1 => ImplicitField::<Str>::merge(&mut self.sensor, alloc, tag, buf, ctx),
+            2 => ImplicitField::<Sint32>::merge(&mut self.value, alloc, tag, buf, ctx),
+            _ => unknown::keep(alloc, &mut self.unknown_fields, tag, buf, ctx),
         }
     }
 }
 
 impl Blank for Reading {
-    type Meaning = <Reading as Fields>::Meaning;
+    type Meaning = <Reading as MessageFields>::Meaning;
 
-    ghost meaning = { ⟦<Reading as Fields>⟧.layout.meaning };
+    ghost meaning = { ⟦<Reading as MessageFields>⟧.schema.meaning };
 
-    ghost blank_is = { ⟦<Reading as Fields>⟧.layout.blank };
+    ghost blank_is = { ⟦<Reading as MessageFields>⟧.schema.blank };
 
     fn blank(alloc: Global) -> Reading {
         Reading {
             sensor: String::new(alloc),
             value: 0,
-            rest: UnknownFields::new(alloc),
+            unknown_fields: UnknownFields::new(alloc),
         }
     }
 }
 
-impl Listing for Reading {
+impl FieldsMeaning for Reading {
     ghost means = { λ m. refl };
 
     ghost starts = { refl };
 }
 
-impl Formed for Reading {
-    type Form = Listed;
+impl MessageImpl for Reading {
+    type Impl = FieldByField;
 }
 
 const _: () = prove!(size_of::<Reading>() <= Reading::COST);

@@ -90,7 +90,7 @@ pub extern "C" fn payment_amount(alloc: Global, bytes: &[u8], value: &mut i32) -
     ensures answer { Checks
         (⟦<Payment as MessageSpec>⟧.merged RECURSION_LIMIT ⟦<Payment as Blank>⟧.blank_is bytes.now)
         (⟦<Payment as MessageSpec>⟧.cost RECURSION_LIMIT bytes.now) USUAL bytes.now result }
-    ensures told { TellsNumber (option_map (λ m. m.0)
+    ensures answered { TellsNumber (option_map (λ m. m.0)
         (⟦<Payment as MessageSpec>⟧.merged RECURSION_LIMIT ⟦<Payment as Blank>⟧.blank_is bytes.now))
         result value.old value.new }
 {
@@ -114,7 +114,7 @@ pub extern "C" fn payment_note(
     ensures answer { ChecksRoom
         (⟦<Payment as MessageSpec>⟧.merged RECURSION_LIMIT ⟦<Payment as Blank>⟧.blank_is bytes.now)
         (⟦<Payment as MessageSpec>⟧.cost RECURSION_LIMIT bytes.now) USUAL bytes.now result }
-    ensures told { CopiesBytes (option_map (λ m. m.1.1.0)
+    ensures answered { CopiesBytes (option_map (λ m. m.1.1.0)
         (⟦<Payment as MessageSpec>⟧.merged RECURSION_LIMIT ⟦<Payment as Blank>⟧.blank_is bytes.now))
         result out.old out.new written.new }
 {

@@ -95,7 +95,7 @@ pub extern "C" fn transfer_to(
     ensures answer { ChecksRoom
         (⟦<Transfer as MessageSpec>⟧.merged RECURSION_LIMIT ⟦<Transfer as Blank>⟧.blank_is bytes.now)
         (⟦<Transfer as MessageSpec>⟧.cost RECURSION_LIMIT bytes.now) USUAL bytes.now result }
-    ensures told { CopiesBytes (option_map (λ m. m.0)
+    ensures answered { CopiesBytes (option_map (λ m. m.0)
         (⟦<Transfer as MessageSpec>⟧.merged RECURSION_LIMIT ⟦<Transfer as Blank>⟧.blank_is bytes.now))
         result out.old out.new written.new }
 {
@@ -112,7 +112,7 @@ pub extern "C" fn transfer_day(alloc: Global, bytes: &[u8], value: &mut i32) -> 
     ensures answer { Checks
         (⟦<Transfer as MessageSpec>⟧.merged RECURSION_LIMIT ⟦<Transfer as Blank>⟧.blank_is bytes.now)
         (⟦<Transfer as MessageSpec>⟧.cost RECURSION_LIMIT bytes.now) USUAL bytes.now result }
-    ensures told { TellsNumber (option_map (λ m. m.1.0)
+    ensures answered { TellsNumber (option_map (λ m. m.1.0)
         (⟦<Transfer as MessageSpec>⟧.merged RECURSION_LIMIT ⟦<Transfer as Blank>⟧.blank_is bytes.now))
         result value.old value.new }
 {

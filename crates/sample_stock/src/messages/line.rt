@@ -1,12 +1,13 @@
 //! shop.Line, made of stock.proto by protoc-gen-buffa.
 
 ghost use Rattle.std.proofs.Common.{lit<, refl};
-ghost use Rattle.buffa_fields.specs.Terms.{field, keep};
+ghost use Rattle.buffa_fields.specs.Terms.{field, keep_unknown};
 
 use buffa_fields::map_codec::{Int32, Str};
 use buffa_fields::{
-    And3, Blank, DecodeContext, DecodeError, Fields, Formed, KeptFields, Listed, Listing, Member,
-    Optional, Plain, Tag, UnknownFields, Visitor, kept,
+    And3, Blank, DecodeContext, DecodeError, ExplicitField, FieldByField, FieldsMeaning,
+    ImplicitField, Member, MessageFields, MessageImpl, Tag, UnknownFields, Unknowns, Visitor,
+    unknown,
 };
 use std::alloc::Global;
 use std::string::String;
@@ -22,11 +23,11 @@ pub struct Line {
     pub good: String,
     pub count: Option<i32>,
     /// The fields that aren't declared, in order.
-    pub rest: UnknownFields,
+    pub unknown_fields: UnknownFields,
 }
 
-impl Fields for Line {
-    type Meaning = And3<[u8; 0], Option<i32>, KeptFields>;
+impl MessageFields for Line {
+    type Meaning = And3<[u8; 0], Option<i32>, Unknowns>;
 
     const COST: usize = 64;
 
@@ -34,16 +35,16 @@ impl Fields for Line {
 
     ghost positive = { lit< tt };
 
-    ghost layout = { field 1 (λ m. m.good) ⟦<Plain<Str> as Member>⟧.shape (
-        field 2 (λ m. m.count) ⟦<Optional<Int32> as Member>⟧.shape (
-        keep (λ m. m.rest.records))) };
+    ghost schema = { field 1 (λ m. m.good) ⟦<ImplicitField<Str> as Member>⟧.shape (
+        field 2 (λ m. m.count) ⟦<ExplicitField<Int32> as Member>⟧.shape (
+        keep_unknown (λ m. m.unknown_fields.records))) };
 
     ghost sound = { refl };
 
     fn visit<V: Visitor>(&self, visitor: &mut V) {
-        visitor.visit::<Plain<Str>>(1, &self.good);
-        visitor.visit::<Optional<Int32>>(2, &self.count);
-        visitor.visit_kept(&self.rest);
+        visitor.visit::<ImplicitField<Str>>(1, &self.good);
+        visitor.visit::<ExplicitField<Int32>>(2, &self.count);
+        visitor.visit_unknown_fields(&self.unknown_fields);
     }
 
     fn take(
@@ -54,37 +55,37 @@ impl Fields for Line {
         ctx: DecodeContext<'_>,
     ) -> Result<(), DecodeError> {
         match tag.field_number() {
-            1 => Plain::<Str>::merge(&mut self.good, alloc, tag, buf, ctx),
-            2 => Optional::<Int32>::merge(&mut self.count, alloc, tag, buf, ctx),
-            _ => kept::keep(alloc, &mut self.rest, tag, buf, ctx),
+            1 => ImplicitField::<Str>::merge(&mut self.good, alloc, tag, buf, ctx),
+            2 => ExplicitField::<Int32>::merge(&mut self.count, alloc, tag, buf, ctx),
+            _ => unknown::keep(alloc, &mut self.unknown_fields, tag, buf, ctx),
         }
     }
 }
 
 impl Blank for Line {
-    type Meaning = <Line as Fields>::Meaning;
+    type Meaning = <Line as MessageFields>::Meaning;
 
-    ghost meaning = { ⟦<Line as Fields>⟧.layout.meaning };
+    ghost meaning = { ⟦<Line as MessageFields>⟧.schema.meaning };
 
-    ghost blank_is = { ⟦<Line as Fields>⟧.layout.blank };
+    ghost blank_is = { ⟦<Line as MessageFields>⟧.schema.blank };
 
     fn blank(alloc: Global) -> Line {
         Line {
             good: String::new(alloc),
             count: None,
-            rest: UnknownFields::new(alloc),
+            unknown_fields: UnknownFields::new(alloc),
         }
     }
 }
 
-impl Listing for Line {
+impl FieldsMeaning for Line {
     ghost means = { λ m. refl };
 
     ghost starts = { refl };
 }
 
-impl Formed for Line {
-    type Form = Listed;
+impl MessageImpl for Line {
+    type Impl = FieldByField;
 }
 
 const _: () = prove!(size_of::<Line>() <= Line::COST);

@@ -1,15 +1,15 @@
 //! shop.Order, made of stock.proto by protoc-gen-buffa.
 
 ghost use Rattle.std.proofs.Common.{lit<, refl};
-ghost use Rattle.buffa_fields.specs.Terms.{field, keep};
+ghost use Rattle.buffa_fields.specs.Terms.{field, keep_unknown};
 
 use crate::messages::line::Line;
 use crate::messages::state::State;
 use buffa_fields::map_codec::{Map, OpenEnum, Str};
 use buffa_fields::{
-    And, And5, Blank, DecodeContext, DecodeError, EnumValue, Fields, Formed, KeptFields, Listed,
-    Listing, MapOfNested, Member, Optional, Plain, RepeatedNested, Tag, UnknownFields, Visitor,
-    kept,
+    And, And5, Blank, DecodeContext, DecodeError, EnumValue, ExplicitField, FieldByField,
+    FieldsMeaning, ImplicitField, Member, MessageFields, MessageImpl, MessageMapField,
+    RepeatedMessageField, Tag, UnknownFields, Unknowns, Visitor, unknown,
 };
 use std::alloc::Global;
 use std::string::String;
@@ -29,16 +29,16 @@ pub struct Order {
     pub lines: Vec<Line>,
     pub gifts: Map<String, Line>,
     /// The fields that aren't declared, in order.
-    pub rest: UnknownFields,
+    pub unknown_fields: UnknownFields,
 }
 
-impl Fields for Order {
+impl MessageFields for Order {
     type Meaning = And5<
         (bool, i32),
         Option<[u8; 0]>,
         [<Line as Blank>::Meaning; 0],
         [And<[u8; 0], <Line as Blank>::Meaning>; 0],
-        KeptFields,
+        Unknowns,
     >;
 
     const COST: usize = 200;
@@ -47,20 +47,20 @@ impl Fields for Order {
 
     ghost positive = { lit< tt };
 
-    ghost layout = { field 1 (λ m. m.state) ⟦<Plain<OpenEnum<State>> as Member>⟧.shape (
-        field 2 (λ m. m.note) ⟦<Optional<Str> as Member>⟧.shape (
-        field 3 (λ m. m.lines) ⟦<RepeatedNested<Line> as Member>⟧.shape (
-        field 4 (λ m. m.gifts) ⟦<MapOfNested<Str, Line> as Member>⟧.shape (
-        keep (λ m. m.rest.records))))) };
+    ghost schema = { field 1 (λ m. m.state) ⟦<ImplicitField<OpenEnum<State>> as Member>⟧.shape (
+        field 2 (λ m. m.note) ⟦<ExplicitField<Str> as Member>⟧.shape (
+        field 3 (λ m. m.lines) ⟦<RepeatedMessageField<Line> as Member>⟧.shape (
+        field 4 (λ m. m.gifts) ⟦<MessageMapField<Str, Line> as Member>⟧.shape (
+        keep_unknown (λ m. m.unknown_fields.records))))) };
 
     ghost sound = { refl };
 
     fn visit<V: Visitor>(&self, visitor: &mut V) {
-        visitor.visit::<Plain<OpenEnum<State>>>(1, &self.state);
-        visitor.visit::<Optional<Str>>(2, &self.note);
-        visitor.visit::<RepeatedNested<Line>>(3, &self.lines);
-        visitor.visit::<MapOfNested<Str, Line>>(4, &self.gifts);
-        visitor.visit_kept(&self.rest);
+        visitor.visit::<ImplicitField<OpenEnum<State>>>(1, &self.state);
+        visitor.visit::<ExplicitField<Str>>(2, &self.note);
+        visitor.visit::<RepeatedMessageField<Line>>(3, &self.lines);
+        visitor.visit::<MessageMapField<Str, Line>>(4, &self.gifts);
+        visitor.visit_unknown_fields(&self.unknown_fields);
     }
 
     fn take(
@@ -71,21 +71,21 @@ impl Fields for Order {
         ctx: DecodeContext<'_>,
     ) -> Result<(), DecodeError> {
         match tag.field_number() {
-            1 => Plain::<OpenEnum<State>>::merge(&mut self.state, alloc, tag, buf, ctx),
-            2 => Optional::<Str>::merge(&mut self.note, alloc, tag, buf, ctx),
-            3 => RepeatedNested::<Line>::merge(&mut self.lines, alloc, tag, buf, ctx),
-            4 => MapOfNested::<Str, Line>::merge(&mut self.gifts, alloc, tag, buf, ctx),
-            _ => kept::keep(alloc, &mut self.rest, tag, buf, ctx),
+            1 => ImplicitField::<OpenEnum<State>>::merge(&mut self.state, alloc, tag, buf, ctx),
+            2 => ExplicitField::<Str>::merge(&mut self.note, alloc, tag, buf, ctx),
+            3 => RepeatedMessageField::<Line>::merge(&mut self.lines, alloc, tag, buf, ctx),
+            4 => MessageMapField::<Str, Line>::merge(&mut self.gifts, alloc, tag, buf, ctx),
+            _ => unknown::keep(alloc, &mut self.unknown_fields, tag, buf, ctx),
         }
     }
 }
 
 impl Blank for Order {
-    type Meaning = <Order as Fields>::Meaning;
+    type Meaning = <Order as MessageFields>::Meaning;
 
-    ghost meaning = { ⟦<Order as Fields>⟧.layout.meaning };
+    ghost meaning = { ⟦<Order as MessageFields>⟧.schema.meaning };
 
-    ghost blank_is = { ⟦<Order as Fields>⟧.layout.blank };
+    ghost blank_is = { ⟦<Order as MessageFields>⟧.schema.blank };
 
     fn blank(alloc: Global) -> Order {
         Order {
@@ -93,19 +93,19 @@ impl Blank for Order {
             note: None,
             lines: Vec::new(alloc),
             gifts: Map::new(alloc),
-            rest: UnknownFields::new(alloc),
+            unknown_fields: UnknownFields::new(alloc),
         }
     }
 }
 
-impl Listing for Order {
+impl FieldsMeaning for Order {
     ghost means = { λ m. refl };
 
     ghost starts = { refl };
 }
 
-impl Formed for Order {
-    type Form = Listed;
+impl MessageImpl for Order {
+    type Impl = FieldByField;
 }
 
 const _: () = prove!(size_of::<Order>() <= Order::COST);

@@ -1,14 +1,16 @@
 //! shop.Place, made of stock.proto by protoc-gen-buffa.
 
 ghost use Rattle.std.proofs.Common.{lit<, refl};
-ghost use Rattle.buffa_recursive.specs.Terms.{keeps, knotted, list_inside, member};
+ghost use Rattle.buffa_recursive.specs.Terms.{keeps_unknown, list_inside, member, recursive_message};
 
 use buffa_fields::map_codec::Str;
 use buffa_fields::{
-    Blank, DecodeContext, DecodeError, Formed, Member, Plain, Tag, UnknownFields, kept,
+    Blank, DecodeContext, DecodeError, ImplicitField, Member, MessageImpl, Tag, UnknownFields,
+    unknown,
 };
 use buffa_recursive::{
-    Laid, SelfFields, SelfListed, SelfListing, SelfMerger, SelfVisitor, take_list,
+    InnerMerger, RecursiveFieldByField, RecursiveFields, RecursiveMeaning, RecursiveType,
+    RecursiveVisitor, take_list,
 };
 use std::alloc::Global;
 use std::marker::Model;
@@ -25,51 +27,51 @@ pub struct Place {
     pub name: String,
     pub places: Vec<Place>,
     /// The fields that aren't declared, in order.
-    pub rest: UnknownFields,
+    pub unknown_fields: UnknownFields,
 }
 
 impl Model for Place {
     ghost use Rattle.std.specs.Coded.{codes};
     ghost use Rattle.std.specs.Prelude.{List, ℕ};
     ghost use Rattle.std.proofs.Common.{arith};
-    ghost use Rattle.buffa_fields.specs.Terms.{Datum, coded_datum};
-    ghost use Rattle.buffa_recursive.specs.Terms.{Knot, coded_knot, has, has_kept, has_list, knot_height, knot_of, most-of_list};
+    ghost use Rattle.buffa_fields.specs.Terms.{FieldData, coded_field_data};
+    ghost use Rattle.buffa_recursive.specs.Terms.{MessageTree, coded_tree, has, has_list, has_unknown_fields, most-of_list, tree_height, tree_of};
 
-    ghost Value = { Knot (List ℕ × List (ℕ × Datum)) };
+    ghost Value = { MessageTree (List ℕ × List (ℕ × FieldData)) };
 
-    ghost coded = { Prim.hlevel (codes, coded_datum, coded_knot) };
+    ghost coded = { Prim.hlevel (codes, coded_field_data, coded_tree) };
 
-    ghost view = { λ m. knot_of (
-        has (⟦<Plain<Str> as Member>⟧.shape.meaning m.name) (
-        has_list m.places.items (has_kept m.rest.records))) };
+    ghost view = { λ m. tree_of (
+        has (⟦<ImplicitField<Str> as Member>⟧.shape.meaning m.name) (
+        has_list m.places.items (has_unknown_fields m.unknown_fields.records))) };
 
-    ghost size = { knot_height };
+    ghost size = { tree_height };
 
     ghost size_decreases = { λ m h. Prim.grind (arith, most-of_list m.places.items) };
 }
 
-impl Laid for Place {
+impl RecursiveType for Place {
     const COST: usize = 72;
 
     ghost COST = { 72 };
 
     ghost positive = { lit< tt };
 
-    ghost laying = { knotted (
-        member 1 ⟦<Plain<Str> as Member>⟧.shape (
-        list_inside 2 keeps)) };
+    ghost schema = { recursive_message (
+        member 1 ⟦<ImplicitField<Str> as Member>⟧.shape (
+        list_inside 2 keeps_unknown)) };
 
     ghost sound = { λ w. refl };
 }
 
-impl SelfFields for Place {
-    fn visit<V: SelfVisitor<Place>>(&self, visitor: &mut V) {
-        visitor.visit::<Plain<Str>>(1, &self.name);
+impl RecursiveFields for Place {
+    fn visit<V: RecursiveVisitor<Place>>(&self, visitor: &mut V) {
+        visitor.visit::<ImplicitField<Str>>(1, &self.name);
         visitor.visit_list(2, &self.places);
-        visitor.visit_kept(&self.rest);
+        visitor.visit_unknown_fields(&self.unknown_fields);
     }
 
-    fn take<I: SelfMerger<Place>>(
+    fn take<I: InnerMerger<Place>>(
         &mut self,
         alloc: Global,
         tag: Tag,
@@ -78,9 +80,9 @@ impl SelfFields for Place {
         inner: &I,
     ) -> Result<(), DecodeError> {
         match tag.field_number() {
-            1 => Plain::<Str>::merge(&mut self.name, alloc, tag, buf, ctx),
+            1 => ImplicitField::<Str>::merge(&mut self.name, alloc, tag, buf, ctx),
             2 => take_list(&mut self.places, alloc, tag, buf, ctx, inner),
-            _ => kept::keep(alloc, &mut self.rest, tag, buf, ctx),
+            _ => unknown::keep(alloc, &mut self.unknown_fields, tag, buf, ctx),
         }
     }
 }
@@ -90,25 +92,25 @@ impl Blank for Place {
 
     ghost meaning = { λ m. m };
 
-    ghost blank_is = { ⟦<Place as Laid>⟧.laying.into ⟦<Place as Laid>⟧.laying.blank };
+    ghost blank_is = { ⟦<Place as RecursiveType>⟧.schema.into ⟦<Place as RecursiveType>⟧.schema.blank };
 
     fn blank(alloc: Global) -> Place {
         Place {
             name: String::new(alloc),
             places: Vec::new(alloc),
-            rest: UnknownFields::new(alloc),
+            unknown_fields: UnknownFields::new(alloc),
         }
     }
 }
 
-impl SelfListing for Place {
+impl RecursiveMeaning for Place {
     ghost means = { λ m. refl };
 
     ghost starts = { refl };
 }
 
-impl Formed for Place {
-    type Form = SelfListed;
+impl MessageImpl for Place {
+    type Impl = RecursiveFieldByField;
 }
 
 const _: () = prove!(size_of::<Place>() <= Place::COST);

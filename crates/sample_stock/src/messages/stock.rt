@@ -1,12 +1,12 @@
 //! shop.Stock, made of stock.proto by protoc-gen-buffa.
 
 ghost use Rattle.std.proofs.Common.{lit<, refl};
-ghost use Rattle.buffa_fields.specs.Terms.{field, keep};
+ghost use Rattle.buffa_fields.specs.Terms.{field, keep_unknown};
 
 use buffa_fields::map_codec::{Int32, Map, Str};
 use buffa_fields::{
-    And, And3, Blank, DecodeContext, DecodeError, Fields, Formed, KeptFields, Listed, Listing,
-    MapOf, Member, Plain, Tag, UnknownFields, Visitor, kept,
+    And, And3, Blank, DecodeContext, DecodeError, FieldByField, FieldsMeaning, ImplicitField,
+    MapField, Member, MessageFields, MessageImpl, Tag, UnknownFields, Unknowns, Visitor, unknown,
 };
 use std::alloc::Global;
 use std::string::String;
@@ -22,11 +22,11 @@ pub struct Stock {
     pub name: String,
     pub counts: Map<String, i32>,
     /// The fields that aren't declared, in order.
-    pub rest: UnknownFields,
+    pub unknown_fields: UnknownFields,
 }
 
-impl Fields for Stock {
-    type Meaning = And3<[u8; 0], [And<[u8; 0], i32>; 0], KeptFields>;
+impl MessageFields for Stock {
+    type Meaning = And3<[u8; 0], [And<[u8; 0], i32>; 0], Unknowns>;
 
     const COST: usize = 160;
 
@@ -34,16 +34,16 @@ impl Fields for Stock {
 
     ghost positive = { lit< tt };
 
-    ghost layout = { field 1 (λ m. m.name) ⟦<Plain<Str> as Member>⟧.shape (
-        field 5 (λ m. m.counts) ⟦<MapOf<Str, Int32> as Member>⟧.shape (
-        keep (λ m. m.rest.records))) };
+    ghost schema = { field 1 (λ m. m.name) ⟦<ImplicitField<Str> as Member>⟧.shape (
+        field 5 (λ m. m.counts) ⟦<MapField<Str, Int32> as Member>⟧.shape (
+        keep_unknown (λ m. m.unknown_fields.records))) };
 
     ghost sound = { refl };
 
     fn visit<V: Visitor>(&self, visitor: &mut V) {
-        visitor.visit::<Plain<Str>>(1, &self.name);
-        visitor.visit::<MapOf<Str, Int32>>(5, &self.counts);
-        visitor.visit_kept(&self.rest);
+        visitor.visit::<ImplicitField<Str>>(1, &self.name);
+        visitor.visit::<MapField<Str, Int32>>(5, &self.counts);
+        visitor.visit_unknown_fields(&self.unknown_fields);
     }
 
     fn take(
@@ -54,37 +54,37 @@ impl Fields for Stock {
         ctx: DecodeContext<'_>,
     ) -> Result<(), DecodeError> {
         match tag.field_number() {
-            1 => Plain::<Str>::merge(&mut self.name, alloc, tag, buf, ctx),
-            5 => MapOf::<Str, Int32>::merge(&mut self.counts, alloc, tag, buf, ctx),
-            _ => kept::keep(alloc, &mut self.rest, tag, buf, ctx),
+            1 => ImplicitField::<Str>::merge(&mut self.name, alloc, tag, buf, ctx),
+            5 => MapField::<Str, Int32>::merge(&mut self.counts, alloc, tag, buf, ctx),
+            _ => unknown::keep(alloc, &mut self.unknown_fields, tag, buf, ctx),
         }
     }
 }
 
 impl Blank for Stock {
-    type Meaning = <Stock as Fields>::Meaning;
+    type Meaning = <Stock as MessageFields>::Meaning;
 
-    ghost meaning = { ⟦<Stock as Fields>⟧.layout.meaning };
+    ghost meaning = { ⟦<Stock as MessageFields>⟧.schema.meaning };
 
-    ghost blank_is = { ⟦<Stock as Fields>⟧.layout.blank };
+    ghost blank_is = { ⟦<Stock as MessageFields>⟧.schema.blank };
 
     fn blank(alloc: Global) -> Stock {
         Stock {
             name: String::new(alloc),
             counts: Map::new(alloc),
-            rest: UnknownFields::new(alloc),
+            unknown_fields: UnknownFields::new(alloc),
         }
     }
 }
 
-impl Listing for Stock {
+impl FieldsMeaning for Stock {
     ghost means = { λ m. refl };
 
     ghost starts = { refl };
 }
 
-impl Formed for Stock {
-    type Form = Listed;
+impl MessageImpl for Stock {
+    type Impl = FieldByField;
 }
 
 const _: () = prove!(size_of::<Stock>() <= Stock::COST);

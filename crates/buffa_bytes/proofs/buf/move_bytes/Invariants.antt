@@ -1,5 +1,5 @@
 use Rattle.std.proofs.Common.{◌≡◌, ◌≤◌, ◌++◌, length, take, drop}
-use Rattle.buffa_bytes.specs.Left.{IsTailOf}
+use Rattle.buffa_bytes.specs.Unread.{IsTailOf}
 use Rattle.buffa_bytes.proofs.buf.move_bytes.Given as goal
 
 abbrev pub invariant-loop-left : goal.invariant-loop-left

@@ -1,9 +1,9 @@
 use Rattle.std.proofs.Common.{ap, arith, ◌∙◌, refl, sym}
 use Rattle.std.proofs.lemmas.Result.{err_from_is_err_and}
 use Rattle.buffa_bytes.proofs.FieldLemmas.{tag_falls, skip_falls, group_limit, group_tag_err, group_end, group_other, group_skip_err, group_next}
-use Rattle.buffa_bytes.proofs.LeftLemmas.{end_stays, fixed32_stays, fixed64_stays, left_behind_length, left_bytes, left_of_fixed, left_of_length, left_of_delimited, left_of_varint}
+use Rattle.buffa_bytes.proofs.UnreadLemmas.{end_stays, fixed32_stays, fixed64_stays, left_behind_length, left_bytes, left_of_fixed, left_of_length, left_of_delimited, left_of_varint}
 use Rattle.buffa_bytes.proofs.TailLemmas.{tail_more, tail_whole}
-use Rattle.buffa_bytes.specs.Left.{past_no_payload}
+use Rattle.buffa_bytes.specs.Unread.{past_no_payload}
 use Rattle.buffa_bytes.specs.declared.wire_type.WireType.TheVariants.{Fixed32, Fixed64}
 use Rattle.buffa_bytes.proofs.skip.+skip.Goals as goal
 

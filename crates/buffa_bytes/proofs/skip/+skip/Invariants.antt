@@ -1,6 +1,6 @@
 use Rattle.std.proofs.Common.{◌≡◌, length, ◌+◌, ◌*◌}
-use Rattle.buffa_bytes.specs.Front.{group_at}
-use Rattle.buffa_bytes.specs.Left.{IsTailOf}
+use Rattle.buffa_bytes.specs.Readings.{group_at}
+use Rattle.buffa_bytes.specs.Unread.{IsTailOf}
 use Rattle.buffa_bytes.proofs.skip.+skip.Given as goal
 
 abbrev pub decreases-skip_field_depth : goal.decreases-skip_field_depth

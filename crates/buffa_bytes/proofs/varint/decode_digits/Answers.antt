@@ -1,9 +1,9 @@
 use Rattle.std.proofs.Common.{arith, refl, ◌∙◌, ◌+◌, ◌*◌, ◌^◌, ◌≤◌}
 use Rattle.buffa_bytes.proofs.DigitLemmas.{digit_room, next_scale, next_scale_is, next_below}
-use Rattle.buffa_bytes.proofs.LeftLemmas.{left_none, left_one, left_tenth}
+use Rattle.buffa_bytes.proofs.UnreadLemmas.{left_none, left_one, left_tenth}
 use Rattle.buffa_bytes.proofs.StepLemmas.{behind_none, digit_end, digit_long, digit_last, digit_more}
 use Rattle.buffa_bytes.proofs.TailLemmas.{tail_whole, tail_more}
-use Rattle.buffa_bytes.specs.Front.{varint_at}
+use Rattle.buffa_bytes.specs.Readings.{varint_at}
 use Rattle.buffa_bytes.proofs.varint.decode_digits.Goals as goal
 use Rattle.buffa_bytes.proofs.varint.decode_digits.Goals.{After-from}
 

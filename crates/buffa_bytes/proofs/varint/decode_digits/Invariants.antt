@@ -1,6 +1,6 @@
 use Rattle.std.proofs.Common.{◌≡◌, ◌-◌, ◌^◌, ◌<◌, drop}
-use Rattle.buffa_bytes.specs.Front.{varint_within, varint_at}
-use Rattle.buffa_bytes.specs.Left.{IsTailOf}
+use Rattle.buffa_bytes.specs.Readings.{varint_within, varint_at}
+use Rattle.buffa_bytes.specs.Unread.{IsTailOf}
 use Rattle.buffa_bytes.proofs.StepLemmas.{behind}
 use Rattle.buffa_bytes.proofs.varint.decode_digits.Given as goal
 

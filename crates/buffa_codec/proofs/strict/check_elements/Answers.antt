@@ -1,7 +1,7 @@
 use Rattle.std.proofs.Common.{ap, sym, subst, ◌∙◌}
 use Rattle.std.proofs.lemmas.Result.{err_from_is_err_and}
 use Rattle.buffa_wire.specs.BudgetLeft.{defaults}
-use Rattle.buffa_wire.specs.View.{datum_of, records_in}
+use Rattle.buffa_wire.specs.View.{field_data_of, records_in}
 use Rattle.buffa_codec.proofs.StrictLemmas.{element_fault_here, element_more, element_other}
 use Rattle.buffa_codec.proofs.strict.check_elements.Goals.{then-field-number+in_ok-check_element, else-field-number}
 use Rattle.buffa_codec.proofs.strict.check_elements.Goals as goal
@@ -14,7 +14,7 @@ loop-field-preserved g c =
           element_more c.args.number c.as_slice-field-items.result.now c.loop-field.field-index c.field-item.result c.loop-field-test.true c.field-item.is
           (t.IsElement c.args.number) (g.C.SingularCodec.leaves 100) defaults c.loop-field.budget c.loop-field.invariant c.if-field-number.budget
           w.if-field-number.true w.in_ok-check_element.ensures.element
-          (subst (g.C.SingularCodec.leaves 100 c.loop-field.budget (datum_of c.field-item.result.payload)) (sym w.budget-is) w.in_ok-check_element.ensures.leaves)
+          (subst (g.C.SingularCodec.leaves 100 c.loop-field.budget (field_data_of c.field-item.result.payload)) (sym w.budget-is) w.in_ok-check_element.ensures.leaves)
       | else-field-number w ↦
           element_other c.args.number c.as_slice-field-items.result.now c.loop-field.field-index c.field-item.result c.loop-field-test.true c.field-item.is
           (t.IsElement c.args.number) (g.C.SingularCodec.leaves 100) defaults c.loop-field.budget c.loop-field.invariant c.if-field-number.budget

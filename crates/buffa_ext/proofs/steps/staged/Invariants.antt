@@ -1,7 +1,7 @@
 use Rattle.std.proofs.Common.{◌≡◌, map}
-use Rattle.buffa_wire.specs.View.{datum_of}
+use Rattle.buffa_wire.specs.View.{field_data_of}
 use Rattle.buffa_codec.specs.Sub.{tagged}
 use Rattle.buffa_ext.proofs.steps.staged.Given as goal
 
 abbrev pub invariant-loop-payload : goal.invariant-loop-payload
-invariant-loop-payload l = l.fields.records ≡ tagged l.number (map datum_of l.yielded)
+invariant-loop-payload l = l.fields.records ≡ tagged l.number (map field_data_of l.yielded)

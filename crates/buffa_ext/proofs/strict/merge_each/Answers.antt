@@ -3,7 +3,7 @@ use Rattle.std.proofs.lemmas.Result.{err_from_is_err_and}
 use Rattle.buffa_wire.specs.View.{records_in}
 use Rattle.buffa_codec.specs.Strict.{IsFaultOrFull}
 use Rattle.buffa_codec.proofs.StrictLemmas.{faultless_more, faultless_other}
-use Rattle.buffa_ext.specs.Messages.{StandsInRecord}
+use Rattle.buffa_ext.specs.Messages.{PartlyMergedRecord}
 use Rattle.buffa_ext.specs.Strict.{MessageRecordFault, kind_fault}
 use Rattle.buffa_ext.proofs.MergeLemmas.{one_more, passed_over}
 use Rattle.buffa_ext.proofs.StrictLemmas.{or_true, reaches_here}
@@ -44,14 +44,14 @@ returns-in_err-merge_one-clause-fault g c =
     (g.M.Blank.meaning c.args.message.now) (g.M.Blank.meaning c.loop-field.message) c.args.budget.now c.loop-field.budget c.loop-field.found c.args.fields.now.records
     c.if-field-number.true (ap records_in c.as_slice-field-items.ensures.value ∙ c.iter.ensures) c.loop-field.invariant.kinds c.loop-field.invariant.merged c.in_err-merge_one.ensures.fault)
 
-pub returns-in_err-merge_one-clause-stands : goal.returns-in_err-merge_one-clause-stands
-returns-in_err-merge_one-clause-stands g c =
+pub returns-in_err-merge_one-clause-partly : goal.returns-in_err-merge_one-clause-partly
+returns-in_err-merge_one-clause-partly g c =
     let merged = g.M.MessageSpec.merged in
     let cost = g.M.MessageSpec.cost in
     let p = err_from_is_err_and c.from_residual.result c.from_residual.ensures.1 in
     rw (p.1, p.2) (reaches_here g.K.MessageRecord.held c.args.number c.as_slice-field-items.result.now c.loop-field.field-index c.field-item.result c.loop-field-test.true c.field-item.is
     (merged 100) (cost 100) g.K.MessageRecord.WIRE_TYPE
     (λ d mid left. kind_fault g.K.MessageRecord.held g.K.MessageRecord.WIRE_TYPE c.args.number d ≡ None
-    → StandsInRecord merged cost g.M.MessageSpec.Refused g.K.MessageRecord.held 100 d mid left c.in_err-merge_one.field-0.0 (g.M.Blank.meaning c.merge_one.new.message))
+    → PartlyMergedRecord merged cost g.M.MessageSpec.Refused g.K.MessageRecord.held 100 d mid left c.in_err-merge_one.field-0.0 (g.M.Blank.meaning c.merge_one.new.message))
     (g.M.Blank.meaning c.args.message.now) (g.M.Blank.meaning c.loop-field.message) c.args.budget.now c.loop-field.budget c.loop-field.found c.args.fields.now.records
-    c.if-field-number.true (ap records_in c.as_slice-field-items.ensures.value ∙ c.iter.ensures) c.loop-field.invariant.kinds c.loop-field.invariant.merged c.in_err-merge_one.ensures.stands)
+    c.if-field-number.true (ap records_in c.as_slice-field-items.ensures.value ∙ c.iter.ensures) c.loop-field.invariant.kinds c.loop-field.invariant.merged c.in_err-merge_one.ensures.partly)

@@ -3,14 +3,14 @@ use Rattle.buffa_ext.specs.Steps.{step_of}
 use Rattle.buffa_ext.specs.contracts.steps.StepPartialEq.TheImpl.{ghosts}
 use Rattle.buffa_ext.specs.declared.steps.Step.{Step}
 use Rattle.buffa_ext.specs.declared.steps.Step.TheVariants.{Set, Clear}
-use Rattle.buffa_ext_laws.proofs.EqualStepLemmas.{steps_are, steps_told}
+use Rattle.buffa_ext_laws.proofs.EqualStepLemmas.{steps_are, steps_reported}
 use Rattle.buffa_ext_laws.proofs.extensions.equal_steps_are_one.Goals as goal
 
-told : (a b : Step) → (ghosts.eq a b ≡ true) ↔ (step_of a ≡ step_of b)
-told (Set m xs) (Set n ys) = (steps_are (Set m xs) (Set n ys), steps_told (Set m xs) (Set n ys))
-told (Clear m) (Clear n) = (steps_are (Clear m) (Clear n), steps_told (Clear m) (Clear n))
-told (Set m xs) (Clear n) = (steps_are (Set m xs) (Clear n), steps_told (Set m xs) (Clear n))
-told (Clear m) (Set n ys) = (steps_are (Clear m) (Set n ys), steps_told (Clear m) (Set n ys))
+reported : (a b : Step) → (ghosts.eq a b ≡ true) ↔ (step_of a ≡ step_of b)
+reported (Set m xs) (Set n ys) = (steps_are (Set m xs) (Set n ys), steps_reported (Set m xs) (Set n ys))
+reported (Clear m) (Clear n) = (steps_are (Clear m) (Clear n), steps_reported (Clear m) (Clear n))
+reported (Set m xs) (Clear n) = (steps_are (Set m xs) (Clear n), steps_reported (Set m xs) (Clear n))
+reported (Clear m) (Set n ys) = (steps_are (Clear m) (Set n ys), steps_reported (Clear m) (Set n ys))
 
 pub returns-clause-step : goal.returns-clause-step
-returns-clause-step c = told
+returns-clause-step c = reported

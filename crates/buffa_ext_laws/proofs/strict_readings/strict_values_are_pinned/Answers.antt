@@ -5,8 +5,8 @@ use Rattle.buffa_ext_laws.proofs.strict_readings.strict_values_are_pinned.Goals 
 pub returns-clause-either : goal.returns-clause-either
 returns-clause-either g c = λ n ds. either_way (g.C.StrictSingularCodec.fault n) ds
 
-pub returns-clause-told : goal.returns-clause-told
-returns-clause-told g c = λ n ds e f h k. one_fault (g.C.StrictSingularCodec.fault n) ds e f h k
+pub returns-clause-reported : goal.returns-clause-reported
+returns-clause-reported g c = λ n ds e f h k. one_fault (g.C.StrictSingularCodec.fault n) ds e f h k
 
 pub returns-clause-absent : goal.returns-clause-absent
 returns-clause-absent g c = λ n ds o h k.

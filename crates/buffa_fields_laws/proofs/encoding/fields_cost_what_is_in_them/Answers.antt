@@ -1,7 +1,7 @@
 use Rattle.std.proofs.Common.{ap, arith}
 use Rattle.buffa_fields_laws.proofs.RecordLemmas.{bytes_cost, elements_cost, list_wire_cost, no_bytes_cost, no_level_cost, numbers_tested, units_beside, wire_cost}
-use Rattle.buffa_fields.specs.Nested.{message_cost}
-use Rattle.buffa_fields.specs.RepeatedNested.{messages_cost}
+use Rattle.buffa_fields.specs.Submessages.{message_cost}
+use Rattle.buffa_fields.specs.RepeatedMessages.{messages_cost}
 use Rattle.buffa_fields_laws.proofs.encoding.fields_cost_what_is_in_them.Goals as goal
 
 pub returns-clause-message : goal.returns-clause-message

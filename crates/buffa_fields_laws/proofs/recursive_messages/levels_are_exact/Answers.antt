@@ -1,5 +1,5 @@
-use Rattle.buffa_recursive.specs.facts.ExactFacts.{told_exact}
+use Rattle.buffa_recursive.specs.facts.ExactFacts.{semantics_exact}
 use Rattle.buffa_fields_laws.proofs.recursive_messages.levels_are_exact.Goals as goal
 
 pub returns : goal.returns
-returns g c = told_exact g.M.Laid.COST g.M.Laid.laying g.M.Laid.sound
+returns g c = semantics_exact g.M.RecursiveType.COST g.M.RecursiveType.schema g.M.RecursiveType.sound

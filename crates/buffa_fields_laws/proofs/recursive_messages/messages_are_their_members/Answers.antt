@@ -5,9 +5,9 @@ pub returns : goal.returns
 returns g c =
     let v = c.args.message.now in
     record {
-      records = records_are g.M.Laid.COST g.M.Laid.laying g.M.Laid.sound v;
-      slots = slots_are g.M.Laid.COST g.M.Laid.laying g.M.Laid.sound v;
-      levels = levels_are g.M.Laid.COST g.M.Laid.laying g.M.Laid.sound v;
-      normal = normal_is g.M.Laid.COST g.M.Laid.laying g.M.Laid.sound v;
-      is_normal = is_normal g.M.Laid.COST g.M.Laid.laying g.M.Laid.sound v;
+      records = records_are g.M.RecursiveType.COST g.M.RecursiveType.schema g.M.RecursiveType.sound v;
+      slots = slots_are g.M.RecursiveType.COST g.M.RecursiveType.schema g.M.RecursiveType.sound v;
+      levels = levels_are g.M.RecursiveType.COST g.M.RecursiveType.schema g.M.RecursiveType.sound v;
+      normal = normal_is g.M.RecursiveType.COST g.M.RecursiveType.schema g.M.RecursiveType.sound v;
+      is_normal = is_normal g.M.RecursiveType.COST g.M.RecursiveType.schema g.M.RecursiveType.sound v;
     }

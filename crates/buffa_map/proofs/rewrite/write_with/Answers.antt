@@ -13,10 +13,10 @@ returns-in_err-storage_write g c =
     record {
       walk = w.0;
       once = w.2;
-      encoding = rewrite_refused g.KC.MapCodec.writing g.VC.MapCodec.writing c.args.number c.args.aside.now.records q.1 q.2 old new w.0 w.3;
+      encoding = rewrite_refused g.KC.MapCodec.writing g.VC.MapCodec.writing c.args.number c.args.unknowns.now.records q.1 q.2 old new w.0 w.3;
       fits = rw q.1 tt;
       walks = w.1;
-      room = no_room_for_both q.1 q.2 (g.S.EncodeSink.room c.args.sink.now) (g.S.EncodeSink.room c.storage_write.new.sink) _ (records_encoding c.args.aside.now.records) w.5;
+      room = no_room_for_both q.1 q.2 (g.S.EncodeSink.room c.args.sink.now) (g.S.EncodeSink.room c.storage_write.new.sink) _ (records_encoding c.args.unknowns.now.records) w.5;
     }
 
 pub returns : goal.returns
@@ -28,8 +28,8 @@ returns g c =
     record {
       walk = w.0;
       once = w.2;
-      encoding = rewrite_written g.KC.MapCodec.writing g.VC.MapCodec.writing c.args.number c.args.aside.now.records c.write_to.result old mid new w.0 w.3.0 w.3.1 c.write_to.ensures.writes;
+      encoding = rewrite_written g.KC.MapCodec.writing g.VC.MapCodec.writing c.args.number c.args.unknowns.now.records c.write_to.result old mid new w.0 w.3.0 w.3.1 c.write_to.ensures.writes;
       fits = OnOk-always c.write_to.result w.4;
       walks = w.1;
-      room = room_of_both c.write_to.result (g.S.EncodeSink.room c.args.sink.now) (g.S.EncodeSink.room c.storage_write.new.sink) (g.S.EncodeSink.room c.write_to.new.sink) _ (records_encoding c.args.aside.now.records) w.5 c.write_to.ensures.room;
+      room = room_of_both c.write_to.result (g.S.EncodeSink.room c.args.sink.now) (g.S.EncodeSink.room c.storage_write.new.sink) (g.S.EncodeSink.room c.write_to.new.sink) _ (records_encoding c.args.unknowns.now.records) w.5 c.write_to.ensures.room;
     }

@@ -1,5 +1,5 @@
 use Rattle.std.proofs.Common.{◌≡◌, length}
-use Rattle.buffa_bytes.specs.Left.{IsTailOf}
+use Rattle.buffa_bytes.specs.Unread.{IsTailOf}
 use Rattle.buffa_message_set.specs.Item.{Reaches, said_by}
 use Rattle.buffa_message_set.proofs.message_set.read_fields.Given as goal
 

@@ -1,6 +1,6 @@
 use Rattle.std.proofs.Common.{IsOk, refl, subst, sym}
 use Rattle.buffa_wire.specs.Encoding.{records_encoding}
-use Rattle.buffa_fields.specs.facts.LayoutFacts.{came, follow_on}
+use Rattle.buffa_fields.specs.facts.SchemaFacts.{came, follow_on}
 use Rattle.buffa_fields.specs.OneOfParts.{case_records, case_slots}
 use Rattle.buffa_recursive.proofs.one_of.case_put.Goals as goal
 

@@ -1,6 +1,6 @@
 use Rattle.std.proofs.Common.{subst, sym}
-use Rattle.buffa_fields.specs.Layout.{Follow, IsPut}
-use Rattle.buffa_fields.specs.facts.LayoutFacts.{follows, puts_none, start, was_put}
+use Rattle.buffa_fields.specs.Schema.{Follow, IsPut}
+use Rattle.buffa_fields.specs.facts.SchemaFacts.{follows, puts_none, start, was_put}
 use Rattle.buffa_recursive.specs.facts.OneOfMeaningFacts.{seen_as}
 use Rattle.buffa_fields.specs.OneOfParts.{case_records, case_slots}
 use Rattle.buffa_fields.specs.facts.VisitFacts.{comes_all}

@@ -1,6 +1,6 @@
 use Rattle.std.proofs.Common.{[], subst, sym}
-use Rattle.buffa_fields.specs.Layout.{IsCounted}
-use Rattle.buffa_fields.specs.facts.LayoutFacts.{counts_none, start, was_counted}
+use Rattle.buffa_fields.specs.Schema.{IsCounted}
+use Rattle.buffa_fields.specs.facts.SchemaFacts.{counts_none, start, was_counted}
 use Rattle.buffa_recursive.specs.facts.OneOfMeaningFacts.{seen_as}
 use Rattle.buffa_fields.specs.OneOfParts.{case_records, case_slots}
 use Rattle.buffa_recursive.proofs.one_of.size_case.Goals as goal

@@ -1,6 +1,6 @@
 use Rattle.std.proofs.lemmas.Result.{err_from_is_err_and}
 use Rattle.buffa_map.specs.Pairs.{means}
-use Rattle.buffa_fields.proofs.NestedMapLemmas.{none_sized, pairs_sized, pairs_unsized}
+use Rattle.buffa_fields.proofs.MapOfMessagesLemmas.{none_sized, pairs_sized, pairs_unsized}
 use Rattle.buffa_recursive.proofs.pairs.pairs_len_by.Goals as goal
 
 pub returns-clause-sized : goal.returns-clause-sized

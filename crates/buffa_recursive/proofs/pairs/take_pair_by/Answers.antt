@@ -2,12 +2,12 @@ use Rattle.std.proofs.Common.{◌+◌, false}
 use Rattle.std.specs.BTreeMap.{insert_entry}
 use Rattle.std.proofs.lemmas.Result.{err_from_is_err_and}
 use Rattle.buffa_bytes.proofs.SequenceLemmas.{err_same}
-use Rattle.buffa_bytes.specs.Content.{bytes_in}
+use Rattle.buffa_bytes.specs.PayloadValue.{bytes_in}
 use Rattle.buffa_wire.specs.Message.{merged_in}
 use Rattle.buffa_map.proofs.InsertLemmas.{is_put_by}
-use Rattle.buffa_map.proofs.NeedLemmas.{entry_limited}
+use Rattle.buffa_map.proofs.ChargeLemmas.{entry_limited}
 use Rattle.buffa_map.specs.Message.{message_reading}
-use Rattle.buffa_map.specs.MessageFacts.{meant_no_limit}
+use Rattle.buffa_map.specs.MessageFacts.{merged_no_limit}
 use Rattle.buffa_map.specs.Pairs.{means}
 use Rattle.buffa_fields.proofs.OrderedLemmas.{means_ascend}
 use Rattle.buffa_fields.proofs.MapLemmas.{map_err, map_full, map_ok, map_refused, other_refused}
@@ -37,7 +37,7 @@ returns-in_err-answer-clause-taken g c =
     rw (p.1, p.2) (map_err g.KC.MapValueDecode.reading val g.KC.Value.MapKey.same false (insert_entry g.KC.Value.OrderedKey.order) (g.KC.MapValueDecode.COST + g.M.MessageSpec.COST) c.args.depth c.args.tag.number c.args.tag.wire_type
     c.args.buf.now.now answer.new.buf.now _ _ c.in_ok-check_wire_type.ensures
     (means g.KC.Value.Blank.meaning g.M.Blank.meaning c.args.map.now.entries) (means g.KC.Value.Blank.meaning g.M.Blank.meaning answer.new.map.entries)
-    (λ d cost extra left bs f h l. entry_limited g.KC.MapValueDecode.reading val d g.met.KC.MapValueDecode.no_limit (λ d old k x h. meant_no_limit (merged_in g.M.MessageSpec.merged d old (bytes_in k)) x h) cost extra left bs f h l)
+    (λ d cost extra left bs f h l. entry_limited g.KC.MapValueDecode.reading val d g.met.KC.MapValueDecode.no_limit (λ d old k x h. merged_no_limit (merged_in g.M.MessageSpec.merged d old (bytes_in k)) x h) cost extra left bs f h l)
     c.in_err-answer.field-0.0 c.in_err-answer.ensures.err)
 
 pub returns-in_err-answer-clause-full : goal.returns-in_err-answer-clause-full

@@ -1,5 +1,5 @@
 use Rattle.buffa_map.specs.Pairs.{means}
-use Rattle.buffa_fields.proofs.NestedMapLemmas.{none_written, pairs_written}
+use Rattle.buffa_fields.proofs.MapOfMessagesLemmas.{none_written, pairs_written}
 use Rattle.buffa_recursive.proofs.pairs.write_pairs_by.Goals as goal
 
 pub returns : goal.returns

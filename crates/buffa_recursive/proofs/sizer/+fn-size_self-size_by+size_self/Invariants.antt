@@ -3,7 +3,7 @@ use Rattle.buffa_recursive.proofs.sizer.+fn-size_self-size_by+size_self.Given as
 
 -- a message is sized by a function that is passed on, for those in it
 abbrev pub decreases-size_by : goal.decreases-size_by
-decreases-size_by g l = 2 * g.M.Laid.laying.height l.kid.now + 1
+decreases-size_by g l = 2 * g.M.RecursiveType.schema.height l.child.now + 1
 
 abbrev pub decreases-size_self : goal.decreases-size_self
-decreases-size_self g l = 2 * g.M.Laid.laying.height l.message.now
+decreases-size_self g l = 2 * g.M.RecursiveType.schema.height l.message.now

@@ -6,4 +6,4 @@ pub returns-clause-means : goal.returns-clause-means
 returns-clause-means g c d n w v t p tag h = g.M.MessageSpec.merged_is d v _ ∙ merged_of_one g.M.MessageSpec.takes d v n w t p tag h
 
 pub returns-clause-costs : goal.returns-clause-costs
-returns-clause-costs g c d n w t p tag h = g.M.MessageSpec.cost_is d _ ∙ cost_of_one g.M.MessageSpec.need g.M.MessageSpec.stays d n w t p tag h
+returns-clause-costs g c d n w t p tag h = g.M.MessageSpec.cost_is d _ ∙ cost_of_one g.M.MessageSpec.charge g.M.MessageSpec.stays d n w t p tag h

@@ -1,7 +1,7 @@
 use Rattle.std.proofs.Common.{sym, ap, ◌∙◌}
 use Rattle.buffa_wire.specs.Records.{records_of, list_of}
-use Rattle.buffa_wire.specs.Equal.{datum_eq-Decides, records_eq-Decides, field_eq-Decides}
-use Rattle.buffa_wire.specs.View.{datum_of}
+use Rattle.buffa_wire.specs.Equal.{field_data_eq-Decides, records_eq-Decides, field_eq-Decides}
+use Rattle.buffa_wire.specs.View.{field_data_of}
 use Rattle.buffa_wire.proofs.RecordLemmas.{list-records, held_eq_yes}
 use Rattle.buffa_wire_laws.proofs.records.equality_is_of_records.Goals as goal
 
@@ -15,4 +15,4 @@ pub returns-clause-field : goal.returns-clause-field
 returns-clause-field c = λ a b. field_eq-Decides a b
 
 pub returns-clause-payload : goal.returns-clause-payload
-returns-clause-payload c = λ a b. datum_eq-Decides (datum_of a) (datum_of b)
+returns-clause-payload c = λ a b. field_data_eq-Decides (field_data_of a) (field_data_of b)

@@ -1,4 +1,4 @@
-use Rattle.buffa_bytes.specs.Front.{delimited_at}
+use Rattle.buffa_bytes.specs.Readings.{delimited_at}
 use Rattle.buffa_bytes.proofs.StepLemmas.{agree_ok, agree_err}
 use Rattle.buffa_bytes.proofs.DelimitedLemmas.{delimited_sound, delimited_taken, delimited_faulty}
 use Rattle.buffa_wire_laws.proofs.wire.delimited_bytes_are_read.Goals as goal

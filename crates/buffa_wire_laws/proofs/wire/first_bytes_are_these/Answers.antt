@@ -1,6 +1,6 @@
 use Rattle.std.specs.Prelude.{Err}
 use Rattle.std.proofs.Common.{◌∙◌, ap, sym}
-use Rattle.buffa_bytes.specs.Front.{taken}
+use Rattle.buffa_bytes.specs.Readings.{taken}
 use Rattle.buffa_bytes.proofs.StepLemmas.{agree_ok, agree_err}
 use Rattle.buffa_bytes.proofs.DelimitedLemmas.{taken_sound, taken_complete, taken_faulty}
 use Rattle.buffa_wire_laws.proofs.wire.first_bytes_are_these.Goals as goal

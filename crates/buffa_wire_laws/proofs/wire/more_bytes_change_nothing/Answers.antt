@@ -1,5 +1,5 @@
 use Rattle.std.proofs.Common.{ap, ◌∙◌, ◌++◌}
-use Rattle.buffa_bytes.specs.Front.{varint_at, tag_at, skip_at}
+use Rattle.buffa_bytes.specs.Readings.{varint_at, tag_at, skip_at}
 use Rattle.buffa_bytes.proofs.StepLemmas.{agree_ok}
 use Rattle.buffa_bytes.proofs.VarintLemmas.{varint_sound, varint_complete}
 use Rattle.buffa_bytes.proofs.FieldLemmas.{tag_sound, tag_complete, payload_sound, payload_taken, onward}

@@ -1,4 +1,4 @@
-use Rattle.buffa_bytes.specs.Front.{skip_at}
+use Rattle.buffa_bytes.specs.Readings.{skip_at}
 use Rattle.buffa_bytes.proofs.StepLemmas.{agree_ok, agree_err}
 use Rattle.buffa_bytes.proofs.FieldLemmas.{payload_sound, payload_faulty, payload_taken}
 use Rattle.buffa_wire_laws.proofs.wire.payloads_are_read.Goals as goal

@@ -1,4 +1,4 @@
-use Rattle.buffa_bytes.proofs.LeftLemmas.{fixed32_stays, fixed64_stays, no_number, no_payload, no_tag, no_delimited_cut, no_delimited_whole, no_varint}
+use Rattle.buffa_bytes.proofs.UnreadLemmas.{fixed32_stays, fixed64_stays, no_number, no_payload, no_tag, no_delimited_cut, no_delimited_whole, no_varint}
 use Rattle.buffa_wire_laws.proofs.wire.rests_are_these.Goals as goal
 
 pub returns-clause-no_varint : goal.returns-clause-no_varint

@@ -1,5 +1,5 @@
 use Rattle.std.proofs.Common.{ap, ◌∙◌}
-use Rattle.buffa_bytes.specs.Front.{varint_at}
+use Rattle.buffa_bytes.specs.Readings.{varint_at}
 use Rattle.buffa_bytes.proofs.StepLemmas.{agree_ok, agree_err}
 use Rattle.buffa_bytes.proofs.VarintLemmas.{varint_sound, varint_complete, varint_faulty}
 use Rattle.buffa_wire_laws.proofs.wire.varints_are_read.Goals as goal

@@ -1,8 +1,8 @@
 use Rattle.std.proofs.Common.{◌≤◌, sym, ap, subst, ◌∙◌, arith}
 use Rattle.buffa_wire.specs.DepthFacts.{height-records}
-use Rattle.buffa_wire.specs.Parse.{FitsDatum, IsValidDatum}
-use Rattle.buffa_wire.specs.Records.{datum_height}
-use Rattle.buffa_wire.specs.View.{datum_of, records_in}
+use Rattle.buffa_wire.specs.Parse.{FitsFieldData, IsValidFieldData}
+use Rattle.buffa_wire.specs.Records.{field_data_height}
+use Rattle.buffa_wire.specs.View.{field_data_of, records_in}
 use Rattle.conformance_extensions.specs.Normal.{AreWritten}
 use Rattle.conformance_extensions.proofs.FrontLemmas.{written_from, written_none}
 use Rattle.conformance_extensions.proofs.written.+walk.Goals as goal
@@ -10,7 +10,7 @@ use Rattle.conformance_extensions.proofs.written.+walk.Goals as goal
 pub is_payload_written-returns-then-levels-gt0 : goal.is_payload_written-returns-then-levels-gt0
 is_payload_written-returns-then-levels-gt0 t c =
     λ yes. let inner = c.are_written.ensures yes in
-    subst (λ p. IsValidDatum (datum_of p) × FitsDatum (datum_of p) × (datum_height (datum_of p) ≤ c.args.levels)) (sym c.in-Group.is)
+    subst (λ p. IsValidFieldData (field_data_of p) × FitsFieldData (field_data_of p) × (field_data_height (field_data_of p) ≤ c.args.levels)) (sym c.in-Group.is)
     (inner.0, inner.1, omega (arith, inner.2, height-records c.in-Group.fields.records))
 
 pub are_written-loop-field-preserved : goal.are_written-loop-field-preserved

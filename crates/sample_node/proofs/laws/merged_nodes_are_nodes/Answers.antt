@@ -1,7 +1,7 @@
 use Rattle.buffa_recursive.specs.RefusedFields.{IsSelfRefused}
-use Rattle.buffa_wire.specs.Message.{Stands}
-use Rattle.sample_node.proofs.NodeHeldLemmas.{blank_is_node, merged_is_node, node_stands}
-use Rattle.sample_node.proofs.NodeLaidLemmas.{members, members_sound}
+use Rattle.buffa_wire.specs.Message.{PartlyMerged}
+use Rattle.sample_node.proofs.NodeHeldLemmas.{blank_is_node, merged_is_node, node_is_partly_merged}
+use Rattle.sample_node.proofs.NodeSchemaLemmas.{members, members_sound}
 use Rattle.sample_node.proofs.NodeReadLemmas.{in_node_words}
 use Rattle.sample_node.proofs.laws.merged_nodes_are_nodes.Goals as goal
 
@@ -9,5 +9,5 @@ pub returns : goal.returns
 returns c = record {
   merged = merged_is_node;
   blank = blank_is_node;
-  stands = λ d v u bs before e was is h. node_stands d v u bs before e was is (in_node_words (λ m c. Stands m c (IsSelfRefused 96 members members_sound) d v bs before e u) h);
+  partly = λ d v u bs before e was is h. node_is_partly_merged d v u bs before e was is (in_node_words (λ m c. PartlyMerged m c (IsSelfRefused 96 members members_sound) d v bs before e u) h);
 }

@@ -1,8 +1,8 @@
 use Rattle.std.proofs.Common.{ℤ, ◌==◌, sym, subst}
 use Rattle.std.proofs.lemmas.Bool.{eqb-true}
-use Rattle.buffa_bytes.specs.Front.{skip_at}
-use Rattle.buffa_fields.specs.Layout.{Passed, Took}
-use Rattle.buffa_fields.specs.facts.LayoutFacts.{choose}
+use Rattle.buffa_bytes.specs.Readings.{skip_at}
+use Rattle.buffa_fields.specs.Schema.{Passed, Took}
+use Rattle.buffa_fields.specs.facts.SchemaFacts.{choose}
 use Rattle.sample_types.proofs.NumberLemmas.{TwoIsRead, member_read, other_read, put_first, put_second}
 use Rattle.sample_types.specs.Fields.{int32_field, skipped_field}
 use Rattle.sample_types.specs.Numbers.{IsReadAlone}

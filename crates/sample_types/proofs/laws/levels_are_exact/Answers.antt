@@ -1,7 +1,7 @@
 use Rattle.std.proofs.Common.{[]}
 use Rattle.buffa_wire.specs.ReadableFacts.{readable}
 use Rattle.buffa_wire.specs.Records.{records_of}
-use Rattle.buffa_fields.specs.Keep.{keep_takes}
+use Rattle.buffa_fields.specs.UndeclaredFields.{keep_takes}
 use Rattle.buffa_map.proofs.LowLemmas.{deep_records_are_refused}
 use Rattle.sample_types.proofs.laws.levels_are_exact.Goals as goal
 

@@ -123,5 +123,5 @@ returns-clause-stops g c =
       run = record { older_entries = w.read.entries; older_run = run; newer_entries = newer.0; newer_run = newer.1 };
       stops = stops;
       short = stop_is_shortage key (closed_reading f) g.D.MapStorage.equal g.D.MapStorage.keeps_order n cost _ _ _ _ fault depth _ w.out again.0
-          (λ x. c.plain_entries_need_units.ensures.entry (g.met.KC.MapCodec.plain, refl) depth cost x) c.one_reading-2.ensures again.1 stops;
+          (λ x. c.plain_entries_charge_units.ensures.entry (g.met.KC.MapCodec.plain, refl) depth cost x) c.one_reading-2.ensures again.1 stops;
     }

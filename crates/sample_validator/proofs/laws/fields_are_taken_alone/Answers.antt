@@ -1,6 +1,6 @@
 use Rattle.std.proofs.Common.{◌==◌}
-use Rattle.buffa_fields.specs.Layout.{Took}
-use Rattle.buffa_fields.specs.facts.LayoutFacts.{choose}
+use Rattle.buffa_fields.specs.Schema.{Took}
+use Rattle.buffa_fields.specs.facts.SchemaFacts.{choose}
 use Rattle.sample_validator.proofs.PinLemmas.{declared_read}
 use Rattle.sample_validator.proofs.laws.fields_are_taken_alone.Goals as goal
 

@@ -7,8 +7,8 @@ returns-clause-judged c = is_judged
 pub returns-clause-either : goal.returns-clause-either
 returns-clause-either c = not_both
 
-pub returns-clause-told : goal.returns-clause-told
-returns-clause-told c = one_violation
+pub returns-clause-reported : goal.returns-clause-reported
+returns-clause-reported c = one_violation
 
 pub returns-clause-accepted : goal.returns-clause-accepted
 returns-clause-accepted c = is_judged

@@ -1,5 +1,5 @@
 use Rattle.std.proofs.lemmas.Result.{err_from_is_err_and}
-use Rattle.buffa_bytes.proofs.LeftLemmas.{left_copied, left_no_length}
+use Rattle.buffa_bytes.proofs.UnreadLemmas.{left_copied, left_no_length}
 use Rattle.buffa_bytes.proofs.OwnLemmas.{length_no_full, none_taken}
 use Rattle.buffa_bytes.proofs.types.delimited.decode_bytes.Goals as goal
 

@@ -1,4 +1,4 @@
-use Rattle.buffa_bytes.proofs.LeftLemmas.{left_behind}
+use Rattle.buffa_bytes.proofs.UnreadLemmas.{left_behind}
 use Rattle.buffa_bytes.proofs.types.delimited.decode_bytes_to_bytes.Goals as goal
 
 pub returns-in_err-from_vec-clause-left : goal.returns-in_err-from_vec-clause-left

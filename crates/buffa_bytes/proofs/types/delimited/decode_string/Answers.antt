@@ -6,7 +6,7 @@ use Rattle.std.proofs.lemmas.Bool.{false_from_ne_true}
 use Rattle.std.proofs.lemmas.Str.{IsUtf8-from_is_utf8, is_utf8-from_IsUtf8, IsUtf8-string_bytes}
 use Rattle.std.proofs.lemmas.Result.{err_from_is_err_and}
 use Rattle.buffa_bytes.proofs.OwnLemmas.{string_in_place, whole_in_place, length_no_full, none_in_place, none_taken}
-use Rattle.buffa_bytes.proofs.LeftLemmas.{left_no_length, left_passed, left_refused, left_taken}
+use Rattle.buffa_bytes.proofs.UnreadLemmas.{left_no_length, left_passed, left_refused, left_taken}
 use Rattle.buffa_bytes.proofs.types.delimited.decode_string.Goals as goal
 
 pub returns-in_err-len-clause-full : goal.returns-in_err-len-clause-full

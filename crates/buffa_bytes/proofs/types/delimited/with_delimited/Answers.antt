@@ -1,7 +1,7 @@
 use Rattle.std.proofs.Common.{◌∙◌, refl}
 use Rattle.std.proofs.lemmas.Result.{err_from_is_err_and}
 use Rattle.buffa_bytes.proofs.DelimitedLemmas.{after_length}
-use Rattle.buffa_bytes.proofs.LeftLemmas.{left_no_length, left_passed, left_refused, left_taken}
+use Rattle.buffa_bytes.proofs.UnreadLemmas.{left_no_length, left_passed, left_refused, left_taken}
 use Rattle.buffa_bytes.proofs.LendLemmas.{delimited_front, lends_front, lends_refused}
 use Rattle.buffa_bytes.proofs.types.delimited.with_delimited.Goals as goal
 

@@ -1,7 +1,7 @@
 use Rattle.std.proofs.Common.{◌-◌, ◌≤◌, vec_capacity, vec_len, arith}
 use Rattle.std.proofs.lemmas.Result.{err_from_is_err_and}
 use Rattle.buffa_codec.proofs.TakesLemmas.{packs_some}
-use Rattle.buffa_bytes.specs.Content.Content.{number}
+use Rattle.buffa_bytes.specs.PayloadValue.PayloadValue.{number}
 use Rattle.buffa_codec.specs.PackedFacts.{numbers_shorten}
 use Rattle.buffa_codec.proofs.PackLemmas.{full_by, packs_more, packs_front, packs_full, packs_room, packs_end}
 use Rattle.buffa_codec.proofs.number.AnySingularCodec.decode_packed.Goals as goal

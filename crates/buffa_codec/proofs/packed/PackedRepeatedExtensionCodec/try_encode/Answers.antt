@@ -5,7 +5,7 @@ use Rattle.std.proofs.lemmas.List.{append-nil}
 use Rattle.std.proofs.lemmas.Result.{err_from_is_err_and}
 use Rattle.std.specs.Result.{OnErr, OnOk}
 use Rattle.buffa_bytes.proofs.ResultLemmas.{OnOk-always}
-use Rattle.buffa_wire.specs.Records.{Datum, Held, bytes}
+use Rattle.buffa_wire.specs.Records.{FieldData, Held, bytes}
 use Rattle.buffa_codec.specs.Decoded.{Adds, AddsSome, packed_record}
 use Rattle.buffa_codec.specs.Sub.{tagged}
 use Rattle.buffa_codec.proofs.ListLemmas.{packed_some}
@@ -23,7 +23,7 @@ is_some r n zero e same h = absurd (false≢true (sym h ∙ e ∙ eq-eqb n 0 sam
 is_some r n (suc m) e same h = omega arith
 
 -- no values have no record
-packs_none : {V M : Type 0} (encoding : M → List ℕ) (meaning : V → M) (n : ℕ) (vs : List V) (old : List (ℕ × Datum)) → length vs ≡ 0 → old ≡ old ++ tagged n (packed_record encoding (map meaning vs))
+packs_none : {V M : Type 0} (encoding : M → List ℕ) (meaning : V → M) (n : ℕ) (vs : List V) (old : List (ℕ × FieldData)) → length vs ≡ 0 → old ≡ old ++ tagged n (packed_record encoding (map meaning vs))
 packs_none encoding meaning n [] old none = sym (append-nil old)
 packs_none encoding meaning n (v ∷ vs) old none = absurd (omega (arith, none))
 
@@ -37,7 +37,7 @@ packs_one encoding meaning n [] b some e = absurd (omega (arith, some))
 packs_one encoding meaning n (v ∷ vs) b some e = ap (λ z. (n, bytes z) ∷ []) e
 
 -- a list that stayed as it was has a front of the records
-stayed : {T E : Type 0} (r : Result T E) (old new : Held) (ds : List (ℕ × Datum)) → 0 < length ds → OnErr r (new ≡ old) → OnErr r (AddsSome old.records ds new.records)
+stayed : {T E : Type 0} (r : Result T E) (old new : Held) (ds : List (ℕ × FieldData)) → 0 < length ds → OnErr r (new ≡ old) → OnErr r (AddsSome old.records ds new.records)
 stayed (Ok u) old new ds some e = tt
 stayed (Err u) old new ds some e = (0, some, ap (λ h. h.records) e ∙ sym (append-nil old.records))
 

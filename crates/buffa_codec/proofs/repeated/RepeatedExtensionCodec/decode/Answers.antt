@@ -1,4 +1,4 @@
-use Rattle.buffa_wire.specs.View.{records_in, datum_of}
+use Rattle.buffa_wire.specs.View.{records_in, field_data_of}
 use Rattle.buffa_codec.specs.Decoded.{AsksInList}
 use Rattle.buffa_codec.proofs.TakesLemmas.{has_record}
 use Rattle.std.proofs.Common.{sym, ap, ◌∙◌, subst, map}
@@ -15,7 +15,7 @@ loop-field-preserved g c =
           reads_one_more (t.one 100) (t.leaves 100) t.packed defaults c.args.number c.as_slice-field-items.result.now c.loop-field.field-index c.field-item.result
           (map g.C.Value.Blank.meaning c.loop-field.out.items) (map g.C.Value.Blank.meaning c.if-field-number.out.items) c.loop-field.budget c.if-field-number.budget
           c.loop-field-test.true c.field-item.is w.if-field-number.true c.loop-field.invariant
-          (subst (t.leaves 100 c.loop-field.budget (datum_of c.field-item.result.payload)) (sym w.budget-is) w.in_ok-read_one.ensures.leaves)
+          (subst (t.leaves 100 c.loop-field.budget (field_data_of c.field-item.result.payload)) (sym w.budget-is) w.in_ok-read_one.ensures.leaves)
           (ap (λ o. map g.C.Value.Blank.meaning o.items) w.out-is ∙ w.in_ok-read_one.ensures.values)
       | else-field-number w ↦
           passes_one_over (t.one 100) (t.leaves 100) t.packed defaults c.args.number c.as_slice-field-items.result.now c.loop-field.field-index c.field-item.result

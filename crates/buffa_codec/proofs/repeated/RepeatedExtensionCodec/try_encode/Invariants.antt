@@ -6,7 +6,7 @@ use Rattle.buffa_codec.proofs.repeated.RepeatedExtensionCodec.try_encode.Given a
 
 abbrev pub invariant-loop-v : goal.invariant-loop-v
 invariant-loop-v g l = record {
-  written : l.fields.records ≡ l.fn.fields.records ++ tagged l.number (map g.C.SingularCodec.datum (map g.C.Value.Blank.meaning (take l.v-index l.v-items)));
+  written : l.fields.records ≡ l.fn.fields.records ++ tagged l.number (map g.C.SingularCodec.field_data (map g.C.Value.Blank.meaning (take l.v-index l.v-items)));
   allowed : first_refusal g.C.SingularCodec.refusal (map g.C.Value.Blank.meaning (take l.v-index l.v-items)) ≡ None;
   room : l.fn.fields.spare ≤ l.fields.spare + l.v-index;
   places : KeepsCapacity l.fn.fields l.fields;

@@ -2,7 +2,7 @@ use Rattle.std.proofs.Common.{refl, ap, rules}
 use Rattle.buffa_bytes.proofs.TailLemmas.{tail_whole}
 use Rattle.buffa_bytes.proofs.LendLemmas.{lent_none}
 use Rattle.buffa_wire.proofs.ByPayloadLemmas.{by_payload}
-use Rattle.buffa_wire.proofs.InsideLemmas.{merged_tells, none_merges, inside_fault, inside_full, inside_ok, inside_spent, inside_stands}
+use Rattle.buffa_wire.proofs.InsideLemmas.{merged_tells, none_merges, inside_fault, inside_full, inside_ok, inside_spent, inside_is_partly_merged}
 use Rattle.buffa_wire.proofs.message.Message.merge_length_delimited.Goals as goal
 
 pub returns-then-depth-eq0-clause-kept : goal.returns-then-depth-eq0-clause-kept
@@ -52,7 +52,7 @@ returns-clause-free g c = λ rest deep is.
     lent_none _ _ _ c.with_delimited.result _ rest _ c.with_delimited.ensures.lends
     (λ k. none_merges (by_payload g.Self.MessageSpec.stays g.Self.MessageSpec.merged_is g.Self.MessageSpec.cost_is) _ _ _ _ _ _ c.with_delimited.result k.shows k.called.met.1.0 k.called.met.1.1.1) is
 
-pub returns-clause-stands : goal.returns-clause-stands
-returns-clause-stands g c =
-    inside_stands _ g.Self.MessageSpec.merged g.Self.MessageSpec.cost g.Self.MessageSpec.Refused c.args.ctx.depth _ _ _ _ _ _ _ _ c.with_delimited.result c.with_delimited.ensures.lends (λ p k. k.met.1.1.0)
+pub returns-clause-partly : goal.returns-clause-partly
+returns-clause-partly g c =
+    inside_is_partly_merged _ g.Self.MessageSpec.merged g.Self.MessageSpec.cost g.Self.MessageSpec.Refused c.args.ctx.depth _ _ _ _ _ _ _ _ c.with_delimited.result c.with_delimited.ensures.lends (λ p k. k.met.1.1.0)
     (λ k. ap (λ z. g.Self.Blank.meaning z.0.now) k) (search rules)

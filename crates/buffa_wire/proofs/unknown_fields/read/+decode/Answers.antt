@@ -3,7 +3,7 @@ use Rattle.std.proofs.lemmas.Result.{err_from_is_err_and}
 use Rattle.buffa_bytes.specs.declared.wire_type.WireType.TheVariants.{EndGroup}
 use Rattle.buffa_bytes.specs.declared.error.DecodeError.TheVariants.{InvalidEndGroup}
 use Rattle.buffa_bytes.proofs.FieldLemmas.{tag_falls}
-use Rattle.buffa_bytes.proofs.LeftLemmas.{end_stays}
+use Rattle.buffa_bytes.proofs.UnreadLemmas.{end_stays}
 use Rattle.buffa_wire.proofs.LeaveLemmas.{leaves_all}
 use Rattle.buffa_wire.specs.BudgetLeft.{BudgetLeft}
 use Rattle.buffa_wire.specs.RecordReading.{group_records_at}

@@ -1,5 +1,5 @@
 use Rattle.std.proofs.Common.{◌≡◌, ◌+◌, ◌-◌, ◌*◌, length}
-use Rattle.buffa_bytes.specs.Left.{IsTailOf, bytes_read}
+use Rattle.buffa_bytes.specs.Unread.{IsTailOf, bytes_read}
 use Rattle.buffa_wire.specs.BudgetLeft.{UnknownsSpent}
 use Rattle.buffa_wire.proofs.SpentLemmas.{IsBegun}
 use Rattle.buffa_wire.specs.RecordReading.{group_records_at, group_records_behind}

@@ -1,5 +1,5 @@
 use Rattle.buffa_bytes.specs.declared.wire_type.WireType.TheVariants.{Fixed32, Fixed64}
-use Rattle.buffa_bytes.proofs.LeftLemmas.{fixed32_stays, fixed64_stays}
+use Rattle.buffa_bytes.proofs.UnreadLemmas.{fixed32_stays, fixed64_stays}
 use Rattle.std.proofs.lemmas.Result.{err_from_is_err_and}
 use Rattle.buffa_bytes.proofs.FullLemmas.{varint_no_full, fixed32_no_full, fixed64_no_full}
 use Rattle.buffa_wire.proofs.LeaveLemmas.{leaves_all, leaves_delimited, leaves_varint}

@@ -1,14 +1,14 @@
 use Rattle.std.proofs.Common.{[], ◌∷◌, ◌++◌, arith}
 use Rattle.std.specs.Int.{cast_unsigned, w64}
 use Rattle.buffa_fields.specs.facts.BlankFacts.{is_zero}
-use Rattle.buffa_fields.specs.MemberRecords.{plain_records}
+use Rattle.buffa_fields.specs.MemberRecords.{implicit_records}
 use Rattle.buffa_fields.specs.Values.{records_unless}
 use Rattle.buffa_wire.specs.Records.{varint}
 use Rattle.conformance.proofs.NumberLemmas.{unless_fits}
 use Rattle.conformance.proofs.back.TestMsgNormalBack.is_normal.Goals as goal
 
 pub returns : goal.returns
-unfolding plain_records
+unfolding implicit_records
 returns c = λ _.
     let a = c.args.self.now.a in
     let b = c.args.self.now.b in

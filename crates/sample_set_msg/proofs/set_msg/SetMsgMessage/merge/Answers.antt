@@ -1,7 +1,7 @@
 use Rattle.std.proofs.Common.{◌∙◌, inl, Err, arith, ap}
 use Rattle.std.proofs.lemmas.Result.{err_from_is_err_and}
 use Rattle.buffa_bytes.proofs.FullLemmas.{tag_full}
-use Rattle.buffa_wire.proofs.MergeLoopLemmas.{begins, ended, goes_on, no_tag, reached, refused_next, shorter, stands_refused, stands_untagged, tail}
+use Rattle.buffa_wire.proofs.MergeLoopLemmas.{begins, ended, goes_on, no_tag, reached, refused_next, shorter, partly_merged_refused, partly_merged_untagged, tail}
 use Rattle.sample_set_msg.proofs.MergeLemmas.{by_payloads, stops, stops_at}
 use Rattle.sample_set_msg.specs.Set.{IsSetRefused}
 use Rattle.sample_set_msg.proofs.set_msg.SetMsgMessage.merge.Goals as goal
@@ -50,15 +50,15 @@ returns-in_err-merge_field-clause-full c =
 pub returns-clause-merged : goal.returns-clause-merged
 returns-clause-merged c = ended by_payloads c.fields.invariant (omega (arith, c.remaining.ensures, c.fields-test.false))
 
-pub returns-in_err-tag-clause-stands : goal.returns-in_err-tag-clause-stands
-returns-in_err-tag-clause-stands c =
+pub returns-in_err-tag-clause-partly : goal.returns-in_err-tag-clause-partly
+returns-in_err-tag-clause-partly c =
     let p = err_from_is_err_and c.from_residual.result c.from_residual.ensures.1 in
-    rw (p.1, p.2) (stands_untagged by_payloads c.fields.invariant IsSetRefused c.in_err-tag.field-0.0 (omega (arith, c.remaining.ensures, c.fields-test.true)) c.in_err-tag.ensures.reads)
+    rw (p.1, p.2) (partly_merged_untagged by_payloads c.fields.invariant IsSetRefused c.in_err-tag.field-0.0 (omega (arith, c.remaining.ensures, c.fields-test.true)) c.in_err-tag.ensures.reads)
 
-pub returns-in_err-merge_field-clause-stands : goal.returns-in_err-merge_field-clause-stands
-returns-in_err-merge_field-clause-stands c =
+pub returns-in_err-merge_field-clause-partly : goal.returns-in_err-merge_field-clause-partly
+returns-in_err-merge_field-clause-partly c =
     let p = err_from_is_err_and c.from_residual-in_err-merge_field.result c.from_residual-in_err-merge_field.ensures.1 in
-    rw (p.1, p.2) (stands_refused by_payloads c.fields.invariant c.in_ok-tag.tag.number c.in_ok-tag.tag.wire_type c.decode.new.buf.now c.in_ok-tag.ensures.reads IsSetRefused c.in_err-merge_field.field-0.0 c.merge_field.new.self.fields.records c.merge_field.new.buf.now _ c.in_err-merge_field.ensures.merged
+    rw (p.1, p.2) (partly_merged_refused by_payloads c.fields.invariant c.in_ok-tag.tag.number c.in_ok-tag.tag.wire_type c.decode.new.buf.now c.in_ok-tag.ensures.reads IsSetRefused c.in_err-merge_field.field-0.0 c.merge_field.new.self.fields.records c.merge_field.new.buf.now _ c.in_err-merge_field.ensures.merged
     c.in_err-merge_field.ensures.refused c.in_err-merge_field.ensures.full)
 
 pub returns-clause-tail : goal.returns-clause-tail

@@ -1,5 +1,5 @@
 use Rattle.std.proofs.Common.{◌≡◌, length}
-use Rattle.buffa_bytes.specs.Left.{IsTailOf}
+use Rattle.buffa_bytes.specs.Unread.{IsTailOf}
 use Rattle.sample_types.specs.Census.{census_merged, counts_by_name}
 use Rattle.sample_types.proofs.census.Census.merge.Given as goal
 

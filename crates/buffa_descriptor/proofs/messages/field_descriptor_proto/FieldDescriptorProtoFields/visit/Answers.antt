@@ -1,4 +1,0 @@
-use Rattle.buffa_descriptor.proofs.messages.field_descriptor_proto.FieldDescriptorProtoFields.visit.Goals as goal
-
-pub returns-clause-seen : goal.returns-clause-seen
-returns-clause-seen g c = λ z h. c.visit_kept.ensures.seen _ (c.visit-9.ensures.seen _ (c.visit-8.ensures.seen _ (c.visit-7.ensures.seen _ (c.visit-6.ensures.seen _ (c.visit-5.ensures.seen _ (c.visit-4.ensures.seen _ (c.visit_keeping-2.ensures.seen _ (c.visit_keeping.ensures.seen _ (c.visit-3.ensures.seen _ (c.visit-2.ensures.seen _ (c.visit.ensures.seen z h)))))))))))

@@ -1,4 +1,0 @@
-use Rattle.buffa_descriptor.proofs.messages.service_descriptor_proto.ServiceDescriptorProtoFields.visit.Goals as goal
-
-pub visit-requires-3-clause-comes : goal.visit-requires-3-clause-comes
-visit-requires-3-clause-comes g c = g.V.Visitor.begins _ _ _ (c.visit-2.ensures.waits _ (c.visit.ensures.waits _ c.requires))

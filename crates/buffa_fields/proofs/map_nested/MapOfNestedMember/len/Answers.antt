@@ -1,8 +1,0 @@
-use Rattle.buffa_map.specs.Pairs.{means}
-use Rattle.buffa_fields.proofs.NestedMapLemmas.{all_sized}
-use Rattle.buffa_fields.proofs.map_nested.MapOfNestedMember.len.Goals as goal
-
-pub returns-clause-always : goal.returns-clause-always
-returns-clause-always g c = λ none.
-    let l = means g.KC.Value.Blank.meaning g.N.Blank.meaning c.args.part.now.entries in
-    all_sized g.N.MessageSpec.encoding g.N.MessageSpec.slots l c.pairs_len.result c.pairs_len.ensures.some none

@@ -1,0 +1,16 @@
+use Rattle.std.proofs.lemmas.Result.{err_from_is_err_and}
+use Rattle.buffa_fields.proofs.MapOfMessagesLemmas.{pairs_sized, pairs_unsized}
+use Rattle.buffa_fields.proofs.members.message_map_field.pairs_len.Goals as goal
+
+pub returns-clause-sized : goal.returns-clause-sized
+returns-clause-sized g c =
+    let tag = rw (c.new.ensures.number, c.new.ensures.wire_type) at c.encoded_len-tag.ensures in
+    pairs_sized g.KC.MapCodec.writing g.N.MessageSpec.encoding g.N.MessageSpec.slots c.args.number (g.C.StableOrder.walk c.args.map.now)
+    c.encoded_len-tag.result tag c.args.cache.now c.message_field_len.new.cache c.in_ok-total.total _ c.capped.ensures c.in_ok-total.ensures.sized
+
+pub returns-in_err-total-clause-sized : goal.returns-in_err-total-clause-sized
+returns-in_err-total-clause-sized g c =
+    let tag = rw (c.new.ensures.number, c.new.ensures.wire_type) at c.encoded_len-tag.ensures in
+    let p = err_from_is_err_and c.from_residual.result c.from_residual.ensures.1 in
+    rw (p.1, p.2) (pairs_unsized g.KC.MapCodec.writing g.N.MessageSpec.encoding g.N.MessageSpec.slots c.args.number (g.C.StableOrder.walk c.args.map.now)
+    c.encoded_len-tag.result tag c.args.cache.now c.message_field_len.new.cache c.in_err-total.field-0.0 c.in_err-total.ensures.sized)

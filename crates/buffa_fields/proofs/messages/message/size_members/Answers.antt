@@ -1,0 +1,15 @@
+use Rattle.std.proofs.Common.{[], subst, sym}
+use Rattle.buffa_fields.specs.Schema.{IsCounted}
+use Rattle.buffa_fields.specs.facts.SchemaFacts.{counts_none, sizes, start}
+use Rattle.buffa_fields.proofs.messages.message.size_members.Goals as goal
+
+pub returns : goal.returns
+returns g c =
+    let s = c.args.sizer.now in
+    let name = s.cache.ghost_name in
+    let first = s.cache.now in
+    let z = start 0 [] name first in
+    let new = c.visit.new.visitor in
+    let k = sizes g.M.MessageFields.schema c.args.message.now 0 [] new.cache.ghost_name name first new.cache.now new.total
+    (c.visit.ensures.seen z (subst (λ r. IsCounted name r first z) (sym c.requires) (counts_none 0 [] name first))) in
+    record { same_reference = k.0; sized = k.1; always = k.2 }

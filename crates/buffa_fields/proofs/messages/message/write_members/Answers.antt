@@ -1,0 +1,23 @@
+use Rattle.std.proofs.Common.{subst, sym}
+use Rattle.buffa_fields.specs.Schema.{Follow, IsPut}
+use Rattle.buffa_fields.specs.facts.SchemaFacts.{follows, puts, puts_none, start}
+use Rattle.buffa_fields.proofs.messages.message.write_members.Goals as goal
+
+pub visit-requires : goal.visit-requires
+visit-requires g c =
+    let w = c.args.writer.now in
+    let ss = g.M.MessageFields.schema.slots (g.M.MessageFields.schema.meaning c.args.message.now) in
+    subst (λ r. Follow ss r w.cache.now) (sym c.requires.fresh) (follows ss w.cache.now c.requires.next)
+
+pub returns : goal.returns
+returns g c =
+    let w = c.args.writer.now in
+    let sink = w.sink.ghost_name in
+    let before = g.S.EncodeSink.written w.sink.now in
+    let cache = w.cache.ghost_name in
+    let first = w.cache.now in
+    let z = start sink before cache first in
+    let new = c.visit.new.visitor in
+    let k = puts g.M.MessageFields.schema c.args.message.now sink new.sink.ghost_name before cache new.cache.ghost_name first new.cache.now (g.S.EncodeSink.written new.sink.now) new.result
+    (c.visit.ensures.seen z (subst (λ r. IsPut sink cache before first r z) (sym c.requires.fresh) (puts_none sink before cache first))) in
+    record { same_sink = k.0; same_cache = k.1; written = k.2 }

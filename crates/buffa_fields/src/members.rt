@@ -1,0 +1,29 @@
+//! Member types: how the value of a field is held, read and written.
+
+pub mod closed_enum_field;
+pub mod closed_enum_list;
+pub mod closed_enum_map;
+pub mod explicit_field;
+pub mod framing;
+pub mod group_field;
+pub mod implicit_field;
+pub mod keeps_unknowns;
+pub(crate) mod list;
+pub(crate) mod map;
+pub mod map_field;
+pub mod member;
+pub mod message_field;
+pub mod message_in;
+pub mod message_map_field;
+pub mod messages_in;
+pub mod ordered_closed_enum_map;
+pub mod ordered_key;
+pub mod ordered_map_field;
+pub mod ordered_message_map_field;
+pub mod packed_field;
+pub mod proto_type;
+pub mod proto_types;
+pub mod repeated_field;
+pub mod repeated_group_field;
+pub mod repeated_message_field;
+pub mod value;

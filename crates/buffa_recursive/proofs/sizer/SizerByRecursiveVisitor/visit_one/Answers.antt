@@ -1,0 +1,17 @@
+use Rattle.std.proofs.Common.{subst, sym}
+use Rattle.std.specs.Option.{option_map}
+use Rattle.buffa_fields.specs.Schema.{IsCounted, visited}
+use Rattle.buffa_recursive.specs.RecursiveSchema.{maybe_shape}
+use Rattle.buffa_recursive.specs.Fixpoint.{semantics}
+use Rattle.buffa_recursive.specs.facts.MemberPassFacts.{other_uncounted}
+use Rattle.buffa_recursive.specs.InnerMessages.{child_shape}
+use Rattle.buffa_recursive.proofs.sizer.SizerByRecursiveVisitor.visit_one.Goals as goal
+
+pub returns-in_default-clause-seen : goal.returns-in_default-clause-seen
+returns-in_default-clause-seen g c = λ z h.
+    let o = g.M.RecursiveType.schema in
+    let w = semantics g.M.RecursiveType.COST o g.M.RecursiveType.sound in
+    let s = c.args.self.now in
+    let v = option_map (λ b. b.value) c.args.part.now in
+    subst (λ r. IsCounted s.cache.ghost_name r s.cache.now (visited (maybe_shape o w) c.args.number (o.of_option v) z)) (sym c.in_default.is)
+    (other_uncounted o.of_option o.option_of o.option_again (child_shape w) c.args.number v z s.cache.ghost_name s.cache.now _ (subst (λ r. IsCounted s.cache.ghost_name r s.cache.now z) c.in_default.is h))

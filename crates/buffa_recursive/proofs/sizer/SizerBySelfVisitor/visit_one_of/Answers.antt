@@ -1,9 +1,0 @@
-use Rattle.std.proofs.Common.{subst}
-use Rattle.buffa_fields.specs.Layout.{IsCounted}
-use Rattle.buffa_recursive.specs.facts.OneOfMeaningFacts.{meant_seen}
-use Rattle.buffa_recursive.proofs.sizer.SizerBySelfVisitor.visit_one_of.Goals as goal
-
-pub returns-clause-seen : goal.returns-clause-seen
-returns-clause-seen g c = λ z h.
-    let s = c.args.self.now in
-    subst (λ x. IsCounted s.cache.ghost_name c.case_counted-self.result c.case_counted-self.new.cache x) (meant_seen g.E.OneOf.cases c.args.part.now z) (c.case_counted-self.ensures s.cache.ghost_name z h)

@@ -1,0 +1,63 @@
+use Rattle.std.proofs.Common.{false, refl, sym, true, ◌==◌, ◌||◌, ◌∙◌, ◌≡◌}
+use Rattle.buffa_fields.specs.Terms.{Took, TookWithUnknowns, chosen, not_chosen}
+use Rattle.sample_outline.proofs.outline.OutlineRecursiveFields.take.Goals as goal
+
+pub returns-in-1-clause-taken : goal.returns-in-1-clause-taken
+unfolding Took
+returns-in-1-clause-taken g c =
+    let n = c.args.tag.number in
+    let is = sym c.field_number.ensures ∙ c.in-1.is in
+    rw (sym c.self.view_is) (chosen _ n 1 is (c.merge.ensures, (refl, (refl, (refl, (refl, (refl, (refl, refl))))))))
+
+pub returns-in-2-clause-taken : goal.returns-in-2-clause-taken
+returns-in-2-clause-taken g c =
+    let n = c.args.tag.number in
+    let is = sym c.field_number.ensures ∙ c.in-2.is in
+    rw (sym c.self.view_is) (not_chosen _ n 1 (λ e. let no = sym is ∙ e in cc) (refl, chosen _ n 2 is (c.take_list.ensures, (refl, (refl, (refl, (refl, (refl, refl))))))))
+
+pub returns-in-3-clause-taken : goal.returns-in-3-clause-taken
+unfolding Took
+returns-in-3-clause-taken g c =
+    let n = c.args.tag.number in
+    let is = sym c.field_number.ensures ∙ c.in-3.is in
+    rw (sym c.self.view_is) (not_chosen _ n 1 (λ e. let no = sym is ∙ e in cc) (refl, not_chosen _ n 2 (λ e. let no = sym is ∙ e in cc) (refl, chosen _ n 3 is (c.merge-in-3.ensures, (refl, (refl, (refl, (refl, refl))))))))
+
+pub returns-in-4-clause-taken : goal.returns-in-4-clause-taken
+returns-in-4-clause-taken g c =
+    let n = c.args.tag.number in
+    let is = sym c.field_number.ensures ∙ c.in-4.is in
+    rw (sym c.self.view_is) (not_chosen _ n 1 (λ e. let no = sym is ∙ e in cc) (refl, not_chosen _ n 2 (λ e. let no = sym is ∙ e in cc) (refl, not_chosen _ n 3 (λ e. let no = sym is ∙ e in cc) (refl, chosen _ n 4 is (c.take_one.ensures, (refl, (refl, (refl, refl))))))))
+
+pub returns-in-5-clause-taken : goal.returns-in-5-clause-taken
+returns-in-5-clause-taken g c =
+    let n = c.args.tag.number in
+    let is = sym c.field_number.ensures ∙ c.in-5.is in
+    rw (sym c.self.view_is) (not_chosen _ n 1 (λ e. let no = sym is ∙ e in cc) (refl, not_chosen _ n 2 (λ e. let no = sym is ∙ e in cc) (refl, not_chosen _ n 3 (λ e. let no = sym is ∙ e in cc) (refl, not_chosen _ n 4 (λ e. let no = sym is ∙ e in cc) (refl, chosen _ n 5 is (c.take_map.ensures, (refl, (refl, refl))))))))
+
+pub returns-in-6-clause-taken : goal.returns-in-6-clause-taken
+unfolding TookWithUnknowns
+returns-in-6-clause-taken g c =
+    let n = c.args.tag.number in
+    let is = sym c.field_number.ensures ∙ c.in-6.is in
+    rw (sym c.self.view_is) (not_chosen _ n 1 (λ e. let no = sym is ∙ e in cc) (refl, not_chosen _ n 2 (λ e. let no = sym is ∙ e in cc) (refl, not_chosen _ n 3 (λ e. let no = sym is ∙ e in cc) (refl, not_chosen _ n 4 (λ e. let no = sym is ∙ e in cc) (refl, not_chosen _ n 5 (λ e. let no = sym is ∙ e in cc) (refl, chosen _ n 6 is (c.merge_with_unknowns.ensures, (refl, tt))))))))
+
+pub returns-in-7-clause-taken : goal.returns-in-7-clause-taken
+returns-in-7-clause-taken g c =
+    let n = c.args.tag.number in
+    let is = sym c.field_number.ensures ∙ c.in-7.is in
+    let mine : (n == 7 || (n == 8 || (n == 9 || false))) ≡ true = rw is refl in
+    rw (sym c.self.view_is) (not_chosen _ n 1 (λ e. let no = sym is ∙ e in cc) (refl, not_chosen _ n 2 (λ e. let no = sym is ∙ e in cc) (refl, not_chosen _ n 3 (λ e. let no = sym is ∙ e in cc) (refl, not_chosen _ n 4 (λ e. let no = sym is ∙ e in cc) (refl, not_chosen _ n 5 (λ e. let no = sym is ∙ e in cc) (refl, not_chosen _ n 6 (λ e. let no = sym is ∙ e in cc) (refl, rw mine (c.take_one_of.ensures, refl))))))))
+
+pub returns-in-8-clause-taken : goal.returns-in-8-clause-taken
+returns-in-8-clause-taken g c =
+    let n = c.args.tag.number in
+    let is = sym c.field_number.ensures ∙ c.in-8.is in
+    let mine : (n == 7 || (n == 8 || (n == 9 || false))) ≡ true = rw is refl in
+    rw (sym c.self.view_is) (not_chosen _ n 1 (λ e. let no = sym is ∙ e in cc) (refl, not_chosen _ n 2 (λ e. let no = sym is ∙ e in cc) (refl, not_chosen _ n 3 (λ e. let no = sym is ∙ e in cc) (refl, not_chosen _ n 4 (λ e. let no = sym is ∙ e in cc) (refl, not_chosen _ n 5 (λ e. let no = sym is ∙ e in cc) (refl, not_chosen _ n 6 (λ e. let no = sym is ∙ e in cc) (refl, rw mine (c.take_one_of-in-8.ensures, refl))))))))
+
+pub returns-in-9-clause-taken : goal.returns-in-9-clause-taken
+returns-in-9-clause-taken g c =
+    let n = c.args.tag.number in
+    let is = sym c.field_number.ensures ∙ c.in-9.is in
+    let mine : (n == 7 || (n == 8 || (n == 9 || false))) ≡ true = rw is refl in
+    rw (sym c.self.view_is) (not_chosen _ n 1 (λ e. let no = sym is ∙ e in cc) (refl, not_chosen _ n 2 (λ e. let no = sym is ∙ e in cc) (refl, not_chosen _ n 3 (λ e. let no = sym is ∙ e in cc) (refl, not_chosen _ n 4 (λ e. let no = sym is ∙ e in cc) (refl, not_chosen _ n 5 (λ e. let no = sym is ∙ e in cc) (refl, not_chosen _ n 6 (λ e. let no = sym is ∙ e in cc) (refl, rw mine (c.take_one_of-in-9.ensures, refl))))))))

@@ -1,7 +1,0 @@
-use Rattle.sample_palette.proofs.palette.PaletteFields.visit.Goals as goal
-
-pub visit-requires-3-clause-comes : goal.visit-requires-3-clause-comes
-visit-requires-3-clause-comes g c = g.V.Visitor.begins _ _ _ (c.visit-2.ensures.waits _ (c.visit_keeping-5.ensures.waits _ (c.visit_keeping-4.ensures.waits _ (c.visit_keeping-3.ensures.waits _ (c.visit_keeping-2.ensures.waits _ (c.visit_keeping.ensures.waits _ (c.visit.ensures.waits _ c.requires)))))))
-
-pub returns-clause-seen : goal.returns-clause-seen
-returns-clause-seen g c = λ z h. c.visit_kept.ensures.seen _ (c.visit-3.ensures.seen _ (c.visit-2.ensures.seen _ (c.visit_keeping-5.ensures.seen _ (c.visit_keeping-4.ensures.seen _ (c.visit_keeping-3.ensures.seen _ (c.visit_keeping-2.ensures.seen _ (c.visit_keeping.ensures.seen _ (c.visit.ensures.seen z h))))))))

@@ -1,0 +1,16 @@
+use Rattle.std.proofs.Common.{refl, sym, ◌∙◌}
+use Rattle.buffa_fields.specs.Terms.{Took, chosen, not_chosen}
+use Rattle.sample_stock.proofs.messages.place.PlaceRecursiveFields.take.Goals as goal
+
+pub returns-in-1-clause-taken : goal.returns-in-1-clause-taken
+unfolding Took
+returns-in-1-clause-taken g c =
+    let n = c.args.tag.number in
+    let is = sym c.field_number.ensures ∙ c.in-1.is in
+    rw (sym c.self.view_is) (chosen _ n 1 is (c.merge.ensures, (refl, refl)))
+
+pub returns-in-2-clause-taken : goal.returns-in-2-clause-taken
+returns-in-2-clause-taken g c =
+    let n = c.args.tag.number in
+    let is = sym c.field_number.ensures ∙ c.in-2.is in
+    rw (sym c.self.view_is) (not_chosen _ n 1 (λ e. let no = sym is ∙ e in cc) (refl, chosen _ n 2 is (c.take_list.ensures, refl)))

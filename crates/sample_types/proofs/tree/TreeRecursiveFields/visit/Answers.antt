@@ -1,0 +1,11 @@
+use Rattle.std.proofs.Common.{sym}
+use Rattle.sample_types.proofs.tree.TreeRecursiveFields.visit.Goals as goal
+
+pub visit_map-requires-clause-comes : goal.visit_map-requires-clause-comes
+visit_map-requires-clause-comes g c =
+    let all = rw (sym c.self.view_is) at c.requires.waits in
+    g.V.RecursiveVisitor.begins _ _ c.visit.new.self (c.visit.ensures.waits _ all)
+
+pub returns-clause-seen : goal.returns-clause-seen
+returns-clause-seen g c =
+    rw (sym c.self.view_is) (λ z h. c.visit_map.ensures.seen _ (c.visit.ensures.seen z h))

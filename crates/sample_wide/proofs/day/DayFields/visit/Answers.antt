@@ -1,7 +1,0 @@
-use Rattle.sample_wide.proofs.day.DayFields.visit.Goals as goal
-
-pub visit-requires-10 : goal.visit-requires-10
-visit-requires-10 g c = g.V.Visitor.begins _ _ _ (c.visit-9.ensures.waits _ (c.visit-8.ensures.waits _ (c.visit-7.ensures.waits _ (c.visit-6.ensures.waits _ (c.visit-5.ensures.waits _ (c.visit-4.ensures.waits _ (c.visit-3.ensures.waits _ (c.visit-2.ensures.waits _ (c.visit.ensures.waits _ c.requires)))))))))
-
-pub returns-clause-seen : goal.returns-clause-seen
-returns-clause-seen g c = λ z h. c.visit_kept.ensures.seen _ (c.visit-10.ensures.seen _ (c.visit-9.ensures.seen _ (c.visit-8.ensures.seen _ (c.visit-7.ensures.seen _ (c.visit-6.ensures.seen _ (c.visit-5.ensures.seen _ (c.visit-4.ensures.seen _ (c.visit-3.ensures.seen _ (c.visit-2.ensures.seen _ (c.visit.ensures.seen z h))))))))))
