@@ -80,9 +80,16 @@ def behind(message, at):
     return "(refl, " * left + last + ")" * left
 
 
+def took_by(member, step):
+    """What the contract of the call says that took a field: one clause, or the four of `Member::merge`."""
+    if member.itself or isinstance(member, OneOf) or member.keeps:
+        return f"c.{step}.ensures"
+    return f"({', '.join(f'c.{step}.ensures.{clause}' for clause in ('taken', 'memory', 'wrong_type', 'refused'))})"
+
+
 def term(message, number, at, step):
     """That the member at this place took the field of a number."""
-    took = f"(c.{step}.ensures, {behind(message, at)})"
+    took = f"({took_by(message.members[at], step)}, {behind(message, at)})"
     made = f"rw mine {took}" if isinstance(message.members[at], OneOf) else f"chosen _ n {number} is {took}"
     for before in reversed(message.members[:at]):
         if isinstance(before, OneOf):
@@ -93,10 +100,9 @@ def term(message, number, at, step):
 
 
 def unfolded(member):
-    """The word that the answers of a member look into."""
-    if member.itself or isinstance(member, OneOf):
-        return ""
-    return "TookWithUnknowns" if member.keeps else "Took"
+    """The word that the answers of a member look into, if there is one."""
+    is_plain = member.itself or isinstance(member, OneOf) or not member.keeps
+    return "" if is_plain else "TookWithUnknowns"
 
 
 def take(world, message):

@@ -39,7 +39,6 @@ child_fault d n w bs left e h =
 -- ---- a member that refused it says why, and what is kept stays
 module _ (d n : ℕ) (w : WireType) (bs rest : List ℕ) (before after : BudgetLeft) (e : DecodeError) where
   took_refused : {P X : Type 0} (s : Shape P X) (old new : P) → Took s d old n w bs before (refusal e) new after rest → s.refuses d (s.meaning old) n w bs before e (s.meaning new)
-  unfolding Took
   took_refused s old new took = took.3 e refl
 
   refused_with_unknowns : {P X : Type 0} (s : Shape P X) (a : Unknowns X) (old new : P) (r r2 : NodeKept) → TookWithUnknowns s a d old r n w bs before (refusal e) new r2 after rest → a.refuses d (s.meaning old) n w bs before e (s.meaning new) × (r ≡ r2)

@@ -99,7 +99,6 @@ module _ {P A : Type 0} (k : ℕ) (s : Shape (Option P) (Option A)) (merges : Bo
     Its r = IsTaken s.takes s.charge d (s.meaning (at old)) n w bs before r (s.meaning (at new)) after rest
 
     took : (stood q : Option P) (r : answer) → Took s d stood n w bs before r q after rest → IsTaken s.takes s.charge d (s.meaning stood) n w bs before r (s.meaning q) after rest
-    unfolding Took
     took stood q r h = h.0
 
     -- it makes of this value that stood what it makes of what is there
@@ -133,7 +132,6 @@ module _ {P A : Type 0} (k : ℕ) (s : Shape (Option P) (Option A)) (merges : Bo
 
     -- memory runs out only where it is asked for
     asked : (stood q : Option P) (r : answer) → Took s d stood n w bs before r q after rest → FullOnlyIf r (s.asks d n w bs)
-    unfolding Took
     asked stood q r h = h.1
 
     asks_over : (stood q : Option P) (r : answer) → IsPutOver at s d old n w bs before stood r q after rest → FullOnlyIf r (s.asks d n w bs)

@@ -51,13 +51,11 @@ none_mine mine Q (y ∷ ys) h = ((λ is. let both = sym is ∙ same_false_only (
 -- ---- what a call owes that took a field
 module _ {P A : Type 0} (s : Shape P A) (d : ℕ) (p q : P) (n : ℕ) (w : WireType) (bs : List ℕ) (before : BudgetLeft) (r : answer) (after : BudgetLeft) (rest : List ℕ) where
   pub member_taken : {B : Type 0} (b c : B) → b ≡ c → Took s d p n w bs before r q after rest → IsTaken (first_of s.takes) s.charge d (s.meaning p, b) n w bs before r (s.meaning q, c) after rest
-  unfolding Took
   member_taken b c same h =
       subst (λ z. IsTaken (first_of s.takes) s.charge d (s.meaning p, b) n w bs before r (s.meaning q, z) after rest) same
       (part_taken s.takes s.charge (first_of s.takes) s.charge d n w (s.meaning p) (s.meaning p, b) (λ x. (x, b)) (λ x. refl) (λ x. refl) bs rest before after r (s.meaning q) h.0)
 
   pub member_asks : Took s d p n w bs before r q after rest → FullOnlyIf r (s.asks d n w bs)
-  unfolding Took
   member_asks h = h.1
 
 -- ---- the laws

@@ -73,7 +73,6 @@ impl<C: ProtoType> Member for ImplicitField<C> {
     }
 
     #[inline(always)]
-    #[tactic(auto, unfolding(crate::specs::Schema::Took))]
     fn merge(
         part: &mut C::Value,
         alloc: Global,

@@ -81,7 +81,6 @@ where
         write_map::<KC, VC, Map<KC::Value, VC::Value>, S>(number, part, sink)
     }
 
-    #[tactic(auto, unfolding(crate::specs::Schema::Took))]
     fn merge(
         part: &mut Map<KC::Value, VC::Value>,
         alloc: Global,

@@ -129,7 +129,6 @@ where
         write_pairs::<KC, N, Map<KC::Value, N>, S>(number, part, cache, sink)
     }
 
-    #[tactic(auto, unfolding(crate::specs::Schema::Took))]
     fn merge(
         part: &mut Map<KC::Value, N>,
         alloc: Global,

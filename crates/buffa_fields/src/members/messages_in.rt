@@ -158,7 +158,6 @@ impl<F: Framing, N: Message> Member for MessagesIn<F, N> {
         write_messages::<F, N, S>(number, part.as_slice(), cache, sink)
     }
 
-    #[tactic(auto, unfolding(crate::specs::Schema::Took))]
     fn merge(
         part: &mut Vec<N>,
         alloc: Global,

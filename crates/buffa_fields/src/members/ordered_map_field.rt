@@ -118,7 +118,6 @@ where
         write_map::<KC, VC, BTreeMap<KC::Value, VC::Value>, S>(number, part, sink)
     }
 
-    #[tactic(auto, unfolding(crate::specs::Schema::Took))]
     fn merge(
         part: &mut BTreeMap<KC::Value, VC::Value>,
         alloc: Global,

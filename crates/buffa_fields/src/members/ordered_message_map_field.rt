@@ -88,7 +88,6 @@ where
         write_pairs::<KC, N, BTreeMap<KC::Value, N>, S>(number, part, cache, sink)
     }
 
-    #[tactic(auto, unfolding(crate::specs::Schema::Took))]
     fn merge(
         part: &mut BTreeMap<KC::Value, N>,
         alloc: Global,

@@ -200,7 +200,6 @@ impl<C: Packable> Member for PackedField<C> {
         write_packed::<C, S>(number, part.as_slice(), cache, sink)
     }
 
-    #[tactic(auto, unfolding(crate::specs::Schema::Took))]
     fn merge(
         part: &mut Vec<C::Value>,
         alloc: Global,

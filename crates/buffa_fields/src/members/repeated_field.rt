@@ -63,7 +63,6 @@ impl<C: ProtoType> Member for RepeatedField<C> {
         write_elements::<C, S>(number, part.as_slice(), sink)
     }
 
-    #[tactic(auto, unfolding(crate::specs::Schema::Took))]
     fn merge(
         part: &mut Vec<C::Value>,
         alloc: Global,

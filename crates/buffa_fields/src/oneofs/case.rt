@@ -134,7 +134,6 @@ impl<C: Case> Member for Set<C> {
     }
 
     #[inline(always)]
-    #[tactic(auto, unfolding(crate::specs::Schema::Took))]
     fn merge(
         part: &mut C::Value,
         alloc: Global,
