@@ -62,21 +62,21 @@ pub record ReadsBackTo {P X : Type 0} (s : Shape P X) : Type 0 where
 -- ---- what the calls of a message's members owe
 
 -- A member takes the field whose tag was read as its payload makes the value, and pays what that costs; or refuses it.
-abbrev pub TakesAsSaid : {P X : Type 0} → Shape P X → TaggedField → P → Result (Unit {0}) DecodeError → P → BudgetLeft → List ℕ → Type 0
+unfoldable pub TakesAsSaid : {P X : Type 0} → Shape P X → TaggedField → P → Result (Unit {0}) DecodeError → P → BudgetLeft → List ℕ → Type 0
 TakesAsSaid s f old r new after rest =
     IsTaken s.takes s.charge f.depth (s.meaning old) f.number f.wire_type f.bytes f.budget r (s.meaning new) after rest
 
--- where the member may ask for memory
-abbrev pub MayAsk : {P X : Type 0} → Shape P X → TaggedField → Type 0
-MayAsk s f = s.asks f.depth f.number f.wire_type f.bytes
+-- memory runs out only where the member may ask for it
+unfoldable pub AsksAsSaid : {P X : Type 0} → Shape P X → TaggedField → Result (Unit {0}) DecodeError → Type 0
+AsksAsSaid s f r = FullOnlyIf r (s.asks f.depth f.number f.wire_type f.bytes)
 
 -- the fault of its number or wire type is told: the value means what it did, and the field is unread
-abbrev pub TellsWrongType : {P X : Type 0} → Shape P X → TaggedField → P → Result (Unit {0}) DecodeError → P → List ℕ → Type 0
+unfoldable pub TellsWrongType : {P X : Type 0} → Shape P X → TaggedField → P → Result (Unit {0}) DecodeError → P → List ℕ → Type 0
 TellsWrongType s f old r new rest =
     (e : DecodeError) → s.checks f.number f.wire_type ≡ Err e → (r ≡ Err e) × (s.meaning old ≡ s.meaning new) × (f.bytes ≡ rest)
 
 -- a field is refused as the member says
-abbrev pub RefusesAsSaid : {P X : Type 0} → Shape P X → TaggedField → P → Result (Unit {0}) DecodeError → P → Type 0
+unfoldable pub RefusesAsSaid : {P X : Type 0} → Shape P X → TaggedField → P → Result (Unit {0}) DecodeError → P → Type 0
 RefusesAsSaid s f old r new =
     (e : DecodeError) → r ≡ Err e → s.refuses f.depth (s.meaning old) f.number f.wire_type f.bytes f.budget e (s.meaning new)
 
@@ -84,7 +84,7 @@ RefusesAsSaid s f old r new =
 abbrev pub Took : {P X : Type 0} → Shape P X → ℕ → P → ℕ → WireType → List ℕ → BudgetLeft → Result (Unit {0}) DecodeError → P → BudgetLeft → List ℕ → Type 0
 Took s d old n w bs before r new after rest =
     let f : TaggedField = record { depth = d; number = n; wire_type = w; bytes = bs; budget = before } in
-    TakesAsSaid s f old r new after rest × FullOnlyIf r (MayAsk s f) × TellsWrongType s f old r new rest × RefusesAsSaid s f old r new
+    TakesAsSaid s f old r new after rest × AsksAsSaid s f r × TellsWrongType s f old r new rest × RefusesAsSaid s f old r new
 
 -- a field is refused by the fault of its bytes, or as one too many; unread is what stands where no payload does, and all
 -- of it where none may be kept, or no level is left for a group

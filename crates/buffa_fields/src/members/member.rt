@@ -5,9 +5,8 @@ ghost use Rattle.buffa_wire.specs.BudgetLeft.{budget_left};
 ghost use Rattle.buffa_bytes.specs.Number.{IsNumber};
 ghost use Rattle.buffa_wire.specs.Passes.{IsNext, IsSized, IsWritten};
 ghost use Rattle.buffa_wire.specs.Encoding.{records_encoding};
-ghost use Rattle.buffa_bytes.specs.Readings.{FullOnlyIf};
 ghost use Rattle.buffa_fields.specs.TaggedField.{tagged_field};
-ghost use Rattle.buffa_fields.specs.Schema.{RefusesAsSaid, TakesAsSaid, MayAsk, ReadsBackTo, Shape, TellsWrongType};
+ghost use Rattle.buffa_fields.specs.Schema.{AsksAsSaid, ReadsBackTo, RefusesAsSaid, Shape, TakesAsSaid, TellsWrongType};
 
 use buffa_wire::{DecodeContext, DecodeError, EncodeError, EncodeSink, SizeCache, Tag};
 use std::alloc::Global;
@@ -80,7 +79,7 @@ pub trait Member {
     ) -> Result<(), DecodeError>
         ensures taken { TakesAsSaid shape (tagged_field tag ctx.entry buf.old) part.old result part.new
             (budget_left ctx.exit) buf.new.now }
-        ensures memory { FullOnlyIf result (MayAsk shape (tagged_field tag ctx.entry buf.old)) }
+        ensures memory { AsksAsSaid shape (tagged_field tag ctx.entry buf.old) result }
         ensures wrong_type { TellsWrongType shape (tagged_field tag ctx.entry buf.old) part.old result part.new buf.new.now }
         ensures refused { RefusesAsSaid shape (tagged_field tag ctx.entry buf.old) part.old result part.new };
 

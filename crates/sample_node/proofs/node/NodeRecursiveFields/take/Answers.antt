@@ -1,9 +1,11 @@
 use Rattle.std.proofs.Common.{◌∙◌, refl, sym}
 use Rattle.buffa_fields.specs.Unknowns.{TookWithUnknowns}
+use Rattle.buffa_fields.specs.Schema.{AsksAsSaid, RefusesAsSaid, TakesAsSaid, TellsWrongType}
 use Rattle.buffa_fields.specs.facts.SchemaFacts.{chosen, not_chosen}
 use Rattle.sample_node.proofs.node.NodeRecursiveFields.take.Goals as goal
 
 pub returns-in-1-clause-taken : goal.returns-in-1-clause-taken
+unfolding AsksAsSaid RefusesAsSaid TakesAsSaid TellsWrongType
 returns-in-1-clause-taken g c =
     let n = c.args.tag.number in
     let is = sym c.field_number.ensures ∙ c.in-1.is in

@@ -1,8 +1,9 @@
 use Rattle.std.proofs.Common.{false, refl, sym, true, ◌==◌, ◌||◌, ◌∙◌, ◌≡◌}
-use Rattle.buffa_fields.specs.Terms.{chosen, not_chosen}
+use Rattle.buffa_fields.specs.Terms.{AsksAsSaid, RefusesAsSaid, TakesAsSaid, TellsWrongType, chosen, not_chosen}
 use Rattle.sample_recursive.proofs.task.TaskRecursiveFields.take.Goals as goal
 
 pub returns-in-1-clause-taken : goal.returns-in-1-clause-taken
+unfolding AsksAsSaid RefusesAsSaid TakesAsSaid TellsWrongType
 returns-in-1-clause-taken g c =
     let n = c.args.tag.number in
     let is = sym c.field_number.ensures ∙ c.in-1.is in
@@ -27,6 +28,7 @@ returns-in-4-clause-taken g c =
     rw (sym c.self.view_is) (not_chosen _ n 1 (λ e. let no = sym is ∙ e in cc) (refl, not_chosen _ n 2 (λ e. let no = sym is ∙ e in cc) (refl, not_chosen _ n 3 (λ e. let no = sym is ∙ e in cc) (refl, chosen _ n 4 is (c.take_map.ensures, (refl, (refl, refl)))))))
 
 pub returns-in-5-clause-taken : goal.returns-in-5-clause-taken
+unfolding AsksAsSaid RefusesAsSaid TakesAsSaid TellsWrongType
 returns-in-5-clause-taken g c =
     let n = c.args.tag.number in
     let is = sym c.field_number.ensures ∙ c.in-5.is in

@@ -1,8 +1,9 @@
 use Rattle.std.proofs.Common.{refl, sym, ◌∙◌}
-use Rattle.buffa_fields.specs.Terms.{chosen, not_chosen}
+use Rattle.buffa_fields.specs.Terms.{AsksAsSaid, RefusesAsSaid, TakesAsSaid, TellsWrongType, chosen, not_chosen}
 use Rattle.sample_stock.proofs.messages.place.PlaceRecursiveFields.take.Goals as goal
 
 pub returns-in-1-clause-taken : goal.returns-in-1-clause-taken
+unfolding AsksAsSaid RefusesAsSaid TakesAsSaid TellsWrongType
 returns-in-1-clause-taken g c =
     let n = c.args.tag.number in
     let is = sym c.field_number.ensures ∙ c.in-1.is in
