@@ -1,13 +1,14 @@
 #!/usr/bin/env python3
 """Writes docs/INDEX.md from the sources, and sees that the other pages name what is there.
 
-docs/INDEX.md has each public call of the product and of the samples, and each law, with the names of its clauses; for each table of
+docs/INDEX.md has each public call of the product and of the samples, and each law, with the names of its clauses, marked where they say
+a ghost's own text again (said_again.py); for each table of
 cases the calls that its rows make; and each wrong body that `rt ci` tries, with the goal that refuses it.
 
     tests/index.py          sees that docs/INDEX.md is what the sources give; that each name in code that stands in a page of PAGES is
                             there; that each link of README.md and docs/ leads to a file and, behind `#`, to a heading; that
                             the words in code of a link to a file of code, or to the index, stand there; and that each walk of docs/MAP.md names what
-                            stands in its file; status 1 where not
+                            stands in its file; and that docs/PROMISES.md marks the laws that say a ghost's own text again; status 1 where not
     tests/index.py write    writes docs/INDEX.md
 
 A walk is a list whose lines begin with a file, as "1. `crates/buffamap/src/main.rt`: ..": each name in code in such a line stands in that
@@ -20,6 +21,8 @@ import os
 import re
 import sys
 
+from said_again import said_again
+
 TOP = os.path.dirname(os.path.dirname(os.path.abspath(__file__)))
 WORD = re.compile(r"[A-Za-z_][A-Za-z_0-9]*")
 HEAD = re.compile(r"(?:pub(?:\([a-z]+\))? )?(?:unsafe )?(trait|impl)\b([^{]*)\{?")
@@ -27,6 +30,8 @@ CALL = re.compile(r"(pub )?(?:pub\([a-z]+\) )?(?:final |const )*fn ([a-z_0-9]+)"
 CLAUSE = re.compile(r"(?:where )?(?:,\s*)?(requires|ensures)\*?(?: ([a-z_0-9]+))? \{")
 # Pages whose names in code have to be there.
 PAGES = ("docs/PROMISES.md", "docs/MAP.md", "docs/CONTRACTS.md", "docs/DEFINITIONS.md", "docs/DECISIONS.md")
+# Behind a clause of a law that says a ghost's own text again, and behind a link of docs/PROMISES.md to a law that has such a clause.
+MARK = "°"
 STEP = re.compile(r"(?:\d+\.|-) `(crates/[^`]+)`:(.*)")
 LINK = re.compile(r"\[([^\]]*)\]\(([^)\s]+)\)")
 # A step and a link that are wrong.
@@ -111,14 +116,21 @@ def is_law(file):
     return "law" in os.path.relpath(file, "crates")
 
 
-def rows_of(crate, laws):
-    """The rows of the calls of a crate, or of its laws, and how many these are."""
+def laws_said_again():
+    """By file and law, the clauses that say a ghost's own text again."""
+    files = [file for crate in listed() for file in files_of(crate, "src", "rt")]
+    return {law: clauses for law, clauses in said_again({it: read(it) for it in files}).items() if is_law(law[0])}
+
+
+def rows_of(crate, laws, again):
+    """The rows of the calls of a crate, or of its laws."""
     rows = []
     for file in files_of(crate, "src", "rt"):
         if is_law(file) == laws:
             for it in calls_of(file):
                 if it.is_public and it.name != "main":
-                    clauses = ", ".join("*only*" if name == "only" else f"`{name}`" for name in it.clauses)
+                    marked = again.get((file, it.name), [])
+                    clauses = ", ".join(("*only*" if name == "only" else f"`{name}`") + MARK * (name in marked) for name in it.clauses)
                     rows.append(f"[`{it.title()}`](../{file}) | {clauses}".rstrip())
     return rows
 
@@ -135,7 +147,14 @@ def wrong_bodies(crates):
     return rows
 
 
-def index(crates):
+def unmarked(text, again):
+    """The links of docs/PROMISES.md to laws that are marked, or aren't, where the others are."""
+    laws = {name for _, name in again}
+    found = re.findall(r"\[((?:`\w+`(?:, )?)+)\]\(INDEX\.md#laws\)(°?)", text)
+    return [f"docs/PROMISES.md: {words} is {'not ' * (not mark)}marked" for words, mark in found if bool(mark) != bool(laws & set(WORD.findall(words)))]
+
+
+def index(crates, again):
     """The text of docs/INDEX.md, and how many calls and laws it has."""
     out = [
         "# Index of calls, laws and cases",
@@ -148,9 +167,10 @@ def index(crates):
         out += ["", f"## {title}"]
         if is_of_law:
             out += ["", "A law is a function with nothing to do, whose contract is the law. `buffa::laws` hands on those of the crates below it."]
+            out += [f"A clause with the mark {MARK} says a ghost's own text again: it keeps that text from being changed unseen, and is no evidence."]
         count[title] = 0
         for crate in crates:
-            rows = rows_of(crate, is_of_law)
+            rows = rows_of(crate, is_of_law, again)
             count[title] += len(rows)
             if rows:
                 out += ["", f"### {title} of `{crate}`", "", f"{head} | Clauses", "---|---", *rows]
@@ -247,7 +267,8 @@ def missing(words, path, text):
 
 
 def main():
-    page, calls, laws = index([it for it in listed() if it.startswith(("buffa", "sample"))])
+    again = laws_said_again()
+    page, calls, laws = index([it for it in listed() if it.startswith(("buffa", "sample"))], again)
     old = read("docs/INDEX.md") if os.path.exists(f"{TOP}/docs/INDEX.md") else ""
     wrong, links, steps = [], 0, 0
     if old != page and sys.argv[1:] == ["write"]:
@@ -255,6 +276,7 @@ def main():
             it.write(page)
     elif old != page:
         wrong.append("docs/INDEX.md is not what the sources give: run tests/index.py write")
+    wrong += unmarked(read("docs/PROMISES.md"), again)
     words = names_there()
     for path in ["README.md", *sorted(os.path.relpath(it, TOP) for it in glob.glob(f"{TOP}/docs/*.md"))]:
         text = read(path)

@@ -80,9 +80,16 @@ def behind(message, at):
     return "(refl, " * left + last + ")" * left
 
 
+def took_by(member, step):
+    """What the contract of the call says that took a field: one clause, or the four of `Member::merge`."""
+    if member.itself or isinstance(member, OneOf) or member.keeps:
+        return f"c.{step}.ensures"
+    return f"({', '.join(f'c.{step}.ensures.{clause}' for clause in ('taken', 'memory', 'wrong_type', 'refused'))})"
+
+
 def term(message, number, at, step):
     """That the member at this place took the field of a number."""
-    took = f"(c.{step}.ensures, {behind(message, at)})"
+    took = f"({took_by(message.members[at], step)}, {behind(message, at)})"
     made = f"rw mine {took}" if isinstance(message.members[at], OneOf) else f"chosen _ n {number} is {took}"
     for before in reversed(message.members[:at]):
         if isinstance(before, OneOf):
@@ -93,10 +100,10 @@ def term(message, number, at, step):
 
 
 def unfolded(member):
-    """The word that the answers of a member look into."""
+    """The words that the answers of a member look into."""
     if member.itself or isinstance(member, OneOf):
-        return ""
-    return "TookWithUnknowns" if member.keeps else "Took"
+        return []
+    return ["TookWithUnknowns"] if member.keeps else ["AsksAsSaid", "RefusesAsSaid", "TakesAsSaid", "TellsWrongType"]
 
 
 def take(world, message):
@@ -105,12 +112,12 @@ def take(world, message):
     terms = [term(message, *it) for it in arms(message)]
     words = {"◌∙◌", "refl", "sym"} | ({"◌≡◌", "◌==◌", "◌||◌", "false", "true"} if message.oneofs else set())
     facts = {it for it in ("chosen", "not_chosen") if any(f"{it} _" in made.replace("not_chosen" * (it == "chosen"), "") for made in terms)}
-    looked = {unfolded(k) for k in message.members} - {""}
+    looked = {word for k in message.members for word in unfolded(k)}
     made = [f"use Rattle.std.proofs.Common.{{{', '.join(ordered(words))}}}"]
     made += [f"use {TERMS}.{{{', '.join(ordered(facts | looked))}}}", goals]
     for (number, at, _), proof in zip(arms(message), terms):
         name, member = f"returns-in-{number}-clause-taken", message.members[at]
-        made += ["", f"pub {name} : goal.{name}"] + [f"unfolding {unfolded(member)}"] * bool(unfolded(member))
+        made += ["", f"pub {name} : goal.{name}"] + [f"unfolding {' '.join(unfolded(member))}"] * bool(unfolded(member))
         made += [f"{name} g c =", "    let n = c.args.tag.number in", f"    let is = sym c.field_number.ensures ∙ c.in-{number}.is in"]
         made += [f"    let past-{k.number} : ({is_mine(k)}) ≡ false = rw is refl in" for k in message.members[:at] if isinstance(k, OneOf)]
         made += [f"    let mine : ({is_mine(member)}) ≡ true = rw is refl in"] * isinstance(member, OneOf)

@@ -1,6 +1,7 @@
 -- Words that messages by their fields cite, under one name.
 unfoldable pub use Rattle.buffa_fields.specs.Unknowns.{TookWithUnknowns}
-unfoldable pub use Rattle.buffa_fields.specs.Schema.{Took}
+unfoldable pub use Rattle.buffa_fields.specs.Schema.{AsksAsSaid, RefusesAsSaid, TakesAsSaid, TellsWrongType}
+pub use Rattle.buffa_fields.specs.Schema.{Took}
 pub use Rattle.buffa_fields.specs.facts.BlockFacts.{both_waited, first_comes, here, not_here, second_comes}
 pub use Rattle.buffa_fields.specs.Blocks.{TakesBlock, TakesWithUnknowns, no_unknowns, block, block_of, both_blocks, eight, five, four, one, one_case, one_with_unknowns, seven, six, three, two}
 pub use Rattle.buffa_fields.specs.Cases.{other_of, this_of}

@@ -2,6 +2,7 @@
 pub mod ContextAfter
 pub mod Values
 pub mod UndeclaredFields
+pub mod TaggedField
 pub mod Schema
 pub mod Unknowns
 pub mod Parts

@@ -23,6 +23,7 @@ use Rattle.buffa_wire.specs.Kept.{keep_charge}
 use Rattle.buffa_fields.specs.UndeclaredFields.{AllNumbers, KeepTakesMemory, keep_takes}
 use Rattle.buffa_fields.specs.Levels.{IsTakenWritten}
 use Rattle.buffa_wire.specs.Takes.{Asks, IsTaken, Charge, ReadsBack, Stays, Taker}
+use Rattle.buffa_fields.specs.TaggedField.{TaggedField}
 
 -- What a member of a message is: what its value means, what a payload makes of it, where that may ask for memory, and
 -- the records it is written as, under a number; with what it owes.
@@ -60,13 +61,30 @@ pub record ReadsBackTo {P X : Type 0} (s : Shape P X) : Type 0 where
 
 -- ---- what the calls of a message's members owe
 
--- a member takes the field whose tag was read, or tells the fault of its wire type, and then it is as it was, and the
--- field is unread; memory runs out only where it may be asked for; a field is refused as the member says
-unfoldable pub Took : {P X : Type 0} → Shape P X → ℕ → P → ℕ → WireType → List ℕ → BudgetLeft → Result (Unit {0}) DecodeError → P → BudgetLeft → List ℕ → Type 0
+-- A member takes the field whose tag was read as its payload makes the value, and pays what that costs; or refuses it.
+unfoldable pub TakesAsSaid : {P X : Type 0} → Shape P X → TaggedField → P → Result (Unit {0}) DecodeError → P → BudgetLeft → List ℕ → Type 0
+TakesAsSaid s f old r new after rest =
+    IsTaken s.takes s.charge f.depth (s.meaning old) f.number f.wire_type f.bytes f.budget r (s.meaning new) after rest
+
+-- memory runs out only where the member may ask for it
+unfoldable pub AsksAsSaid : {P X : Type 0} → Shape P X → TaggedField → Result (Unit {0}) DecodeError → Type 0
+AsksAsSaid s f r = FullOnlyIf r (s.asks f.depth f.number f.wire_type f.bytes)
+
+-- the fault of its number or wire type is told: the value means what it did, and the field is unread
+unfoldable pub TellsWrongType : {P X : Type 0} → Shape P X → TaggedField → P → Result (Unit {0}) DecodeError → P → List ℕ → Type 0
+TellsWrongType s f old r new rest =
+    (e : DecodeError) → s.checks f.number f.wire_type ≡ Err e → (r ≡ Err e) × (s.meaning old ≡ s.meaning new) × (f.bytes ≡ rest)
+
+-- a field is refused as the member says
+unfoldable pub RefusesAsSaid : {P X : Type 0} → Shape P X → TaggedField → P → Result (Unit {0}) DecodeError → P → Type 0
+RefusesAsSaid s f old r new =
+    (e : DecodeError) → r ≡ Err e → s.refuses f.depth (s.meaning old) f.number f.wire_type f.bytes f.budget e (s.meaning new)
+
+-- all four: a member took the field whose tag was read, or refused it
+abbrev pub Took : {P X : Type 0} → Shape P X → ℕ → P → ℕ → WireType → List ℕ → BudgetLeft → Result (Unit {0}) DecodeError → P → BudgetLeft → List ℕ → Type 0
 Took s d old n w bs before r new after rest =
-    IsTaken s.takes s.charge d (s.meaning old) n w bs before r (s.meaning new) after rest
-    × FullOnlyIf r (s.asks d n w bs) × ((e : DecodeError) → s.checks n w ≡ Err e → (r ≡ Err e) × (s.meaning old ≡ s.meaning new) × (bs ≡ rest))
-    × ((e : DecodeError) → r ≡ Err e → s.refuses d (s.meaning old) n w bs before e (s.meaning new))
+    let f : TaggedField = record { depth = d; number = n; wire_type = w; bytes = bs; budget = before } in
+    TakesAsSaid s f old r new after rest × AsksAsSaid s f r × TellsWrongType s f old r new rest × RefusesAsSaid s f old r new
 
 -- a field is refused by the fault of its bytes, or as one too many; unread is what stands where no payload does, and all
 -- of it where none may be kept, or no level is left for a group

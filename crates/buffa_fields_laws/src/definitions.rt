@@ -71,7 +71,7 @@ pub fn maps_and_messages_fit_so<X, Y, N: Message>()
 /// Of a field that a member took: what its payload makes of the value, and what it costs; that memory ran out only where the
 /// member may ask for some; that the fault of its wire type is told, and then nothing has changed, and the field is unread;
 /// and what the member says of refused fields.
-#[tactic(auto, unfolding(buffa_fields::specs::Schema::Took))]
+#[tactic(auto, unfolding(buffa_fields::specs::Schema::AsksAsSaid, buffa_fields::specs::Schema::RefusesAsSaid, buffa_fields::specs::Schema::TakesAsSaid, buffa_fields::specs::Schema::TellsWrongType))]
 pub fn members_take_so<N: Member>()
     ensures { (d : ℕ) (old : N.Part) (n : ℕ) (w : WireType) (bs : List ℕ) (before : BudgetLeft)
         (r : Result (Unit {0}) DecodeError) (new : N.Part) (after : BudgetLeft) (rest : List ℕ) →

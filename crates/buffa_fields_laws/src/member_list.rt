@@ -43,7 +43,7 @@ pub trait OpenMembers {
 /// A member of another type, in front of others, is that member of a list of members, and the others stand behind it; but where these
 /// take a field, it is said that the member means what it did, and not that it is the same. So it is with one that puts records aside,
 /// and with a oneof, whose case took a field where it took it of some values that mean this, before and after.
-#[tactic(auto, unfolding(buffa_fields::specs::Schema::Took, buffa_fields::specs::Unknowns::TookWithUnknowns))]
+#[tactic(auto, unfolding(buffa_fields::specs::Schema::AsksAsSaid, buffa_fields::specs::Schema::RefusesAsSaid, buffa_fields::specs::Schema::TakesAsSaid, buffa_fields::specs::Schema::TellsWrongType, buffa_fields::specs::Unknowns::TookWithUnknowns))]
 pub fn members_of_other_types_are_named_so<F, T: OpenMembers, N: KeepsUnknowns, E: OneOf>()
     ensures member { (k : ℕ) (get : F → N.Part) (others : F → Rest T.Own T.These) → SaysAlike (λ v. v)
         ((member k N.shape T.open).schema (λ m. ((N.shape.meaning (get m), (others m).0), (others m).1)) T.semantics)

@@ -6,7 +6,7 @@ use Rattle.buffa_bytes.specs.declared.wire_type.WireType.{WireType}
 use Rattle.buffa_bytes.specs.declared.wire_type.WireType.TheVariants.{LengthDelimited}
 use Rattle.buffa_wire.specs.BudgetLeft.{BudgetLeft}
 use Rattle.buffa_wire.specs.Takes.{IsTaken}
-use Rattle.buffa_fields.specs.Schema.{Took}
+use Rattle.buffa_fields.specs.Schema.{Took, AsksAsSaid, RefusesAsSaid, TakesAsSaid, TellsWrongType}
 use Rattle.buffa_fields.specs.Submessages.{message_merged, taken_there}
 use Rattle.buffa_fields.specs.Refusals.{RefusesBoxed, RefusesPair}
 use Rattle.buffa_fields.specs.RepeatedMessages.{MessagesTakeMemory, messages_cost, messages_taken}
@@ -27,7 +27,7 @@ module _ {X : Type 0} (o : RecursiveSchema X) (w : Semantics X) (d n : ℕ) (wir
   pub list_took : (old new : List X) (each : ℕ) → w.each ≡ each → IsTaken (messages_taken w.blank w.merged) (messages_cost each w.cost) d old n wire bs before r new after rest →
       FullOnlyIf r (MessagesTakeMemory d n wire bs) → Checked old new → ((e : DecodeError) → r ≡ Err e → old ≡ new) →
       Took (children_shape o w) d (o.of_list old) n wire bs before r (o.of_list new) after rest
-  unfolding Took message_merged messages_cost
+  unfolding AsksAsSaid RefusesAsSaid TakesAsSaid TellsWrongType message_merged messages_cost
   list_took old new each is taken full checked refused = (
     is_taken_through o.of_list o.children_list (list_shape w).takes (list_shape w).charge d n wire (o.of_list old) (o.of_list new) bs rest before after r (ap o.of_list (o.list_again new))
         (subst (λ xs. IsTaken (list_shape w).takes (list_shape w).charge d xs n wire bs before r (o.children_list (o.of_list new)) after rest) (sym (o.list_again old))
@@ -41,7 +41,7 @@ module _ {X : Type 0} (o : RecursiveSchema X) (w : Semantics X) (d n : ℕ) (wir
   pub one_took : (old new : Option X) (each : ℕ) → w.each ≡ each → IsTaken (taken_there w.blank (message_merged w.merged)) (messages_cost each w.cost) d old n wire bs before r new after rest →
       FullOnlyIf r (MessagesTakeMemory d n wire bs) → Checked old new → ((e : DecodeError) → r ≡ Err e → RefusesBoxed each w.blank w.merged w.cost d old n wire bs before e new) →
       Took (maybe_shape o w) d (o.of_option old) n wire bs before r (o.of_option new) after rest
-  unfolding Took message_merged messages_cost
+  unfolding AsksAsSaid RefusesAsSaid TakesAsSaid TellsWrongType message_merged messages_cost
   one_took old new each is taken full checked refused = (
     is_taken_through o.of_option o.option_of (child_shape w).takes (child_shape w).charge d n wire (o.of_option old) (o.of_option new) bs rest before after r (ap o.of_option (o.option_again new))
         (subst (λ x. IsTaken (child_shape w).takes (child_shape w).charge d x n wire bs before r (o.option_of (o.of_option new)) after rest) (sym (o.option_again old))
@@ -65,7 +65,7 @@ module _ {X : Type 0} (o : RecursiveSchema X) (w : Semantics X) (d n : ℕ) (wir
         × ((e : DecodeError) → r ≡ Err e → RefusesPair keys.reading val (keys.cost + each) d old n wire bs before e new)
 
     by_words : (old new : List (K × X)) → TookPair w.blank w.each old new → Took (map_shape o keys w) d (o.of_pairs old) n wire bs before r (o.of_pairs new) after rest
-    unfolding Took
+    unfolding AsksAsSaid RefusesAsSaid TakesAsSaid TellsWrongType
     by_words old new (taken, full, checked, refused) =
         let s = pairs_shape keys w in (
           is_taken_through (λ qs. o.of_pairs qs) (λ a. o.pairs_from a) s.takes s.charge d n wire (o.of_pairs old) (o.of_pairs new) bs rest before after r (ap (λ qs. o.of_pairs qs) (o.pairs_again new))

@@ -11,7 +11,7 @@ use Rattle.buffa_map.specs.Message.{message_reading}
 use Rattle.buffa_map.specs.Scalars.{int32_reading, text_reading}
 use Rattle.buffa_fields.specs.Unknowns.{Unknowns, TookWithUnknowns}
 use Rattle.buffa_recursive.specs.MessageTree.{TreeList, head_many, message_tree}
-use Rattle.buffa_fields.specs.Schema.{Choice, IsFieldKept, Shape, Took}
+use Rattle.buffa_fields.specs.Schema.{Choice, IsFieldKept, Shape, Took, RefusesAsSaid}
 use Rattle.buffa_recursive.specs.MapTree.{child_pairs, pairs_again}
 use Rattle.buffa_recursive.specs.RefusedFields.{IsSelfRefused}
 use Rattle.buffa_recursive.specs.facts.FixpointFacts.{blank_is, each_is}
@@ -39,7 +39,7 @@ child_fault d n w bs left e h =
 -- ---- a member that refused it says why, and what is kept stays
 module _ (d n : ℕ) (w : WireType) (bs rest : List ℕ) (before after : BudgetLeft) (e : DecodeError) where
   took_refused : {P X : Type 0} (s : Shape P X) (old new : P) → Took s d old n w bs before (refusal e) new after rest → s.refuses d (s.meaning old) n w bs before e (s.meaning new)
-  unfolding Took
+  unfolding RefusesAsSaid
   took_refused s old new took = took.3 e refl
 
   refused_with_unknowns : {P X : Type 0} (s : Shape P X) (a : Unknowns X) (old new : P) (r r2 : NodeKept) → TookWithUnknowns s a d old r n w bs before (refusal e) new r2 after rest → a.refuses d (s.meaning old) n w bs before e (s.meaning new) × (r ≡ r2)

@@ -37,7 +37,7 @@ use Rattle.buffa_recursive.specs.TakenThrough.{taken_through}
 use Rattle.buffa_recursive.specs.facts.TakenThroughFacts.{is_taken_through}
 use Rattle.buffa_fields.specs.Entries.{entry_cost, entry_taken}
 use Rattle.buffa_recursive.specs.MessageTree.{TreeList}
-use Rattle.buffa_fields.specs.Schema.{Choice, Schema, Passed, Took}
+use Rattle.buffa_fields.specs.Schema.{Choice, Schema, Passed, AsksAsSaid, RefusesAsSaid, TakesAsSaid, TellsWrongType}
 use Rattle.buffa_fields.specs.facts.SchemaFacts.{choose}
 use Rattle.buffa_fields.specs.MapFields.{PairTakesMemory, pair_cost, pair_taken, stepped}
 use Rattle.buffa_recursive.specs.MapShape.{reading_by}
@@ -121,7 +121,7 @@ module _ (d n : ℕ) (w : WireType) (bs : List ℕ) (left : BudgetLeft) (e : Dec
 
   module _ (l : ℤ) (es : Children) (m : ℤ) (fs : Children) where
     pub tree_refused : TreeRefuses d (grown l es) n w bs left e (grown m fs) → (grown m fs ≡ grown l es) × HasTreeFault tree_words.merged tree_words.cost d n w bs left e
-    unfolding Took Passed
+    unfolding AsksAsSaid Passed RefusesAsSaid TakesAsSaid TellsWrongType
     tree_refused (differs_only, (a, b, after, rest, was, is, taken)) = choose (n == 1) taken
         (λ hit both.
         let one = eqb-true n 1 hit in
@@ -344,7 +344,7 @@ module _ (d n : ℕ) (w : WireType) (bs : List ℕ) (left : BudgetLeft) (e : Dec
         (λ _. (ap (λ (y : Meant). y.0) alike, pick (n == 2) (λ _. ap (λ (y : Meant). y.1.1) alike) (λ _. (ap (λ (y : Meant). y.1.0) alike, tt))))
 
     at_number : (i j : Bool) → (n == 1) ≡ i → (n == 2) ≡ j → TreeRefuses d old n w bs left e (grown m fs)
-    unfolding Took
+    unfolding AsksAsSaid RefusesAsSaid TakesAsSaid TellsWrongType
     at_number true j one two =
         let semantics : int32_field n (λ v. v) w bs ≡ Err e = subst (λ z. int32_field z (λ v. v) w bs ≡ Err e) (sym (eqb-true n 1 one)) (h.label (eqb-true n 1 one)) in
         (differs_only, (old, old, left, bs, refl, alike, rw one (refused_label d n l w bs left e semantics, (refl, tt))))

@@ -15,7 +15,7 @@ use Rattle.buffa_wire.specs.Takes.{IsTaken, Leads, Piece, ReadsBack}
 use Rattle.buffa_fields.specs.Unknowns.{Kept}
 use Rattle.buffa_fields.specs.Cases.{Cases, CasesLaws, CaseWords, IsCasePut, IsPutNew, IsPutOver, either, or_cases, if_there, none_of, single_case, other_of, this_of}
 use Rattle.buffa_fields.specs.UndeclaredFields.{AllNumbers}
-use Rattle.buffa_fields.specs.Schema.{Choice, Seen, Shape, Took, more}
+use Rattle.buffa_fields.specs.Schema.{AsksAsSaid, Choice, Seen, Shape, TakesAsSaid, Took, more}
 use Rattle.buffa_fields.specs.facts.LevelFacts.{some_mapped}
 use Rattle.buffa_fields.specs.Levels.{IsTakenWritten}
 use Rattle.buffa_fields.specs.facts.PairFacts.{either_stays, not_declared, part_taken, sound_parts}
@@ -99,7 +99,7 @@ module _ {P A : Type 0} (k : ℕ) (s : Shape (Option P) (Option A)) (merges : Bo
     Its r = IsTaken s.takes s.charge d (s.meaning (at old)) n w bs before r (s.meaning (at new)) after rest
 
     took : (stood q : Option P) (r : answer) → Took s d stood n w bs before r q after rest → IsTaken s.takes s.charge d (s.meaning stood) n w bs before r (s.meaning q) after rest
-    unfolding Took
+    unfolding TakesAsSaid
     took stood q r h = h.0
 
     -- it makes of this value that stood what it makes of what is there
@@ -133,7 +133,7 @@ module _ {P A : Type 0} (k : ℕ) (s : Shape (Option P) (Option A)) (merges : Bo
 
     -- memory runs out only where it is asked for
     asked : (stood q : Option P) (r : answer) → Took s d stood n w bs before r q after rest → FullOnlyIf r (s.asks d n w bs)
-    unfolding Took
+    unfolding AsksAsSaid
     asked stood q r h = h.1
 
     asks_over : (stood q : Option P) (r : answer) → IsPutOver at s d old n w bs before stood r q after rest → FullOnlyIf r (s.asks d n w bs)

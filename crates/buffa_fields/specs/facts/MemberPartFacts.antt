@@ -14,7 +14,7 @@ use Rattle.buffa_fields.specs.Unknowns.{Unknowns, Kept}
 use Rattle.buffa_fields.specs.facts.UnknownsFacts.{all_alone, again_with_unknowns, asks_with_unknowns, back_with_unknowns, is_taken_with_unknowns, stays_with_unknowns, taken_with_unknowns, kept_alone}
 use Rattle.buffa_fields.specs.facts.BlankFacts.{same_false_only}
 use Rattle.buffa_fields.specs.UndeclaredFields.{AllNumbers}
-use Rattle.buffa_fields.specs.Schema.{Shape, Took}
+use Rattle.buffa_fields.specs.Schema.{Shape, Took, AsksAsSaid, TakesAsSaid}
 use Rattle.buffa_fields.specs.facts.LevelFacts.{unknowns_low, some_mapped}
 use Rattle.buffa_fields.specs.Levels.{IsTakenWritten}
 use Rattle.buffa_fields.specs.MemberParts.{part_with_unknowns, member_part}
@@ -51,13 +51,13 @@ none_mine mine Q (y ∷ ys) h = ((λ is. let both = sym is ∙ same_false_only (
 -- ---- what a call owes that took a field
 module _ {P A : Type 0} (s : Shape P A) (d : ℕ) (p q : P) (n : ℕ) (w : WireType) (bs : List ℕ) (before : BudgetLeft) (r : answer) (after : BudgetLeft) (rest : List ℕ) where
   pub member_taken : {B : Type 0} (b c : B) → b ≡ c → Took s d p n w bs before r q after rest → IsTaken (first_of s.takes) s.charge d (s.meaning p, b) n w bs before r (s.meaning q, c) after rest
-  unfolding Took
+  unfolding TakesAsSaid
   member_taken b c same h =
       subst (λ z. IsTaken (first_of s.takes) s.charge d (s.meaning p, b) n w bs before r (s.meaning q, z) after rest) same
       (part_taken s.takes s.charge (first_of s.takes) s.charge d n w (s.meaning p) (s.meaning p, b) (λ x. (x, b)) (λ x. refl) (λ x. refl) bs rest before after r (s.meaning q) h.0)
 
   pub member_asks : Took s d p n w bs before r q after rest → FullOnlyIf r (s.asks d n w bs)
-  unfolding Took
+  unfolding AsksAsSaid
   member_asks h = h.1
 
 -- ---- the laws

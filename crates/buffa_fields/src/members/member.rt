@@ -5,7 +5,8 @@ ghost use Rattle.buffa_wire.specs.BudgetLeft.{budget_left};
 ghost use Rattle.buffa_bytes.specs.Number.{IsNumber};
 ghost use Rattle.buffa_wire.specs.Passes.{IsNext, IsSized, IsWritten};
 ghost use Rattle.buffa_wire.specs.Encoding.{records_encoding};
-ghost use Rattle.buffa_fields.specs.Schema.{ReadsBackTo, Shape, Took};
+ghost use Rattle.buffa_fields.specs.TaggedField.{tagged_field};
+ghost use Rattle.buffa_fields.specs.Schema.{AsksAsSaid, ReadsBackTo, RefusesAsSaid, Shape, TakesAsSaid, TellsWrongType};
 
 use buffa_wire::{DecodeContext, DecodeError, EncodeError, EncodeSink, SizeCache, Tag};
 use std::alloc::Global;
@@ -76,8 +77,11 @@ pub trait Member {
         buf: &mut &[u8],
         ctx: DecodeContext<'_>,
     ) -> Result<(), DecodeError>
-        ensures { Took shape ctx.entry.depth part.old tag.number tag.wire_type buf.old.now ctx.entry.budget.now result
-            part.new (budget_left ctx.exit) buf.new.now };
+        ensures taken { TakesAsSaid shape (tagged_field tag ctx.entry buf.old) part.old result part.new
+            (budget_left ctx.exit) buf.new.now }
+        ensures memory { AsksAsSaid shape (tagged_field tag ctx.entry buf.old) result }
+        ensures wrong_type { TellsWrongType shape (tagged_field tag ctx.entry buf.old) part.old result part.new buf.new.now }
+        ensures refused { RefusesAsSaid shape (tagged_field tag ctx.entry buf.old) part.old result part.new };
 
     /// The encoding reads back, and the value nests exactly as deep as it says, where the messages in it do.
     ghost back: { ReadsBackTo shape };

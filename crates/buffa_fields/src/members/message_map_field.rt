@@ -129,7 +129,7 @@ where
         write_pairs::<KC, N, Map<KC::Value, N>, S>(number, part, cache, sink)
     }
 
-    #[tactic(auto, unfolding(crate::specs::Schema::Took))]
+    #[tactic(auto, unfolding(crate::specs::Schema::AsksAsSaid, crate::specs::Schema::RefusesAsSaid, crate::specs::Schema::TakesAsSaid, crate::specs::Schema::TellsWrongType))]
     fn merge(
         part: &mut Map<KC::Value, N>,
         alloc: Global,

@@ -158,7 +158,7 @@ impl<F: Framing, N: Message> Member for MessagesIn<F, N> {
         write_messages::<F, N, S>(number, part.as_slice(), cache, sink)
     }
 
-    #[tactic(auto, unfolding(crate::specs::Schema::Took))]
+    #[tactic(auto, unfolding(crate::specs::Schema::AsksAsSaid, crate::specs::Schema::RefusesAsSaid, crate::specs::Schema::TakesAsSaid, crate::specs::Schema::TellsWrongType))]
     fn merge(
         part: &mut Vec<N>,
         alloc: Global,

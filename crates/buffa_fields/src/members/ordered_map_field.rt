@@ -118,7 +118,7 @@ where
         write_map::<KC, VC, BTreeMap<KC::Value, VC::Value>, S>(number, part, sink)
     }
 
-    #[tactic(auto, unfolding(crate::specs::Schema::Took))]
+    #[tactic(auto, unfolding(crate::specs::Schema::AsksAsSaid, crate::specs::Schema::RefusesAsSaid, crate::specs::Schema::TakesAsSaid, crate::specs::Schema::TellsWrongType))]
     fn merge(
         part: &mut BTreeMap<KC::Value, VC::Value>,
         alloc: Global,

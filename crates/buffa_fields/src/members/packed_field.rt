@@ -200,7 +200,7 @@ impl<C: Packable> Member for PackedField<C> {
         write_packed::<C, S>(number, part.as_slice(), cache, sink)
     }
 
-    #[tactic(auto, unfolding(crate::specs::Schema::Took))]
+    #[tactic(auto, unfolding(crate::specs::Schema::AsksAsSaid, crate::specs::Schema::RefusesAsSaid, crate::specs::Schema::TakesAsSaid, crate::specs::Schema::TellsWrongType))]
     fn merge(
         part: &mut Vec<C::Value>,
         alloc: Global,

@@ -63,7 +63,7 @@ impl<C: ProtoType> Member for RepeatedField<C> {
         write_elements::<C, S>(number, part.as_slice(), sink)
     }
 
-    #[tactic(auto, unfolding(crate::specs::Schema::Took))]
+    #[tactic(auto, unfolding(crate::specs::Schema::AsksAsSaid, crate::specs::Schema::RefusesAsSaid, crate::specs::Schema::TakesAsSaid, crate::specs::Schema::TellsWrongType))]
     fn merge(
         part: &mut Vec<C::Value>,
         alloc: Global,

@@ -134,7 +134,7 @@ impl<C: Case> Member for Set<C> {
     }
 
     #[inline(always)]
-    #[tactic(auto, unfolding(crate::specs::Schema::Took))]
+    #[tactic(auto, unfolding(crate::specs::Schema::AsksAsSaid, crate::specs::Schema::RefusesAsSaid, crate::specs::Schema::TakesAsSaid, crate::specs::Schema::TellsWrongType))]
     fn merge(
         part: &mut C::Value,
         alloc: Global,

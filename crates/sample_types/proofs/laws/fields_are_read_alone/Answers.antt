@@ -1,7 +1,7 @@
 use Rattle.std.proofs.Common.{ℤ, ◌==◌, sym, subst}
 use Rattle.std.proofs.lemmas.Bool.{eqb-true}
 use Rattle.buffa_bytes.specs.Readings.{skip_at}
-use Rattle.buffa_fields.specs.Schema.{Passed, Took}
+use Rattle.buffa_fields.specs.Schema.{AsksAsSaid, RefusesAsSaid, TakesAsSaid, TellsWrongType, Passed}
 use Rattle.buffa_fields.specs.facts.SchemaFacts.{choose}
 use Rattle.sample_types.proofs.NumberLemmas.{TwoIsRead, member_read, other_read, put_first, put_second}
 use Rattle.sample_types.specs.Fields.{int32_field, skipped_field}
@@ -9,7 +9,7 @@ use Rattle.sample_types.specs.Numbers.{IsReadAlone}
 use Rattle.sample_types.proofs.laws.fields_are_read_alone.Goals as goal
 
 pub returns-clause-flat : goal.returns-clause-flat
-unfolding Passed Took
+unfolding AsksAsSaid Passed RefusesAsSaid TakesAsSaid TellsWrongType
 returns-clause-flat c = λ d n old new w bs rest a b r h. choose (n == 1) h
     (λ is both.
     let one = eqb-true n 1 is in
@@ -20,7 +20,7 @@ returns-clause-flat c = λ d n old new w bs rest a b r h. choose (n == 1) h
     rw differs (subst (λ z. IsReadAlone (skipped_field d old.value n w bs) old.value r z a b rest) (sym both.0) (other_read old.value (skip_at d n w bs) r a b rest passed.0 passed.1)))
 
 pub returns-clause-two : goal.returns-clause-two
-unfolding Passed Took
+unfolding AsksAsSaid Passed RefusesAsSaid TakesAsSaid TellsWrongType
 returns-clause-two c = λ d n old new w bs rest a b r h.
     let was : ℤ × ℤ = (old.a, old.b) in
     choose (n == 1) h

@@ -1,11 +1,11 @@
 use Rattle.std.proofs.Common.{◌==◌}
-use Rattle.buffa_fields.specs.Schema.{Took}
+use Rattle.buffa_fields.specs.Schema.{AsksAsSaid, RefusesAsSaid, TakesAsSaid, TellsWrongType}
 use Rattle.buffa_fields.specs.facts.SchemaFacts.{choose}
 use Rattle.sample_validator.proofs.PinLemmas.{declared_read}
 use Rattle.sample_validator.proofs.laws.fields_are_taken_alone.Goals as goal
 
 pub returns-clause-options : goal.returns-clause-options
-unfolding Took
+unfolding AsksAsSaid RefusesAsSaid TakesAsSaid TellsWrongType
 returns-clause-options c = λ d n old new w bs rest a b r h. choose (n == 3) h
     (λ is both.
     let took = both.0 in

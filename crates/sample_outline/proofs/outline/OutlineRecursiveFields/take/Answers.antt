@@ -1,13 +1,13 @@
 use Rattle.std.proofs.Common.{false, refl, sym, true, ◌==◌, ◌||◌, ◌∙◌, ◌≡◌}
-use Rattle.buffa_fields.specs.Terms.{Took, TookWithUnknowns, chosen, not_chosen}
+use Rattle.buffa_fields.specs.Terms.{AsksAsSaid, RefusesAsSaid, TakesAsSaid, TellsWrongType, TookWithUnknowns, chosen, not_chosen}
 use Rattle.sample_outline.proofs.outline.OutlineRecursiveFields.take.Goals as goal
 
 pub returns-in-1-clause-taken : goal.returns-in-1-clause-taken
-unfolding Took
+unfolding AsksAsSaid RefusesAsSaid TakesAsSaid TellsWrongType
 returns-in-1-clause-taken g c =
     let n = c.args.tag.number in
     let is = sym c.field_number.ensures ∙ c.in-1.is in
-    rw (sym c.self.view_is) (chosen _ n 1 is (c.merge.ensures, (refl, (refl, (refl, (refl, (refl, (refl, refl))))))))
+    rw (sym c.self.view_is) (chosen _ n 1 is ((c.merge.ensures.taken, c.merge.ensures.memory, c.merge.ensures.wrong_type, c.merge.ensures.refused), (refl, (refl, (refl, (refl, (refl, (refl, refl))))))))
 
 pub returns-in-2-clause-taken : goal.returns-in-2-clause-taken
 returns-in-2-clause-taken g c =
@@ -16,11 +16,11 @@ returns-in-2-clause-taken g c =
     rw (sym c.self.view_is) (not_chosen _ n 1 (λ e. let no = sym is ∙ e in cc) (refl, chosen _ n 2 is (c.take_list.ensures, (refl, (refl, (refl, (refl, (refl, refl))))))))
 
 pub returns-in-3-clause-taken : goal.returns-in-3-clause-taken
-unfolding Took
+unfolding AsksAsSaid RefusesAsSaid TakesAsSaid TellsWrongType
 returns-in-3-clause-taken g c =
     let n = c.args.tag.number in
     let is = sym c.field_number.ensures ∙ c.in-3.is in
-    rw (sym c.self.view_is) (not_chosen _ n 1 (λ e. let no = sym is ∙ e in cc) (refl, not_chosen _ n 2 (λ e. let no = sym is ∙ e in cc) (refl, chosen _ n 3 is (c.merge-in-3.ensures, (refl, (refl, (refl, (refl, refl))))))))
+    rw (sym c.self.view_is) (not_chosen _ n 1 (λ e. let no = sym is ∙ e in cc) (refl, not_chosen _ n 2 (λ e. let no = sym is ∙ e in cc) (refl, chosen _ n 3 is ((c.merge-in-3.ensures.taken, c.merge-in-3.ensures.memory, c.merge-in-3.ensures.wrong_type, c.merge-in-3.ensures.refused), (refl, (refl, (refl, (refl, refl))))))))
 
 pub returns-in-4-clause-taken : goal.returns-in-4-clause-taken
 returns-in-4-clause-taken g c =

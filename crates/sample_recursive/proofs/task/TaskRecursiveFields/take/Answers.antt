@@ -1,13 +1,13 @@
 use Rattle.std.proofs.Common.{false, refl, sym, true, ◌==◌, ◌||◌, ◌∙◌, ◌≡◌}
-use Rattle.buffa_fields.specs.Terms.{Took, chosen, not_chosen}
+use Rattle.buffa_fields.specs.Terms.{AsksAsSaid, RefusesAsSaid, TakesAsSaid, TellsWrongType, chosen, not_chosen}
 use Rattle.sample_recursive.proofs.task.TaskRecursiveFields.take.Goals as goal
 
 pub returns-in-1-clause-taken : goal.returns-in-1-clause-taken
-unfolding Took
+unfolding AsksAsSaid RefusesAsSaid TakesAsSaid TellsWrongType
 returns-in-1-clause-taken g c =
     let n = c.args.tag.number in
     let is = sym c.field_number.ensures ∙ c.in-1.is in
-    rw (sym c.self.view_is) (chosen _ n 1 is (c.merge.ensures, (refl, (refl, (refl, (refl, (refl, refl)))))))
+    rw (sym c.self.view_is) (chosen _ n 1 is ((c.merge.ensures.taken, c.merge.ensures.memory, c.merge.ensures.wrong_type, c.merge.ensures.refused), (refl, (refl, (refl, (refl, (refl, refl)))))))
 
 pub returns-in-2-clause-taken : goal.returns-in-2-clause-taken
 returns-in-2-clause-taken g c =
@@ -28,11 +28,11 @@ returns-in-4-clause-taken g c =
     rw (sym c.self.view_is) (not_chosen _ n 1 (λ e. let no = sym is ∙ e in cc) (refl, not_chosen _ n 2 (λ e. let no = sym is ∙ e in cc) (refl, not_chosen _ n 3 (λ e. let no = sym is ∙ e in cc) (refl, chosen _ n 4 is (c.take_map.ensures, (refl, (refl, refl)))))))
 
 pub returns-in-5-clause-taken : goal.returns-in-5-clause-taken
-unfolding Took
+unfolding AsksAsSaid RefusesAsSaid TakesAsSaid TellsWrongType
 returns-in-5-clause-taken g c =
     let n = c.args.tag.number in
     let is = sym c.field_number.ensures ∙ c.in-5.is in
-    rw (sym c.self.view_is) (not_chosen _ n 1 (λ e. let no = sym is ∙ e in cc) (refl, not_chosen _ n 2 (λ e. let no = sym is ∙ e in cc) (refl, not_chosen _ n 3 (λ e. let no = sym is ∙ e in cc) (refl, not_chosen _ n 4 (λ e. let no = sym is ∙ e in cc) (refl, chosen _ n 5 is (c.merge-in-5.ensures, (refl, refl)))))))
+    rw (sym c.self.view_is) (not_chosen _ n 1 (λ e. let no = sym is ∙ e in cc) (refl, not_chosen _ n 2 (λ e. let no = sym is ∙ e in cc) (refl, not_chosen _ n 3 (λ e. let no = sym is ∙ e in cc) (refl, not_chosen _ n 4 (λ e. let no = sym is ∙ e in cc) (refl, chosen _ n 5 is ((c.merge-in-5.ensures.taken, c.merge-in-5.ensures.memory, c.merge-in-5.ensures.wrong_type, c.merge-in-5.ensures.refused), (refl, refl)))))))
 
 pub returns-in-6-clause-taken : goal.returns-in-6-clause-taken
 returns-in-6-clause-taken g c =

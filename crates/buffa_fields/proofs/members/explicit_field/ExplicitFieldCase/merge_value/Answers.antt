@@ -1,13 +1,13 @@
 use Rattle.std.proofs.Common.{Ok, Err, Some, refl, sym, ap, ◌∙◌}
 use Rattle.std.specs.Option.{option_map}
 use Rattle.std.proofs.lemmas.Result.{err_from_is_err_and}
-use Rattle.buffa_fields.specs.Schema.{Took}
+use Rattle.buffa_fields.specs.Schema.{AsksAsSaid, RefusesAsSaid, TakesAsSaid, TellsWrongType}
 use Rattle.buffa_fields.specs.facts.PairFacts.{part_taken}
 use Rattle.buffa_fields.specs.Values.{field_value_at, free, some_taken, value_taken}
 use Rattle.buffa_fields.proofs.members.explicit_field.ExplicitFieldCase.merge_value.Goals as goal
 
 pub returns : goal.returns
-unfolding Took
+unfolding AsksAsSaid RefusesAsSaid TakesAsSaid TellsWrongType
 returns g c =
     let codec = g.C.MapValueDecode.reading in
     let says = g.C.Value.Blank.meaning in
@@ -23,7 +23,7 @@ returns g c =
     )
 
 pub returns-in_err-take_value : goal.returns-in_err-take_value
-unfolding Took
+unfolding AsksAsSaid RefusesAsSaid TakesAsSaid TellsWrongType
 returns-in_err-take_value g c =
     let codec = g.C.MapValueDecode.reading in
     let says = g.C.Value.Blank.meaning in

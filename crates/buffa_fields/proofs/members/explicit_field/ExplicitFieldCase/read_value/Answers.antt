@@ -1,13 +1,13 @@
 use Rattle.std.proofs.Common.{Ok, Err, None, Some, refl, sym, ap, ◌∙◌}
 use Rattle.std.specs.Option.{option_map}
 use Rattle.std.proofs.lemmas.Result.{err_from_is_err_and}
-use Rattle.buffa_fields.specs.Schema.{Took}
+use Rattle.buffa_fields.specs.Schema.{AsksAsSaid, RefusesAsSaid, TakesAsSaid, TellsWrongType}
 use Rattle.buffa_fields.specs.facts.PairFacts.{part_taken}
 use Rattle.buffa_fields.specs.Values.{field_value_at, free, some_taken, value_taken}
 use Rattle.buffa_fields.proofs.members.explicit_field.ExplicitFieldCase.read_value.Goals as goal
 
 pub returns-clause-ok : goal.returns-clause-ok
-unfolding Took
+unfolding AsksAsSaid RefusesAsSaid TakesAsSaid TellsWrongType
 returns-clause-ok g c =
     let codec = g.C.MapValueDecode.reading in
     let says = g.C.Value.Blank.meaning in
@@ -23,7 +23,7 @@ returns-clause-ok g c =
     )
 
 pub returns-in_err-take_value-clause-err : goal.returns-in_err-take_value-clause-err
-unfolding Took
+unfolding AsksAsSaid RefusesAsSaid TakesAsSaid TellsWrongType
 returns-in_err-take_value-clause-err g c =
     let codec = g.C.MapValueDecode.reading in
     let says = g.C.Value.Blank.meaning in

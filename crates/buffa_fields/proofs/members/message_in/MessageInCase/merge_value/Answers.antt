@@ -1,11 +1,11 @@
 use Rattle.std.proofs.Common.{Some, refl}
 use Rattle.buffa_fields.specs.Framing.{cost_as, taken_as}
-use Rattle.buffa_fields.specs.Schema.{Took}
+use Rattle.buffa_fields.specs.Schema.{AsksAsSaid, RefusesAsSaid, TakesAsSaid, TellsWrongType}
 use Rattle.buffa_fields.proofs.InsideLemmas.{took_there}
 use Rattle.buffa_fields.proofs.members.message_in.MessageInCase.merge_value.Goals as goal
 
 pub returns : goal.returns
-unfolding Took
+unfolding AsksAsSaid RefusesAsSaid TakesAsSaid TellsWrongType
 returns g c =
     let f = g.F.Framing.frame in
     let says = g.N.Blank.meaning in

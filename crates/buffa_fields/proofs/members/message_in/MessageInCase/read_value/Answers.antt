@@ -1,12 +1,12 @@
 use Rattle.std.proofs.Common.{None, refl}
 use Rattle.std.proofs.lemmas.Result.{err_from_is_err_and}
 use Rattle.buffa_fields.specs.Framing.{cost_as, taken_as}
-use Rattle.buffa_fields.specs.Schema.{Took}
+use Rattle.buffa_fields.specs.Schema.{AsksAsSaid, RefusesAsSaid, TakesAsSaid, TellsWrongType}
 use Rattle.buffa_fields.proofs.InsideLemmas.{came_there, none_came}
 use Rattle.buffa_fields.proofs.members.message_in.MessageInCase.read_value.Goals as goal
 
 pub returns-clause-ok : goal.returns-clause-ok
-unfolding Took
+unfolding AsksAsSaid RefusesAsSaid TakesAsSaid TellsWrongType
 returns-clause-ok g c =
     let f = g.F.Framing.frame in
     let says = g.N.Blank.meaning in
@@ -16,7 +16,7 @@ returns-clause-ok g c =
     None (says c.blank-message.result) (says t.new.message) _ (f.asks c.args.ctx.depth c.args.tag.number c.args.tag.wire_type c.args.buf.now.now) refl c.blank-message.ensures h.taken h.wire
 
 pub returns-in_err-take_message-clause-err : goal.returns-in_err-take_message-clause-err
-unfolding Took
+unfolding AsksAsSaid RefusesAsSaid TakesAsSaid TellsWrongType
 returns-in_err-take_message-clause-err g c =
     let f = g.F.Framing.frame in
     let says = g.N.Blank.meaning in
