@@ -5,4 +5,4 @@ pub use Rattle.buffa_map.specs.Merge.{MergesEntry, ReadsRun, RefusesEntry, Rules
 pub use Rattle.buffa_map.specs.MessageField.{IsFieldSized, IsFieldWritten, KeepsMessageRoom, UsesFieldRoom, field_slots}
 pub use Rattle.buffa_map.specs.Pairs.{InOrder, ListsOnce, SamePairs, mean, means, put}
 pub use Rattle.buffa_map.specs.Encoding.{AllHold, HasEncoding, entry_encoding, field_size, field_encoding, record_encoding, saturated}
-pub use Rattle.buffa_map.specs.Rewrite.{MatchRefusal, RefusesDecoding, RefusesEncoding, RewritesRun}
+pub use Rattle.buffa_map.specs.Rewrite.{FieldWriting, ForEntriesOf, IfNotDecoded, IfNotEncoded, MatchRefusal, RefusesDecoding, RefusesEncoding, RewritesRun, StopsRewrite, WhereDecoded, field_writing, rewrite_encoding}

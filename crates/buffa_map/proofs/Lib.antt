@@ -21,6 +21,7 @@ pub mod WriteLemmas
 pub mod MessageFieldLemmas
 pub mod BackLemmas
 pub mod RewriteCallLemmas
+pub mod RewriteWholeLemmas
 pub mod InsertLemmas
 pub mod LowLemmas
 pub mod ReaderRules

@@ -1,6 +1,6 @@
 -- Rewrites: an older reader, of one enum, reads a run, and writes the map and behind it the entries that it doesn't
 -- know. Besides: when a rewrite means to a newer reader, whose enum declares more, what the run means; and why one was refused.
-use Rattle.std.specs.Prelude.{◌≡◌, ◌≢◌, ◌+◌, ◌<◌, ◌≤◌, length, ℕ, Bool, true, ◌&&◌, not, List, [], ◌∷◌, ◌++◌, ◌⊎◌, Option, None, Some, IfSome, OnOk, Result, MatchResult}
+use Rattle.std.specs.Prelude.{◌≡◌, ◌≢◌, ◌+◌, ◌<◌, ◌≤◌, length, ℕ, Bool, true, ◌&&◌, not, List, [], ◌∷◌, ◌++◌, ◌⊎◌, Option, None, Some, IfSome, OnOk, Result, Ok, Err, MatchResult}
 use Rattle.std.specs.List.{filter}
 use Rattle.buffa_wire.specs.BudgetLeft.{BudgetLeft}
 use Rattle.buffa_wire.specs.Encoding.{records_encoding}
@@ -12,7 +12,7 @@ use Rattle.buffa_bytes.specs.declared.error.EncodeError.TheVariants.{GroupRefuse
 use Rattle.buffa_map.specs.Codec.{Writing}
 use Rattle.buffa_map.specs.Pairs.{InOrder, ListsOnce, SamePairs}
 use Rattle.buffa_map.specs.Merge.{ReadsRun, RefusesRun, Rules, state}
-use Rattle.buffa_map.specs.Run.{EntryRecord, fold_entries, undeclared, undeclared_records}
+use Rattle.buffa_map.specs.Run.{EntryRecord, Run, fold_entries, undeclared, undeclared_records}
 use Rattle.buffa_map.specs.Encoding.{AllHold, HasEncoding, RefusesField, UsesRoomOf, field_encoding}
 use Rattle.buffa_bytes.specs.ErrorText.{decode_error_text, encode_error_text}
 use Rattle.buffa_map.specs.declared.rewrite.RewriteError.{RewriteError}
@@ -95,7 +95,48 @@ pub record WritesWalk {K V : Type 0} (eq : K → K → Bool) (Walks : List (K ×
   pub room : UsesRoomOf r before (field_encoding key val n walk ++ records_encoding kept) after
   pub walks : Walks walk
 
--- ---- what a rewrite does
+-- ---- what the clauses of a rewrite say
+
+-- P, where the bytes were read: the call succeeded, or the encoding was refused
+abbrev pub WhereDecoded : {T : Type 0} → Result T RewriteError → Type 0 → Type 0
+WhereDecoded (Ok x) P = P
+WhereDecoded (Err (Decode f)) P = Unit {0}
+WhereDecoded (Err (Encode e)) P = P
+
+-- P of the fault, where the bytes were refused
+abbrev pub IfNotDecoded : {T : Type 0} → Result T RewriteError → (DecodeError → Type 0) → Type 0
+IfNotDecoded (Ok x) P = Unit {0}
+IfNotDecoded (Err (Decode f)) P = P f
+IfNotDecoded (Err (Encode e)) P = Unit {0}
+
+-- P of the error, where the encoding was refused
+abbrev pub IfNotEncoded : {T : Type 0} → Result T RewriteError → (EncodeError → Type 0) → Type 0
+IfNotEncoded (Ok x) P = Unit {0}
+IfNotEncoded (Err (Decode f)) P = Unit {0}
+IfNotEncoded (Err (Encode e)) P = P e
+
+-- P of the entries that the bytes are a run of
+abbrev pub ForEntriesOf : {K V : Type 0} → Rules K V → List ℕ → (List (EntryRecord K V) → Type 0) → Type 0
+ForEntriesOf {K} {V} r bytes P = (es : List (EntryRecord K V)) → Run r.key r.val r.depth r.number bytes es → P es
+
+-- how a map field is written: its keys, its values, and under which number
+pub record FieldWriting (K V : Type 0) : Type 0 where
+  pub key : Writing K
+  pub val : Writing V
+  pub number : ℕ
+
+abbrev pub field_writing : {K V : Type 0} → Writing K → Writing V → ℕ → FieldWriting K V
+field_writing key val number = record { key = key; val = val; number = number }
+
+-- the records of the pairs l, in order, and behind them a record for each entry of es that is undeclared
+abbrev pub rewrite_encoding : {K V : Type 0} → FieldWriting K V → List (K × V) → List (EntryRecord K V) → List ℕ
+rewrite_encoding w l es = field_encoding w.key w.val w.number l ++ records_encoding (undeclared_records w.number es)
+
+-- e is why that encoding wasn't written whole behind the old bytes: new are these and a beginning of it
+abbrev pub StopsRewrite : {K V : Type 0} → FieldWriting K V → List (K × V) → List (EntryRecord K V) → List ℕ → List ℕ → EncodeError → Type 0
+StopsRewrite w l es old new e = RefusesRewrite w.key w.val w.number (undeclared_records w.number es) old new l e
+
+-- ---- what a rewrite does, all of it: the law `rewrites_are_whole` has it of the clauses
 
 -- The bytes are a run, which was read into an empty map, and what is undeclared in it into an empty list. Behind what stood in
 -- the sink is its rewrite, by a walk that the map has; and room for no more than that was used. Of the sink, `old` is what stood in

@@ -1,10 +1,14 @@
 //! The rewrite of a map field by a reader that doesn't know all its values.
 
-ghost use Rattle.std.specs.Prelude.{◌≡◌, ◌+◌, [], IfErr, OnOk, true};
+ghost use Rattle.std.specs.Prelude.{◌≡◌, ◌+◌, ◌++◌, ◌<◌, ◌≤◌, ℕ, List, [], IfErr, OnOk, length, true};
 ghost use Rattle.buffa_bytes.specs.Number.{IsNumber};
+ghost use Rattle.buffa_bytes.specs.declared.error.EncodeError.TheVariants.{OutOfMemory};
 ghost use Rattle.buffa_wire.specs.BudgetLeft.{budget_left};
+ghost use Rattle.buffa_wire.specs.Records.{FieldData};
+ghost use Rattle.buffa_map.specs.Encoding.{AllHold, HasEncoding};
 ghost use Rattle.buffa_map.specs.Merge.{ReadsRun, RefusesRun, rules, state};
-ghost use Rattle.buffa_map.specs.Rewrite.{MatchRefusal, RefusesDecoding, RefusesEncoding, RewritesRun, WritesWalk, rewrite_error_text};
+ghost use Rattle.buffa_map.specs.Pairs.{ListsOnce};
+ghost use Rattle.buffa_map.specs.Rewrite.{ForEntriesOf, IfNotDecoded, IfNotEncoded, StopsRewrite, WhereDecoded, WritesWalk, field_writing, rewrite_encoding, rewrite_error_text};
 
 use crate::codec::MapCodec;
 use crate::map_write::MapWrite;
@@ -117,19 +121,43 @@ pub fn rewrite_map_field<
     sink: &mut S,
 ) -> Result<(), RewriteError>
     requires { IsNumber number }
-    // Accepted: the bytes are a run, which was read into the empty map; behind what stood in the sink are the map's records,
-    // and then the undeclared entries.
-    ensures ok { OnOk result (RewritesRun
-        (rules (KC.reading, KC.COST) (VC.reading, VC.COST) (C.equal, C.keeps_order) ctx.entry.depth number true) KC.writing VC.writing KC.fits VC.fits (C.walks map.new) ctx.entry.budget.now
-        (B.unread buf.old) (C.pairs map.new) (budget_left ctx.exit) (B.unread buf.new)
-        (S.written sink.old) (S.written sink.new) (S.room sink.old) (S.room sink.new)) }
-    // Refused: reading failed, and nothing was written; or writing failed, for want of room or at an entry that is too long.
-    ensures refused { let by = rules (KC.reading, KC.COST) (VC.reading, VC.COST) (C.equal, C.keeps_order) ctx.entry.depth number true in
-        IfErr result (λ e. MatchRefusal e
-        (RefusesDecoding by ctx.entry.budget.now (B.unread buf.old) (C.pairs map.new) (budget_left ctx.exit)
-        (B.unread buf.new) (S.written sink.old) (S.written sink.new))
-        (RefusesEncoding by KC.writing VC.writing (C.walks map.new) ctx.entry.budget.now (B.unread buf.old) (C.pairs map.new)
-        (budget_left ctx.exit) (B.unread buf.new) (S.written sink.old) (S.written sink.new) (S.room sink.old))) }
+    // Where the bytes weren't refused, they are a run, which was read into the emptied map, and paid.
+    ensures read { WhereDecoded result ((kept : List (ℕ × FieldData)) × ReadsRun
+        (rules (KC.reading, KC.COST) (VC.reading, VC.COST) (C.equal, C.keeps_order) ctx.entry.depth number true)
+        (state [] [] ctx.entry.budget.now) (B.unread buf.old)
+        (state (C.pairs map.new) kept (budget_left ctx.exit)) (B.unread buf.new)) }
+    // Accepted: behind what stood in the sink are the records of the map, in the order of a walk that it has, and then the
+    // undeclared entries.
+    ensures written { OnOk result (ForEntriesOf
+        (rules (KC.reading, KC.COST) (VC.reading, VC.COST) (C.equal, C.keeps_order) ctx.entry.depth number true)
+        (B.unread buf.old) (λ es. (l : List (KC.Value.Meaning × VC.Value.Meaning)) × C.walks map.new l
+        × ListsOnce C.equal (C.pairs map.new) l × (S.written sink.new
+        ≡ S.written sink.old ++ rewrite_encoding (field_writing KC.writing VC.writing number) l es))) }
+    // No entry of the map is too long, and what its keys and values mean is of their types.
+    ensures short { OnOk result ((l : List (KC.Value.Meaning × VC.Value.Meaning)) → ListsOnce C.equal (C.pairs map.new) l →
+        HasEncoding KC.writing VC.writing l) }
+    ensures fits { OnOk result ((l : List (KC.Value.Meaning × VC.Value.Meaning)) → ListsOnce C.equal (C.pairs map.new) l →
+        AllHold KC.fits VC.fits l) }
+    // No more room was used than was written.
+    ensures room { OnOk result (S.room sink.old + length (S.written sink.old)
+        ≤ S.room sink.new + length (S.written sink.new)) }
+    // The bytes were refused: the fault is as if they were read into an empty map, and nothing was written.
+    ensures fault { IfNotDecoded result (λ f. (kept : List (ℕ × FieldData)) × RefusesRun
+        (rules (KC.reading, KC.COST) (VC.reading, VC.COST) (C.equal, C.keeps_order) ctx.entry.depth number true)
+        (state [] [] ctx.entry.budget.now) (B.unread buf.old)
+        (state (C.pairs map.new) kept (budget_left ctx.exit)) (B.unread buf.new) f) }
+    ensures unwritten { IfNotDecoded result (λ _. S.written sink.new ≡ S.written sink.old) }
+    // The encoding was refused: a beginning of it was written, up to an entry that is too long, or to where memory ran out.
+    ensures stopped { IfNotEncoded result (λ e. ForEntriesOf
+        (rules (KC.reading, KC.COST) (VC.reading, VC.COST) (C.equal, C.keeps_order) ctx.entry.depth number true)
+        (B.unread buf.old) (λ es. (l : List (KC.Value.Meaning × VC.Value.Meaning)) × C.walks map.new l
+        × ListsOnce C.equal (C.pairs map.new) l
+        × StopsRewrite (field_writing KC.writing VC.writing number) l es (S.written sink.old) (S.written sink.new) e)) }
+    // Memory runs out only where the sink has no room for all of it.
+    ensures full { IfNotEncoded result (λ e. e ≡ OutOfMemory → ForEntriesOf
+        (rules (KC.reading, KC.COST) (VC.reading, VC.COST) (C.equal, C.keeps_order) ctx.entry.depth number true)
+        (B.unread buf.old) (λ es. (l : List (KC.Value.Meaning × VC.Value.Meaning)) → ListsOnce C.equal (C.pairs map.new) l →
+        S.room sink.old < length (rewrite_encoding (field_writing KC.writing VC.writing number) l es))) }
     // What lies behind the end of a limited buffer stays there.
     ensures kept { B.beyond buf.new ≡ B.beyond buf.old }
 {

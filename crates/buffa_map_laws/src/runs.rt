@@ -23,13 +23,13 @@ ghost use Rattle.buffa_wire.specs.Encoding.{records_encoding};
 ghost use Rattle.buffa_wire.specs.Passes.{Begins, Consumes};
 ghost use Rattle.buffa_wire.specs.Records.{FieldData, bytes};
 ghost use Rattle.buffa_map.specs.Codec.{HoldsNothing, IsWhole, ReadingTakesMemory, RefusesValue, Spends};
-ghost use Rattle.buffa_map.specs.Encoding.{entry_encoding, field_encoding, saturated};
+ghost use Rattle.buffa_map.specs.Encoding.{AllHold, HasEncoding, entry_encoding, field_encoding, saturated};
 ghost use Rattle.buffa_map.specs.Entry.{EntryFault, FaultOf, IsEntry, EntryFieldsTakeMemory};
 ghost use Rattle.buffa_map.specs.EntryReading.{charge_of};
 ghost use Rattle.buffa_map.specs.Merge.{MergesEntry, ReadsRun, RefusesEntry, RefusesRun, State, rules, state};
 ghost use Rattle.buffa_map.specs.MessageField.{IsFieldWritten, IsSmallField, field_slots};
 ghost use Rattle.buffa_map.specs.Pairs.{ListsOnce, SamePairs, put};
-ghost use Rattle.buffa_map.specs.Rewrite.{RefusesEncoding, RewritesRun, rewrite_error_text};
+ghost use Rattle.buffa_map.specs.Rewrite.{ForEntriesOf, RefusesEncoding, RewritesRun, StopsRewrite, field_writing, rewrite_encoding, rewrite_error_text};
 ghost use Rattle.buffa_map.specs.Run.{ArePaid, EntryRecord, Run, RunFault, fold_entries, cost_inside, undeclared};
 ghost use Rattle.buffa_map.specs.Run.{undeclared_record};
 ghost use Rattle.buffa_map.specs.Scalars.{delimited_writing, int32_reading, int32_writing, text_reading, text_writing};
@@ -238,6 +238,37 @@ pub fn fields_of_messages_are_written_so<KC: MapCodec, M: MessageSpec>()
         ↔ ((bs : List ℕ) × (after ≡ before ++ bs) × (e ≡ encoding.OutOfMemory)
         × (IsSmallField KC.writing M.encoding l → Begins bs (field_encoding KC.writing (delimited_writing M.encoding) n l))
         × Consumes (field_slots M.encoding M.slots l) old new) }
+{}
+
+/// What the clauses of [`rewrite_map_field`](buffa_map::map_codec::rewrite_map_field) say together of a call that left its map as `storage` is:
+/// the run was read and rewritten (`RewritesRun`), or its encoding was refused (`RefusesEncoding`). The laws of rewrites speak of these two.
+pub fn rewrites_are_whole<
+    KC: MapCodec,
+    VC: MapCodec,
+    C: MapStorage<Key = KC::Value, Value = VC::Value>,
+>()
+    ensures written { (a b d n before after : ℕ) (storage : C) (left over : BudgetLeft) (bs rest old written : List ℕ) →
+        ((kept : List (ℕ × FieldData)) × ReadsRun (rules (KC.reading, a) (VC.reading, b) (C.equal, C.keeps_order) d n true)
+        (state [] [] left) bs (state (C.pairs storage) kept over) rest) →
+        ForEntriesOf (rules (KC.reading, a) (VC.reading, b) (C.equal, C.keeps_order) d n true) bs
+        (λ es. (l : List (KC.Value.Meaning × VC.Value.Meaning)) × C.walks storage l × ListsOnce C.equal (C.pairs storage) l
+        × (written ≡ old ++ rewrite_encoding (field_writing KC.writing VC.writing n) l es)) →
+        ((l : List (KC.Value.Meaning × VC.Value.Meaning)) → ListsOnce C.equal (C.pairs storage) l → HasEncoding KC.writing VC.writing l) →
+        ((l : List (KC.Value.Meaning × VC.Value.Meaning)) → ListsOnce C.equal (C.pairs storage) l → AllHold KC.fits VC.fits l) →
+        before + length old ≤ after + length written →
+        RewritesRun (rules (KC.reading, a) (VC.reading, b) (C.equal, C.keeps_order) d n true) KC.writing VC.writing KC.fits VC.fits
+        (C.walks storage) left bs (C.pairs storage) over rest old written before after }
+    ensures stopped { (a b d n before : ℕ) (storage : C) (left over : BudgetLeft) (bs rest old written : List ℕ) (e : EncodeError) →
+        ((kept : List (ℕ × FieldData)) × ReadsRun (rules (KC.reading, a) (VC.reading, b) (C.equal, C.keeps_order) d n true)
+        (state [] [] left) bs (state (C.pairs storage) kept over) rest) →
+        ForEntriesOf (rules (KC.reading, a) (VC.reading, b) (C.equal, C.keeps_order) d n true) bs
+        (λ es. (l : List (KC.Value.Meaning × VC.Value.Meaning)) × C.walks storage l × ListsOnce C.equal (C.pairs storage) l
+        × StopsRewrite (field_writing KC.writing VC.writing n) l es old written e) →
+        (e ≡ encoding.OutOfMemory → ForEntriesOf (rules (KC.reading, a) (VC.reading, b) (C.equal, C.keeps_order) d n true) bs
+        (λ es. (l : List (KC.Value.Meaning × VC.Value.Meaning)) → ListsOnce C.equal (C.pairs storage) l →
+        before < length (rewrite_encoding (field_writing KC.writing VC.writing n) l es))) →
+        RefusesEncoding (rules (KC.reading, a) (VC.reading, b) (C.equal, C.keeps_order) d n true) KC.writing VC.writing
+        (C.walks storage) left bs (C.pairs storage) over rest old written before e }
 {}
 
 /// A rewrite reads the run into an empty map, and keeps what is undeclared, as a reading does that is passed a list; and pays what that

@@ -1,7 +1,9 @@
-use Rattle.std.proofs.Common.{◌≡◌, ◌∙◌, ◌++◌, ◌+◌, ap, map, refl, sym, subst, List, ℕ, ℤ}
+use Rattle.std.proofs.Common.{Err, ◌≡◌, ◌∙◌, ◌++◌, ◌+◌, ap, map, refl, sym, subst, List, ℕ, ℤ}
 use Rattle.std.specs.Map.{lookup_entry}
 use Rattle.buffa_wire.specs.Enums.{numbers}
 use Rattle.buffa_wire.specs.Records.{bytes}
+use Rattle.buffa_map.proofs.ReaderRules.{keeping}
+use Rattle.buffa_map.proofs.RewriteWholeLemmas.{whole, why_not}
 use Rattle.buffa_map.specs.Enums.{ClosedFits, closed_reading, closed_writing}
 use Rattle.buffa_map.specs.Pairs.{SamePairs}
 use Rattle.buffa_map.specs.Rewrite.{IsRewrite, Ordered}
@@ -18,7 +20,8 @@ returns-in-Ok-read_map_field-clause-keeps g c fs k =
     let depth = c.args.depth in
     let n = c.args.number in
     let given = c.args.bytes.now in
-    let w = c.in-Ok.ensures.ok in
+    let w = whole (keeping g.KC.MapValueDecode.reading (closed_reading e) g.C.MapStorage.equal g.C.MapStorage.keeps_order c.new-ctx.result.depth c.args.number (g.KC.MapValueDecode.COST + 4)) g.KC.MapCodec.writing closed_writing g.KC.MapCodec.fits (ClosedFits e) (g.C.MapStorage.walks c.rewrite_map_field.new.map)
+    c.new-ctx.result.budget.now _ c.args.bytes.now _ (g.C.MapStorage.pairs c.rewrite_map_field.new.map) c.new-encoding.result.items _ _ _ (λ l walk. g.met.C.MapStorage.walked c.rewrite_map_field.new.map l walk) c.in-Ok.ensures.read c.in-Ok.ensures.written c.in-Ok.ensures.short c.in-Ok.ensures.fits c.in-Ok.ensures.room in
     let r = c.in-Ok-read_map_field.ensures.ok in
     let run = subst (λ (z : ℕ). Run key (closed_reading e) z n given w.read.entries) c.new-ctx.ensures.depth w.read.run in
     let t = c.rewrite_means.ensures g.C.MapStorage.equal g.met.C.MapStorage.equivalence e f g.met.E.Enumeration.blank_declared c.requires.refines depth n given w.out w.read.entries fs c.requires.number run k w.rewrite in
@@ -35,7 +38,8 @@ returns-in-Ok-read_map_field-clause-means g c es fs h k o q =
     let depth = c.args.depth in
     let n = c.args.number in
     let given = c.args.bytes.now in
-    let w = c.in-Ok.ensures.ok in
+    let w = whole (keeping g.KC.MapValueDecode.reading (closed_reading e) g.C.MapStorage.equal g.C.MapStorage.keeps_order c.new-ctx.result.depth c.args.number (g.KC.MapValueDecode.COST + 4)) g.KC.MapCodec.writing closed_writing g.KC.MapCodec.fits (ClosedFits e) (g.C.MapStorage.walks c.rewrite_map_field.new.map)
+    c.new-ctx.result.budget.now _ c.args.bytes.now _ (g.C.MapStorage.pairs c.rewrite_map_field.new.map) c.new-encoding.result.items _ _ _ (λ l walk. g.met.C.MapStorage.walked c.rewrite_map_field.new.map l walk) c.in-Ok.ensures.read c.in-Ok.ensures.written c.in-Ok.ensures.short c.in-Ok.ensures.fits c.in-Ok.ensures.room in
     let r = c.in-Ok-read_map_field.ensures.ok in
     let run = subst (λ (z : ℕ). Run key (closed_reading e) z n given w.read.entries) c.new-ctx.ensures.depth w.read.run in
     let same : w.read.entries ≡ es = c.one_reading.ensures.run depth n given w.read.entries es run h in
@@ -56,7 +60,8 @@ returns-in-Ok-read_map_field-clause-runs g c =
     let depth = c.args.depth in
     let n = c.args.number in
     let given = c.args.bytes.now in
-    let w = c.in-Ok.ensures.ok in
+    let w = whole (keeping g.KC.MapValueDecode.reading (closed_reading e) g.C.MapStorage.equal g.C.MapStorage.keeps_order c.new-ctx.result.depth c.args.number (g.KC.MapValueDecode.COST + 4)) g.KC.MapCodec.writing closed_writing g.KC.MapCodec.fits (ClosedFits e) (g.C.MapStorage.walks c.rewrite_map_field.new.map)
+    c.new-ctx.result.budget.now _ c.args.bytes.now _ (g.C.MapStorage.pairs c.rewrite_map_field.new.map) c.new-encoding.result.items _ _ _ (λ l walk. g.met.C.MapStorage.walked c.rewrite_map_field.new.map l walk) c.in-Ok.ensures.read c.in-Ok.ensures.written c.in-Ok.ensures.short c.in-Ok.ensures.fits c.in-Ok.ensures.room in
     let run = subst (λ (z : ℕ). Run key (closed_reading e) z n given w.read.entries) c.new-ctx.ensures.depth w.read.run in
     let newer = c.newer_enums_take_it_too.ensures e f g.met.E.Enumeration.blank_declared c.requires.refines depth n given w.read.entries run in
     record { older_entries = w.read.entries; older_run = run; newer_entries = newer.0; newer_run = newer.1 }
@@ -68,7 +73,8 @@ returns-in-Ok-read_map_field-clause-reads g c =
     let f = numbers g.F.Enumeration.of_number g.F.Blank.blank_is in
     let depth = c.args.depth in
     let n = c.args.number in
-    let w = c.in-Ok.ensures.ok in
+    let w = whole (keeping g.KC.MapValueDecode.reading (closed_reading e) g.C.MapStorage.equal g.C.MapStorage.keeps_order c.new-ctx.result.depth c.args.number (g.KC.MapValueDecode.COST + 4)) g.KC.MapCodec.writing closed_writing g.KC.MapCodec.fits (ClosedFits e) (g.C.MapStorage.walks c.rewrite_map_field.new.map)
+    c.new-ctx.result.budget.now _ c.args.bytes.now _ (g.C.MapStorage.pairs c.rewrite_map_field.new.map) c.new-encoding.result.items _ _ _ (λ l walk. g.met.C.MapStorage.walked c.rewrite_map_field.new.map l walk) c.in-Ok.ensures.read c.in-Ok.ensures.written c.in-Ok.ensures.short c.in-Ok.ensures.fits c.in-Ok.ensures.room in
     let run = subst (λ (z : ℕ). Run key (closed_reading e) z n c.args.bytes.now w.read.entries) c.new-ctx.ensures.depth w.read.run in
     let encoding : c.as_slice-written.result.now ≡ w.out = wrote w.out c.new-encoding.ensures.items w.encoding c.as_slice-written.ensures.value in
     record {
@@ -90,7 +96,9 @@ returns-in-Err-clause-refused g c =
     let e = numbers g.E.Enumeration.of_number g.E.Blank.blank_is in
     not_rewritten g.KC.MapValueDecode.reading (closed_reading e) g.KC.MapCodec.writing g.C.MapStorage.equal g.C.MapStorage.keeps_order c.args.number (g.KC.MapValueDecode.COST + 4) c.args.bytes.now
     (g.C.MapStorage.pairs c.rewrite_map_field.new.map) (g.C.MapStorage.walks c.rewrite_map_field.new.map) _ c.new-ctx.result.depth c.args.depth c.new-ctx.result.budget.now _ c.new-encoding.result.items _ _ _ c.in-Err.error c.new-ctx.ensures.depth
-    (c.new-ctx.ensures.budget ∙ left_is c.new-budget.result _ _ c.new-budget.ensures.unknown c.new-budget.ensures.memory) c.new-encoding.ensures.items c.in-Err.ensures.refused
+    (c.new-ctx.ensures.budget ∙ left_is c.new-budget.result _ _ c.new-budget.ensures.unknown c.new-budget.ensures.memory) c.new-encoding.ensures.items
+    (why_not (keeping g.KC.MapValueDecode.reading (closed_reading e) g.C.MapStorage.equal g.C.MapStorage.keeps_order c.new-ctx.result.depth c.args.number (g.KC.MapValueDecode.COST + 4)) g.KC.MapCodec.writing closed_writing g.KC.MapCodec.fits (ClosedFits e) (g.C.MapStorage.walks c.rewrite_map_field.new.map)
+    c.new-ctx.result.budget.now _ c.args.bytes.now _ (g.C.MapStorage.pairs c.rewrite_map_field.new.map) c.new-encoding.result.items _ _ _ (λ l walk. g.met.C.MapStorage.walked c.rewrite_map_field.new.map l walk) {T = Unit {0}} (Err c.in-Err.error) c.in-Err.ensures.read c.in-Err.ensures.fault c.in-Err.ensures.unwritten c.in-Err.ensures.stopped c.in-Err.ensures.full)
 
 pub returns-clause-stops : goal.returns-clause-stops
 returns-clause-stops g c =
@@ -102,7 +110,8 @@ returns-clause-stops g c =
     let n = c.args.number in
     let given = c.args.bytes.now in
     let fault = c.in-Err-read_map_field.error in
-    let w = c.in-Ok.ensures.ok in
+    let w = whole (keeping g.KC.MapValueDecode.reading (closed_reading e) g.C.MapStorage.equal g.C.MapStorage.keeps_order c.new-ctx.result.depth c.args.number (g.KC.MapValueDecode.COST + 4)) g.KC.MapCodec.writing closed_writing g.KC.MapCodec.fits (ClosedFits e) (g.C.MapStorage.walks c.rewrite_map_field.new.map)
+    c.new-ctx.result.budget.now _ c.args.bytes.now _ (g.C.MapStorage.pairs c.rewrite_map_field.new.map) c.new-encoding.result.items _ _ _ (λ l walk. g.met.C.MapStorage.walked c.rewrite_map_field.new.map l walk) c.in-Ok.ensures.read c.in-Ok.ensures.written c.in-Ok.ensures.short c.in-Ok.ensures.fits c.in-Ok.ensures.room in
     let run = subst (λ (z : ℕ). Run key (closed_reading e) z n given w.read.entries) c.new-ctx.ensures.depth w.read.run in
     let newer = c.newer_enums_take_it_too.ensures e f g.met.E.Enumeration.blank_declared c.requires.refines depth n given w.read.entries run in
     let again = c.rewrite_means.ensures g.C.MapStorage.equal g.met.C.MapStorage.equivalence e f g.met.E.Enumeration.blank_declared c.requires.refines depth n given w.out w.read.entries newer.0 c.requires.number run newer.1 w.rewrite in
