@@ -1,0 +1,5 @@
+//! What is made of .proto files.
+
+#![tactic(auto)]
+
+pub mod messages;
