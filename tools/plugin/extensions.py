@@ -145,7 +145,7 @@ def write(world, listed, enums):
 def head(world, written, enums):
     """What the file cites and imports."""
     read = [it for it in written if it.has_default]
-    words = {"codes", "◌≡◌"}.union(*[{"IfOk", "Some", "⊥"} | default(it, enums).words for it in read])
+    words = {"codes", "◌≡◌"}.union(*[{"IfOk", "Some"} | default(it, enums).words for it in read])
     words |= {"IsOk"} if any(is_number(it) for it in read) else set()
     names = {"Extension"}.union(*[it.needs for it in written], *[default(it, enums).needs for it in read])
     names |= {"AllocError", "ExtensionCodec", "ExtensionSet", "Global"} if read else set()

@@ -1,6 +1,6 @@
 //! Extensions, made of shipment.proto by protoc-gen-buffa.
 
-ghost use Rattle.std.specs.Prelude.{IfOk, IsOk, Some, codes, option_map, pos, string_bytes, true, ⊥, ◌≡◌};
+ghost use Rattle.std.specs.Prelude.{IfOk, IsOk, Some, codes, option_map, pos, string_bytes, true, ◌≡◌};
 ghost use Rattle.buffa_ext.specs.Defaults.{IsDefaulted, ReadsNumber};
 
 use crate::messages::handling::Handling;
