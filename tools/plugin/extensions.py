@@ -3,7 +3,7 @@ from google.protobuf.descriptor_pb2 import FieldDescriptorProto as Field
 
 import getters
 from files import clean
-from names import ESCAPED, KEYWORDS, MODULE, MODULES, member, snake
+from names import ESCAPED, KEYWORDS, MODULE, MODULES, TAKEN, member, snake
 from proto import SCALARS, Declaration
 from text import LITERAL_WIDTH, called, docs, prelude_line, uses
 from world import MESSAGES
@@ -11,8 +11,9 @@ from world import MESSAGES
 WIDTH = 100
 # The file that has the functions, and what it is called where a type's file has the name.
 FILE, OTHER_FILE = "extensions", "declared_extensions"
-# Words of the clauses, which no function of the file can be called.
+# Words of the clauses, which no function of the file can be called, and words of a function that reads an extension.
 WORDS = set("codes negsuc option_map pos string_bytes".split())
+READING = set("alloc message value".split())
 TEXTS = {Field.TYPE_STRING: "StringCodec", Field.TYPE_BYTES: "BytesCodec"}
 # The codecs of types, beside those of scalars, and what the functions call.
 CODECS = {codec for codec, *_ in SCALARS.values()} - {"Str", "BytesVec"}
@@ -92,12 +93,12 @@ def name_one(world, it, taken):
     while at:
         names, at = [snake(at.it.name).strip("_")] + names, at.outer
     told = world.renamed.get(it.field.full)
-    name = told or legal("_".join(names))
-    if told and legal(told) != told:
+    name = told or legal(it, "_".join(names))
+    if told and legal(it, told) != told:
         it.field.refuse(f"no function can be called {told}", "write another name behind its rename=")
     other = taken.get(name.lower())
     if other and not told and other.field.file.it.package != it.field.file.it.package:
-        name = legal(f"{it.field.file.it.package.replace('.', '_')}_{name}")
+        name = legal(it, f"{it.field.file.it.package.replace('.', '_')}_{name}")
         world.tell(f"{it.field.at()}: its function is called {name}, since {other.field.full} has the shorter name")
     it.name = name
     for one in [name] + [f"{name}_or_default"] * it.has_default:
@@ -107,10 +108,11 @@ def name_one(world, it, taken):
             it.field.refuse(f"the name of its function is that of {other.field.full}, too", way)
 
 
-def legal(name):
-    """The name of a function: that of a member, with `_` behind it where it is a word of contracts, too."""
+def legal(it, name):
+    """The name of a function: that of a member, with `_` behind it where it is a word of the file, or of a type, too."""
     name = member(name)
-    return name + "_" if name in KEYWORDS | ESCAPED | MODULES | WORDS else name
+    words = KEYWORDS | ESCAPED | MODULES | WORDS | TAKEN | set(MODULE_OF) | set(it.world.types.values())
+    return name + "_" if name in words | (READING if it.has_default else set()) else name
 
 
 def found(world):
