@@ -16,7 +16,7 @@ ENDS = ["\n", "\r", "\r\n", "\v", "\f", "\t", "\0", "\x85", "\u2028", "\u2029", 
 
 
 def request():
-    """A message with an enum, a number, a text, bytes and a bool, each with a default, and a oneof; a service and an extension."""
+    """A message with an enum, a number, a text, bytes and a bool, each with a default, and a oneof; a service; and two extensions."""
     it = plugin_pb2.CodeGeneratorRequest(file_to_generate=["x.proto"], parameter="crate=cases")
     file = it.proto_file.add(name="x.proto", package="cases", syntax="proto2")
     message = file.message_type.add(name="Host")
@@ -33,7 +33,9 @@ def request():
     enum.value.add(name="KIND_OLD", number=0)
     enum.value.add(name="KIND_NEW", number=1)
     file.service.add(name="Reader").method.add(name="Read", input_type=".cases.Host", output_type=".cases.Host")
-    file.extension.add(name="more", number=100, type=Field.TYPE_INT32, label=Field.LABEL_OPTIONAL, extendee=".cases.Host")
+    for at, (name, kind, default) in enumerate(kinds[:2]):
+        more = file.extension.add(name=f"more_{name}", number=at + 100, type=kind, label=Field.LABEL_OPTIONAL, extendee=".cases.Host")
+        more.default_value = default
     return it
 
 
@@ -61,6 +63,7 @@ WAYS = {
     "a comment of a case": comment([4, 0, 2, 5]),
     "a comment of an enum": comment([5, 0]),
     "a comment of a value": comment([5, 0, 2, 0]),
+    "a comment of an extension": comment([7, 0]),
     "the name of a message": put(lambda f: f.message_type[0], "name"),
     "the name of a field": put(lambda f: f.message_type[0].field[0], "name"),
     "the name of a oneof": put(lambda f: f.message_type[0].oneof_decl[0], "name"),
@@ -69,6 +72,9 @@ WAYS = {
     "the name of a value": put(lambda f: f.enum_type[0].value[0], "name"),
     "the name of a service": put(lambda f: f.service[0], "name"),
     "the name of an extension": put(lambda f: f.extension[0], "name"),
+    "the extendee of an extension": put(lambda f: f.extension[0], "extendee"),
+    "the default of an extension that is a number": put(lambda f: f.extension[0], "default_value"),
+    "the default of an extension that is a text": put(lambda f: f.extension[1], "default_value"),
     "the name of a package": put(lambda f: f, "package"),
     "the type of a field": put(lambda f: f.message_type[0].field[4], "type_name"),
     "the default of a number": put(lambda f: f.message_type[0].field[0], "default_value"),

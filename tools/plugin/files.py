@@ -67,13 +67,13 @@ class File:
         if it.package and not all(NAME.fullmatch(part) for part in it.package.split(".")):
             raise Refused(f"{self.shown}: {clean(it.package)}: it is no name of a package: write it with letters, digits, `_` and `.`")
         self.places = {tuple(p.path): p for p in it.source_code_info.location}
-        self.messages, self.enums, self.others, self.entries = [], [], [], {}
+        self.messages, self.enums, self.services, self.extensions, self.entries = [], [], [], [], {}
         base = it.package + "." if it.package else ""
         for at, each in enumerate(it.message_type):
             self.add((4, at), base, each, None)
         self.enums += [Name(self, (5, at), base + e.name, e) for at, e in enumerate(it.enum_type)]
-        self.others += [Name(self, (6, at), base + e.name, e) for at, e in enumerate(it.service)]
-        self.others += [Name(self, (7, at), base + e.name, e) for at, e in enumerate(it.extension)]
+        self.services = [Name(self, (6, at), base + e.name, e) for at, e in enumerate(it.service)]
+        self.extensions += [Name(self, (7, at), base + e.name, e) for at, e in enumerate(it.extension)]
 
     def see_syntax(self):
         """Refuses a file of a syntax that isn't known, which would be read as one of proto2."""
@@ -90,4 +90,4 @@ class File:
         for at, each in enumerate(it.nested_type):
             self.add(path + (3, at), name.full + ".", each, name)
         self.enums += [Name(self, path + (4, at), f"{name.full}.{e.name}", e, name) for at, e in enumerate(it.enum_type)]
-        self.others += [Name(self, path + (6, at), f"{name.full}.{e.name}", e, name) for at, e in enumerate(it.extension)]
+        self.extensions += [Name(self, path + (6, at), f"{name.full}.{e.name}", e, name) for at, e in enumerate(it.extension)]

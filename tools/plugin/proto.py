@@ -42,7 +42,50 @@ MOST = 60
 MOST_IN_BLOCKS = 128
 
 
-class Member:
+class Declaration:
+    """A field or an extension, as the .proto declares it."""
+
+    def is_default(self, said):
+        """Whether a declared default is of the field's type."""
+        if self.it.type == Field.TYPE_ENUM:
+            return any(said == it.name for it in self.world.found[self.it.type_name.lstrip(".")].it.value)
+        if self.it.type == Field.TYPE_BOOL:
+            return said in ("true", "false")
+        if self.it.type == Field.TYPE_BYTES:
+            return re.fullmatch(r"([ -\[\]-~]|\\([0-3][0-7]{2}|[nrt\"'\\]))*", said) is not None
+        number = r"-?(inf|nan|[0-9.]+(e[-+]?[0-9]+)?)" if self.it.type in REALS else r"-?[0-9]+"
+        return self.it.type == Field.TYPE_STRING or re.fullmatch(number, said, re.ASCII) is not None
+
+    def default(self):
+        """The declared default as the .proto has it, on one line."""
+        said = self.it.default_value
+        if self.it.type == Field.TYPE_BYTES:
+            return f'"{clean(said)}"'
+        return quoted(said) if self.it.type == Field.TYPE_STRING else clean(said)
+
+    def declared(self):
+        """The field as the .proto has it."""
+        names = {v: k[5:].lower() for k, v in Field.Type.items()}
+
+        def type_name(it):
+            return it.type_name.split(".")[-1] if it.type_name else names[it.type]
+
+        entry = self.world.entries.get(self.it.type_name)
+        if entry:
+            return f"map<{type_name(entry.field[0])}, {type_name(entry.field[1])}> {self.it.name} = {self.number};"
+        label = {Field.LABEL_REPEATED: "repeated ", Field.LABEL_REQUIRED: "required "}.get(self.it.label, "")
+        if not label and not self.is_case and (self.field.file.is_closed or self.it.proto3_optional):
+            label = "optional "
+        options = [f"default = {self.default()}"] if self.it.HasField("default_value") else []
+        if self.it.options.HasField("packed"):
+            options.append(f"packed = {str(self.it.options.packed).lower()}")
+        said = f" [{', '.join(options)}]" if options else ""
+        if self.it.type == Field.TYPE_GROUP:
+            return f"{label}group {type_name(self.it)} = {self.number};"
+        return f"{label}{type_name(self.it)} {self.it.name} = {self.number}{said};"
+
+
+class Member(Declaration):
     """How a field stands in its message: the name of the member, its member type and Rust type, what it means and its default."""
 
     def __init__(self, world, field, message):
@@ -111,17 +154,6 @@ class Member:
             self.field.refuse(f"its default isn't that of its type ({self.default()})", "take implicit= away")
         if not has_getter(self) and "implicit" not in self.told:
             self.world.tell(f"{self.field.at()}: it has no getter for its default ({self.default()})")
-
-    def is_default(self, said):
-        """Whether a declared default is of the field's type."""
-        if self.it.type == Field.TYPE_ENUM:
-            return any(said == it.name for it in self.world.found[self.it.type_name.lstrip(".")].it.value)
-        if self.it.type == Field.TYPE_BOOL:
-            return said in ("true", "false")
-        if self.it.type == Field.TYPE_BYTES:
-            return re.fullmatch(r"([ -\[\]-~]|\\([0-3][0-7]{2}|[nrt\"'\\]))*", said) is not None
-        number = r"-?(inf|nan|[0-9.]+(e[-+]?[0-9]+)?)" if self.it.type in REALS else r"-?[0-9]+"
-        return self.it.type == Field.TYPE_STRING or re.fullmatch(number, said, re.ASCII) is not None
 
     def see_told(self, entry):
         """Refuses a parameter where it is for other fields."""
@@ -259,34 +291,6 @@ class Member:
     def cost_of(self, messages):
         """The bytes of the member."""
         return self.cost or messages[self.inside[-1]].cost(messages) + 8
-
-    def default(self):
-        """The declared default as the .proto has it, on one line."""
-        said = self.it.default_value
-        if self.it.type == Field.TYPE_BYTES:
-            return f'"{clean(said)}"'
-        return quoted(said) if self.it.type == Field.TYPE_STRING else clean(said)
-
-    def declared(self):
-        """The field as the .proto has it."""
-        names = {v: k[5:].lower() for k, v in Field.Type.items()}
-
-        def type_name(it):
-            return it.type_name.split(".")[-1] if it.type_name else names[it.type]
-
-        entry = self.world.entries.get(self.it.type_name)
-        if entry:
-            return f"map<{type_name(entry.field[0])}, {type_name(entry.field[1])}> {self.it.name} = {self.number};"
-        label = {Field.LABEL_REPEATED: "repeated ", Field.LABEL_REQUIRED: "required "}.get(self.it.label, "")
-        if not label and not self.is_case and (self.field.file.is_closed or self.it.proto3_optional):
-            label = "optional "
-        options = [f"default = {self.default()}"] if self.it.HasField("default_value") else []
-        if self.it.options.HasField("packed"):
-            options.append(f"packed = {str(self.it.options.packed).lower()}")
-        said = f" [{', '.join(options)}]" if options else ""
-        if self.it.type == Field.TYPE_GROUP:
-            return f"{label}group {type_name(self.it)} = {self.number};"
-        return f"{label}{type_name(self.it)} {self.it.name} = {self.number}{said};"
 
 
 def tell_unnamed(world, field, name):

@@ -16,14 +16,20 @@ LITERAL_WIDTH = 18
 LONGEST = 120
 
 
-def uses(world, names, own):
-    """The use lines of names and of types of the .proto's, which are given by their full names."""
+def uses(world, names, own, module_of=MODULE):
+    """The use lines of names, whose modules are given, and of types of the .proto's, which are given by their full names."""
     by_module = {}
     for name in names:
-        by_module.setdefault(MODULE[name], set()).add(name)
+        by_module.setdefault(module_of[name], set()).add(name)
     for full in own:
         by_module.setdefault(world.module_of(full), set()).add(world.types[full])
-    modules = sorted(by_module, key=lambda m: (not m.startswith("crate::"), [(1, place(p)) for p in m.split("::")] + [(9, [])]))
+
+    def order(module):
+        """Where rt fmt puts a line: a name that stands alone among the modules, and names in braces behind them."""
+        last = [(1, place(it)) for it in by_module[module]] if len(by_module[module]) == 1 else [(9, [])]
+        return not module.startswith("crate::"), [(1, place(it)) for it in module.split("::")] + last
+
+    modules = sorted(by_module, key=order)
     made = []
     for module in modules:
         made += use_line(module, ordered(by_module[module]))

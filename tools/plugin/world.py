@@ -101,7 +101,7 @@ class World:
         fields = {f"{full}.{f.name}" for full in messages for f in self.found[full].it.field}
         enums = [it for f in self.by_name.values() for it in f.enums]
         values = {f"{it.full}.{v.name}" for it in enums for v in it.it.value}
-        known = messages | fields | {it.full for ones in self.oneofs.values() for it in ones} | {it.full for it in enums} | {it.full for f in self.by_name.values() for it in f.others}
+        known = messages | fields | {it.full for ones in self.oneofs.values() for it in ones} | {it.full for it in enums} | {it.full for f in self.by_name.values() for it in f.services + f.extensions}
         told = [("thing", name) for name in self.left - known] + [("file", name) for name in self.mapped if name not in self.by_name]
         told += [("field", name) for name in set().union(*self.fields.values()) - fields]
         told += [("message", name) for name in (self.dropping | set(self.costs)) - messages]
@@ -132,6 +132,8 @@ class World:
     def reached(self):
         """The messages and enums of the files asked for, and those that they use of imported files, what is left out apart."""
         made = [it for f in self.asked for it in f.messages + f.enums if not self.is_left(it) and not self.is_mapped(it.full)]
+        held = [self.target(it.it) for f in self.asked for it in f.extensions if not self.is_left(it)]
+        made += [self.found[it] for it in dict.fromkeys(held) if it and self.found[it] not in made]
         seen, at = {it.full for it in made}, 0
         while at < len(made):
             message, at = made[at], at + 1
@@ -197,18 +199,15 @@ class World:
 
     def tell_empty(self):
         """Says of which files nothing is written, and which files have what they hand on."""
-        for file in (it for it in self.asked if not it.messages and not it.enums):
+        for file in (it for it in self.asked if not it.messages + it.enums + it.extensions):
             others = ", ".join(clean(file.it.dependency[at]) for at in file.it.public_dependency)
             hint = f": it hands on what others have; name these in the call: {others}" if others else ""
-            self.tell(f"{file.shown}: it has no message and no enum, so nothing is written of it{hint}")
+            self.tell(f"{file.shown}: it has no message, no enum and no extension, so nothing is written of it{hint}")
 
     def tell_passed(self):
-        """Says which services and extensions are passed over, but those that are left out by a parameter."""
-        for other in (it for f in self.asked for it in f.others if not self.is_left(it)):
-            if hasattr(other.it, "method"):
-                self.tell(f"{other.at()}: it is a service, and is passed over: messages and enums alone are written")
-            else:
-                self.tell(f"{other.at()}: it declares an extension, and is passed over: a program declares it by Extension::new")
+        """Says which services are passed over, but those that are left out by a parameter."""
+        for service in (it for f in self.asked for it in f.services if not self.is_left(it)):
+            self.tell(f"{service.at()}: it is a service, and is passed over: messages, enums and extensions alone are written")
 
 
 def folder_name():

@@ -11,6 +11,7 @@
 mod find;
 mod judge;
 mod lines;
+mod messages;
 mod rules;
 #[cfg(test)]
 mod tests;

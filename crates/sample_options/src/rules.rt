@@ -1,8 +1,8 @@
 //! The rules that the options of a field set.
 
-use buffa_descriptor::messages::{FieldDescriptorProto, FieldOptions};
-use buffa_ext::codecs::{Bool, Sint64, Uint32};
-use buffa_ext::{Extension, ExtensionSet, StrictCodec};
+use crate::messages::extensions::{least, max_len, most, required};
+use buffa_descriptor::messages::FieldDescriptorProto;
+use buffa_ext::ExtensionSet;
 use buffa_fields::DecodeError;
 use std::alloc::Global;
 
@@ -19,17 +19,7 @@ pub struct Rules {
     pub required: bool,
 }
 
-// The option of this number, none where it isn't there; each of its records has to be read.
-fn read_option<C: StrictCodec>(
-    alloc: Global,
-    options: &FieldOptions,
-    number: u32,
-) -> Result<C::Output, DecodeError> {
-    let ext = Extension::<C>::new(number, FieldOptions::PROTO_FQN);
-    options.read_extension(alloc, &ext)
-}
-
-/// The rules of `shop.proto` that a field's options set: `max_len` 50001, `least` 50002, `most` 50003, `required` 50004.
+/// The rules that a field's options set, which `shop.proto` declares. Each record of an option has to be read.
 ///
 /// # Errors
 /// Where an option is malformed, or memory runs out.
@@ -43,9 +33,9 @@ pub fn read_rules(alloc: Global, field: &FieldDescriptorProto) -> Result<Rules, 
         });
     };
     Ok(Rules {
-        max_len: read_option::<Uint32>(alloc, options, 50001)?,
-        least: read_option::<Sint64>(alloc, options, 50002)?,
-        most: read_option::<Sint64>(alloc, options, 50003)?,
-        required: read_option::<Bool>(alloc, options, 50004)?.unwrap_or(false),
+        max_len: options.read_extension(alloc, &max_len())?,
+        least: options.read_extension(alloc, &least())?,
+        most: options.read_extension(alloc, &most())?,
+        required: options.read_extension(alloc, &required())?.unwrap_or(false),
     })
 }
