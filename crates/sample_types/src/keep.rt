@@ -3,9 +3,10 @@
 ghost use Rattle.std.proofs.Common.{lit<, refl};
 ghost use Rattle.buffa_fields.specs.Members.{keep_unknown};
 
+use buffa_fields::meaning::Unknowns;
 use buffa_fields::messages::message::{FieldByField, FieldsMeaning};
 use buffa_fields::messages::message_fields::MessageFields;
-use buffa_fields::messages::unknown::{self, Unknowns};
+use buffa_fields::messages::unknown;
 use buffa_fields::passes::visitor::Visitor;
 use buffa_wire::{Blank, DecodeContext, DecodeError, MessageImpl, Tag, UnknownFields};
 use std::alloc::Global;

@@ -10,12 +10,12 @@ ghost use Rattle.sample_validator.specs.Options.{int32_option, string_option};
 
 use buffa_codec::{Repeated, StringCodec};
 use buffa_ext::{Extension, ExtensionSet};
-use buffa_fields::meaning::And;
+use buffa_fields::meaning::{And, Unknowns};
 use buffa_fields::members::explicit_field::ExplicitField;
 use buffa_fields::members::member::Member;
 use buffa_fields::messages::message::{FieldByField, FieldsMeaning};
 use buffa_fields::messages::message_fields::MessageFields;
-use buffa_fields::messages::unknown::{self, Unknowns};
+use buffa_fields::messages::unknown;
 use buffa_fields::passes::visitor::Visitor;
 use buffa_wire::scalars::{Bool, Int32};
 use buffa_wire::{Blank, DecodeContext, DecodeError, MessageImpl, Tag, UnknownFields};

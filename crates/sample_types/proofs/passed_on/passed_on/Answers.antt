@@ -98,7 +98,7 @@ returns-in-Err-clause-refused g c =
     (g.C.MapStorage.pairs c.rewrite_map_field.new.map) (g.C.MapStorage.walks c.rewrite_map_field.new.map) _ c.new-ctx.result.depth c.args.depth c.new-ctx.result.budget.now _ c.new-encoding.result.items _ _ _ c.in-Err.error c.new-ctx.ensures.depth
     (c.new-ctx.ensures.budget ∙ left_is c.new-budget.result _ _ c.new-budget.ensures.unknown c.new-budget.ensures.memory) c.new-encoding.ensures.items
     (why_not (keeping g.KC.MapValueDecode.reading (closed_reading e) g.C.MapStorage.equal g.C.MapStorage.keeps_order c.new-ctx.result.depth c.args.number (g.KC.MapValueDecode.COST + 4)) g.KC.MapCodec.writing closed_writing g.KC.MapCodec.fits (ClosedFits e) (g.C.MapStorage.walks c.rewrite_map_field.new.map)
-    c.new-ctx.result.budget.now _ c.args.bytes.now _ (g.C.MapStorage.pairs c.rewrite_map_field.new.map) c.new-encoding.result.items _ _ _ (λ l walk. g.met.C.MapStorage.walked c.rewrite_map_field.new.map l walk) {T = Unit {0}} (Err c.in-Err.error) c.in-Err.ensures.read c.in-Err.ensures.fault c.in-Err.ensures.unwritten c.in-Err.ensures.stopped c.in-Err.ensures.full)
+    c.new-ctx.result.budget.now _ c.args.bytes.now _ (g.C.MapStorage.pairs c.rewrite_map_field.new.map) c.new-encoding.result.items _ _ 0 (λ l walk. g.met.C.MapStorage.walked c.rewrite_map_field.new.map l walk) {T = Unit {0}} (Err c.in-Err.error) c.in-Err.ensures.read c.in-Err.ensures.fault c.in-Err.ensures.unwritten c.in-Err.ensures.stopped c.in-Err.ensures.full)
 
 pub returns-clause-stops : goal.returns-clause-stops
 returns-clause-stops g c =
