@@ -15,4 +15,5 @@ def find_compared(messages):
 
 def derives(it):
     """The line of what is derived."""
-    return "#[derive(Debug, Drop, PartialEq, Eq)]" if it.world.equal and it.is_compared else "#[derive(Debug, Drop)]"
+    made = ["Clone"] * bool(it.world.clone) + ["Debug", "Drop"] + ["PartialEq", "Eq"] * bool(it.world.equal and it.is_compared)
+    return f"#[derive({', '.join(made)})]"

@@ -14,7 +14,7 @@ pub use Rattle.buffa_bytes.specs.Varint.{varint_encoding}
 pub use Rattle.buffa_bytes.specs.Written.{UsesRoom, Writes}
 pub use Rattle.buffa_wire.specs.BudgetLeft.{BudgetLeft, Covers, PaysAtMost, UnknownTaken, UnknownsSpent, budget_left, defaults, nothing, plus}
 pub use Rattle.buffa_wire.specs.Cache.{advanced, appended}
-pub use Rattle.buffa_wire.specs.Code.{coded_field_data}
+pub use Rattle.buffa_wire.specs.StoredRecords.{coded_field_data}
 pub use Rattle.buffa_wire.specs.Enums.{DeclaresBlank, numbers, open_number}
 pub use Rattle.buffa_wire.specs.Message.{BeginsField, FieldRefused, IsMergedAlone, MergesBytes, MergesField, MergesInside, MessageFault, PartlyMerged, PartlyMergedInside, TakesMessageField, Unchanged, cost_of_payload}
 pub use Rattle.buffa_wire.specs.Parse.{AreValid, Fits}
@@ -22,4 +22,4 @@ pub use Rattle.buffa_wire.specs.Passes.{IsNext, IsSized, IsWritten}
 pub use Rattle.buffa_wire.specs.RecordReading.{ListTakesMemory, RecordTakesMemory, field_in, list_at}
 pub use Rattle.buffa_wire.specs.Records.{FieldData, IsEmpty, IsNumeric, bytes, records_of}
 pub use Rattle.buffa_wire.specs.Encoding.{records_encoding, wire_of}
-pub use Rattle.buffa_wire.specs.View.{AnswersRecords, CalledAtRecord, field_data_of, record_of, records_in}
+pub use Rattle.buffa_wire.specs.RecordsOfValues.{AnswersRecords, CalledAtRecord, field_data_of, record_of, records_in}

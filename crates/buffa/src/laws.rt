@@ -4,7 +4,7 @@
 ghost use Rattle.std.specs.Prelude.{◌≡◌, ◌≢◌, ◌↔◌, [], ◌∷◌, ℕ, List, ℤ, Bool, Option, Some, map};
 ghost use Rattle.buffa_wire.specs.Enums.{open_number};
 ghost use Rattle.buffa_codec.specs.Decoded.{LaterReadingsWin, ReadAlike, ReadingsJoin};
-ghost use Rattle.buffa_ext_laws.specs.Through.{ListsThrough, ReadsThrough, WritesThrough};
+ghost use Rattle.buffa_ext_laws.specs.MappedReadings.{ListsThrough, ReadsThrough, WritesThrough};
 ghost use Rattle.buffa_ext.specs.Steps.{ClearsAreOne, IsExactlySet, KeepsTheRest, LeavesOthers, SecondCounts};
 ghost use Rattle.buffa_ext.specs.Steps.{ComesLast, TakesOut, TakesThePlace};
 ghost use Rattle.buffa_map.specs.Laws.{SizeIsLength};

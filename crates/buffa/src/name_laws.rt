@@ -9,7 +9,7 @@ ghost use Rattle.buffa_bytes.specs.declared.wire_type.WireType.TheVariants as wi
 ghost use Rattle.buffa_wire.specs.BudgetLeft.{BudgetLeft};
 ghost use Rattle.buffa_wire.specs.ByField.{value_of};
 ghost use Rattle.buffa_wire.specs.Enums.{numbers, open_number};
-ghost use Rattle.buffa_wire.specs.Found.{fixed32_in, fixed64_in, varint_in};
+ghost use Rattle.buffa_wire.specs.NumberInRecord.{fixed32_in, fixed64_in, varint_in};
 ghost use Rattle.buffa_wire.specs.Records.{FieldData, bytes as held_bytes};
 ghost use Rattle.buffa_codec.specs.Decoded.{bytes_held, packed_record, string_held};
 ghost use Rattle.buffa_ext.specs.Messages.{group_of};

@@ -7,7 +7,7 @@ use Rattle.std.proofs.lemmas.List.{map-append, append-nil}
 use Rattle.std.specs.Option.{option_or}
 use Rattle.buffa_wire.specs.Records.{FieldData}
 use Rattle.buffa_codec.specs.Decoded.{last_read}
-use Rattle.buffa_codec.specs.Sub.{sub, without, tagged}
+use Rattle.buffa_codec.specs.RecordsOfNumber.{sub, without, tagged}
 
 pub sub-cons : (n : ℕ) (r : ℕ × FieldData) (rs : List (ℕ × FieldData)) → sub n (r ∷ rs) ≡ cond (r.0 == n) (r.1 ∷ sub n rs) (sub n rs)
 sub-cons n r rs = elim (r.0 == n) as (λ b. map (λ q. q.1) (cond b (r ∷ filter (λ q. q.0 == n) rs) (filter (λ q. q.0 == n) rs)) ≡ cond b (r.1 ∷ sub n rs) (sub n rs)) [ true ↦ refl | false ↦ refl ]

@@ -5,9 +5,9 @@ use Rattle.std.specs.List.{filter_map, last_or, cons_option}
 use Rattle.std.proofs.lemmas.List.{drop_more}
 use Rattle.std.proofs.lemmas.List.Elements.{filter_map-append}
 use Rattle.buffa_wire.specs.Records.{FieldData}
-use Rattle.buffa_wire.specs.View.{record_of, records_in, field_data_of}
+use Rattle.buffa_wire.specs.RecordsOfValues.{record_of, records_in, field_data_of}
 use Rattle.buffa_wire.specs.declared.unknown_fields.UnknownField.{UnknownField}
-use Rattle.buffa_codec.specs.Sub.{sub}
+use Rattle.buffa_codec.specs.RecordsOfNumber.{sub}
 use Rattle.buffa_codec.specs.Decoded.{HasLast, last_read}
 use Rattle.buffa_codec.proofs.FilteredLemmas.{last_or-append, sub-append}
 use Rattle.buffa_codec.proofs.TurnLemmas.{sub-cut, sub-one_same, sub-one_other}

@@ -4,7 +4,7 @@ use Rattle.std.specs.List.{AllByRecursion}
 use Rattle.buffa_bytes.specs.declared.error.EncodeError.{EncodeError}
 use Rattle.buffa_bytes.specs.declared.error.EncodeError.TheVariants.{OutOfMemory}
 use Rattle.buffa_codec.specs.Decoded.{first_refusal, packed_record}
-use Rattle.buffa_codec.specs.Sub.{tagged}
+use Rattle.buffa_codec.specs.RecordsOfNumber.{tagged}
 use Rattle.buffa_bytes.proofs.ListLemmas.{AllByRecursion-last, AllByRecursion-middle, means_cut, means_more}
 
 -- what holds of each value, and of one more; and of one of them

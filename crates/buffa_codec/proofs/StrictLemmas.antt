@@ -4,11 +4,11 @@ use Rattle.buffa_bytes.specs.declared.error.DecodeError.{DecodeError}
 use Rattle.buffa_bytes.proofs.ListLemmas.{AllByRecursion-last}
 use Rattle.buffa_wire.specs.BudgetLeft.{BudgetLeft}
 use Rattle.buffa_wire.specs.Records.{FieldData}
-use Rattle.buffa_wire.specs.View.{records_in, field_data_of}
+use Rattle.buffa_wire.specs.RecordsOfValues.{records_in, field_data_of}
 use Rattle.buffa_wire.specs.declared.unknown_fields.UnknownField.{UnknownField}
 use Rattle.buffa_codec.specs.Decoded.{Has}
 use Rattle.buffa_codec.specs.Strict.{AreElements, Faultless, FirstElementFault, FirstFault, IsFaultOrFull}
-use Rattle.buffa_codec.specs.Sub.{sub}
+use Rattle.buffa_codec.specs.RecordsOfNumber.{sub}
 use Rattle.buffa_codec.proofs.TurnLemmas.{sub-cut, sub-take_other, sub-take_same}
 
 elements_last : (IsElement : BudgetLeft → FieldData → Type 0) (leaves : BudgetLeft → FieldData → BudgetLeft → Type 0) (ds : List FieldData) (d : FieldData) (b mid left : BudgetLeft)

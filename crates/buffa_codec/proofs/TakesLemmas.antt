@@ -8,12 +8,12 @@ use Rattle.buffa_wire.specs.BudgetLeft.{BudgetLeft}
 use Rattle.buffa_bytes.specs.PayloadValue.{payload_value_at}
 use Rattle.buffa_bytes.specs.PayloadValue.PayloadValue.{number}
 use Rattle.buffa_wire.specs.Records.{FieldData, bytes}
-use Rattle.buffa_wire.specs.View.{records_in, field_data_of}
+use Rattle.buffa_wire.specs.RecordsOfValues.{records_in, field_data_of}
 use Rattle.buffa_wire.specs.declared.unknown_fields.UnknownField.{UnknownField}
 use Rattle.buffa_codec.specs.Packed.{numbers_in}
 use Rattle.buffa_codec.specs.PackedFacts.{numbers_step}
 use Rattle.buffa_codec.specs.Decoded.{AsksInList, Has, HasByte, elements, string_held, unpacked}
-use Rattle.buffa_codec.specs.Sub.{sub}
+use Rattle.buffa_codec.specs.RecordsOfNumber.{sub}
 use Rattle.buffa_codec.proofs.ListLemmas.{some_there}
 use Rattle.buffa_codec.proofs.TurnLemmas.{sub-cut}
 

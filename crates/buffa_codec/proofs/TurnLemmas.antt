@@ -4,10 +4,10 @@ use Rattle.std.proofs.lemmas.Bool.{eq-eqb, ne_eqb}
 use Rattle.std.proofs.lemmas.List.{length-map, map-append, append-nil, take-map}
 use Rattle.std.specs.Result.{OnErr}
 use Rattle.buffa_wire.specs.Records.{FieldData}
-use Rattle.buffa_wire.specs.View.{record_of, records_in, field_data_of}
+use Rattle.buffa_wire.specs.RecordsOfValues.{record_of, records_in, field_data_of}
 use Rattle.buffa_wire.specs.BudgetLeft.{BudgetLeft}
 use Rattle.buffa_wire.specs.declared.unknown_fields.UnknownField.{UnknownField}
-use Rattle.buffa_codec.specs.Sub.{sub, tagged}
+use Rattle.buffa_codec.specs.RecordsOfNumber.{sub, tagged}
 use Rattle.buffa_codec.specs.Decoded.{AddsSome, ReadsAll, elements}
 use Rattle.buffa_codec.proofs.FilteredLemmas.{sub-append, sub-cons}
 use Rattle.buffa_bytes.proofs.ListLemmas.{means_cut, means_more}

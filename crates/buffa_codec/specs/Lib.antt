@@ -1,5 +1,5 @@
 -- The words that this crate hands out.
-pub mod Sub
+pub mod RecordsOfNumber
 pub mod Packed
 pub mod Decoded
 pub mod CodecFacts

@@ -7,8 +7,8 @@ ghost use Rattle.buffa_bytes.specs.declared.error.EncodeError.{EncodeError};
 ghost use Rattle.buffa_bytes.specs.Written.{UsesRoom};
 ghost use Rattle.buffa_wire.specs.BudgetLeft.{BudgetLeft, Covers, Pays, budget_left, defaults};
 ghost use Rattle.buffa_wire.specs.Records.{FieldData, bytes};
-ghost use Rattle.buffa_wire.specs.View.{field_data_of};
-ghost use Rattle.buffa_codec.specs.Sub.{sub, tagged};
+ghost use Rattle.buffa_wire.specs.RecordsOfValues.{field_data_of};
+ghost use Rattle.buffa_codec.specs.RecordsOfNumber.{sub, tagged};
 ghost use Rattle.buffa_codec.specs.Decoded.{Adds, AddsSome, AddsSomeValues, AddsValues, KeepsCapacity, LeavesIn, Refuses};
 ghost use Rattle.buffa_codec.specs.Decoded.{SpendsIn, UsesVecRoom, one_in};
 

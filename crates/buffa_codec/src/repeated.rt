@@ -2,7 +2,7 @@
 
 ghost use Rattle.std.specs.Prelude.{◌≡◌, List, map, OnErr, OnOk};
 ghost use Rattle.std.specs.List.{AllByRecursion};
-ghost use Rattle.buffa_wire.specs.View.{field_data_of};
+ghost use Rattle.buffa_wire.specs.RecordsOfValues.{field_data_of};
 ghost use Rattle.buffa_codec.specs.Decoded.{AddsRecord, AsksInList, CoversAll, Has, ReadsList};
 ghost use Rattle.buffa_codec.specs.Decoded.{first_refusal};
 ghost use Rattle.buffa_wire.specs.BudgetLeft.{defaults};

@@ -5,13 +5,13 @@ ghost use Rattle.std.proofs.Common.{ap, sym, ◌∙◌};
 ghost use Rattle.buffa_bytes.specs.declared.error.DecodeError.{DecodeError};
 ghost use Rattle.buffa_wire.specs.BudgetLeft.{BudgetLeft, PaysAtMost, defaults};
 ghost use Rattle.buffa_wire.specs.Records.{FieldData};
-ghost use Rattle.buffa_wire.specs.View.{field_data_of};
+ghost use Rattle.buffa_wire.specs.RecordsOfValues.{field_data_of};
 ghost use Rattle.buffa_codec.specs.Decoded.{Has};
 ghost use Rattle.buffa_codec.specs.Strict.{AreElements, Faultless, FirstElementFault, FirstFault, IsFaultOrFull};
 ghost use Rattle.buffa_codec.specs.Strict.{bytes_fault, number_list_fault, packed_fault, string_fault, unless_found};
 ghost use Rattle.buffa_codec.specs.StrictFacts.{bytes_are_read, either_fault, either_listed, found_read, no_two};
 ghost use Rattle.buffa_codec.specs.StrictFacts.{read_bytes, read_found, read_listed, read_string, string_read};
-ghost use Rattle.buffa_codec.specs.Sub.{sub};
+ghost use Rattle.buffa_codec.specs.RecordsOfNumber.{sub};
 
 use crate::codec::{ExtensionCodec, PackableCodec, SingularCodec};
 use crate::delimited::{BytesCodec, StringCodec};

@@ -7,9 +7,9 @@ use Rattle.buffa_bytes.proofs.FieldLemmas.{tag_falls}
 use Rattle.buffa_wire.specs.RecordReading.{ListTakesMemory}
 use Rattle.buffa_wire.specs.BudgetLeft.{BudgetLeft}
 use Rattle.buffa_wire.specs.Records.{FieldData}
-use Rattle.buffa_wire.specs.View.{records_in, field_data_of}
+use Rattle.buffa_wire.specs.RecordsOfValues.{records_in, field_data_of}
 use Rattle.buffa_wire.specs.declared.unknown_fields.UnknownField.{UnknownField}
-use Rattle.buffa_codec.specs.Sub.{sub}
+use Rattle.buffa_codec.specs.RecordsOfNumber.{sub}
 use Rattle.buffa_codec.proofs.TurnLemmas.{sub-cut, sub-take_other, sub-take_same}
 use Rattle.buffa_ext.specs.Messages.{IsAllMerged, StopsAt, StopsPartlyMerged, encodings_in}
 use Rattle.buffa_ext.specs.MessageFacts.{merged_more, encoding_refused}

@@ -3,10 +3,10 @@ use Rattle.std.proofs.Common.{◌≡◌, ℕ, ◌+◌, ◌<◌, Bool, true, fals
 use Rattle.buffa_bytes.specs.declared.wire_type.WireType.{WireType}
 use Rattle.buffa_wire.specs.BudgetLeft.{BudgetLeft}
 use Rattle.buffa_wire.specs.Records.{FieldData}
-use Rattle.buffa_wire.specs.View.{records_in, field_data_of}
+use Rattle.buffa_wire.specs.RecordsOfValues.{records_in, field_data_of}
 use Rattle.buffa_wire.specs.declared.unknown_fields.UnknownField.{UnknownField}
 use Rattle.buffa_codec.specs.Strict.{Faultless}
-use Rattle.buffa_codec.specs.Sub.{sub}
+use Rattle.buffa_codec.specs.RecordsOfNumber.{sub}
 use Rattle.buffa_codec.proofs.TurnLemmas.{sub-cut}
 use Rattle.buffa_ext.specs.Messages.{IsAllMerged, encodings_in}
 use Rattle.buffa_ext.specs.Strict.{ReachesStrictly, kind_fault}

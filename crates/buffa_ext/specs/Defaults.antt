@@ -1,7 +1,7 @@
 -- Declared defaults.
 use Rattle.std.specs.Prelude.{ℕ, ◌⊎◌, List, Option, Some, None}
 use Rattle.buffa_wire.specs.Records.{FieldData, Held}
-use Rattle.buffa_codec.specs.Sub.{sub}
+use Rattle.buffa_codec.specs.RecordsOfNumber.{sub}
 
 -- the records of a number are read as that
 abbrev pub ReadsNumber : {V A : Type 0} → (List FieldData → A → Type 0) → (Option V → A) → ℕ → Held → Option V → Type 0

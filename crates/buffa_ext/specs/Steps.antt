@@ -3,8 +3,8 @@ use Rattle.std.specs.Prelude.{◌≡◌, ◌≢◌, ◌↔◌, ◌≤◌, ◌+�
 use Rattle.std.specs.List.{filter_map, last_or}
 use Rattle.buffa_bytes.specs.declared.error.EncodeError.{EncodeError}
 use Rattle.buffa_wire.specs.Records.{FieldData, Held}
-use Rattle.buffa_wire.specs.View.{field_data_of}
-use Rattle.buffa_codec.specs.Sub.{sub, without, tagged}
+use Rattle.buffa_wire.specs.RecordsOfValues.{field_data_of}
+use Rattle.buffa_codec.specs.RecordsOfNumber.{sub, without, tagged}
 use Rattle.buffa_ext.specs.declared.steps.Step.{Step}
 use Rattle.buffa_ext.specs.declared.steps.Step.TheVariants.{Clear, Set}
 

@@ -6,7 +6,7 @@ ghost use Rattle.buffa_bytes.specs.declared.error.DecodeError.TheVariants.{OutOf
 ghost use Rattle.buffa_wire.specs.BudgetLeft.{Covers, defaults};
 ghost use Rattle.buffa_wire.specs.Parse.{Fits};
 ghost use Rattle.buffa_wire.specs.Records.{records_of};
-ghost use Rattle.buffa_codec.specs.Sub.{sub};
+ghost use Rattle.buffa_codec.specs.RecordsOfNumber.{sub};
 ghost use Rattle.buffa_ext.specs.Messages.{IsAnswer, LeavesOfRecord, MergesRecords, ReachesRecord, PartlyMergedRecord, StopsPartlyMerged};
 ghost use Rattle.buffa_ext.specs.Messages.{cost_all, message_of};
 ghost use Rattle.buffa_ext.specs.Messages.{encoding_refusal, encodings_in};

@@ -9,7 +9,7 @@ ghost use Rattle.buffa_wire.specs.BudgetLeft.{budget_left};
 ghost use Rattle.buffa_wire.specs.Parse.{AreValid, Fits};
 ghost use Rattle.buffa_wire.specs.Records.{FieldData, bytes, records_of};
 ghost use Rattle.buffa_wire.specs.Encoding.{records_encoding};
-ghost use Rattle.buffa_wire.specs.View.{field_data_of};
+ghost use Rattle.buffa_wire.specs.RecordsOfValues.{field_data_of};
 ghost use Rattle.buffa_codec.specs.Decoded.{HasByte, Refuses, bytes_held};
 ghost use Rattle.buffa_ext.specs.Messages.{BeginsFieldIn, MergesOne, PartlyMergedRecord, group_held, group_of};
 ghost use Rattle.buffa_ext.specs.Messages.{group_refusal, encodings_in};

@@ -5,7 +5,7 @@ ghost use Rattle.std.specs.Prelude.{OnOk, OnErr, IfErr, IfOk, IsOk};
 ghost use Rattle.std.specs.Borrow.{sem, Lends};
 ghost use Rattle.buffa_wire.specs.Records.{Held};
 ghost use Rattle.buffa_wire.specs.contracts.unknown_fields.UnknownFields.{the_row as fields_row};
-ghost use Rattle.buffa_codec.specs.Sub.{sub};
+ghost use Rattle.buffa_codec.specs.RecordsOfNumber.{sub};
 ghost use Rattle.buffa_codec.specs.Decoded.{Refuses};
 ghost use Rattle.buffa_codec.specs.Strict.{IsFaultOrFull};
 ghost use Rattle.buffa_ext.specs.Defaults.{IsDefaulted, IsRefused, ReadsNumber};

@@ -1,8 +1,8 @@
 //! Changes in place of the records of one number, by which an extension is set or cleared.
 
 ghost use Rattle.std.specs.Prelude.{◌≡◌, ◌≢◌, ◌↔◌, ◌++◌, ◌==◌, ◌≤◌, ◌+◌, IsTrue, IsOk, [], length, not, OnOk, OnErr};
-ghost use Rattle.buffa_wire.specs.View.{record_of};
-ghost use Rattle.buffa_codec.specs.Sub.{sub, without};
+ghost use Rattle.buffa_wire.specs.RecordsOfValues.{record_of};
+ghost use Rattle.buffa_codec.specs.RecordsOfNumber.{sub, without};
 
 use buffa_wire::{UnknownField, UnknownFields};
 use std::alloc::AllocError;

@@ -1,8 +1,8 @@
 //! Sets and clears, one after the other.
 
 ghost use Rattle.std.specs.Prelude.{◌≡◌, ◌≢◌, ◌<◌, [], length, map, take, OnOk, OnErr, IfErr, IfOk};
-ghost use Rattle.buffa_wire.specs.View.{field_data_of};
-ghost use Rattle.buffa_codec.specs.Sub.{tagged};
+ghost use Rattle.buffa_wire.specs.RecordsOfValues.{field_data_of};
+ghost use Rattle.buffa_codec.specs.RecordsOfNumber.{tagged};
 ghost use Rattle.buffa_ext.specs.Steps.{KeepsRoom, RefusedAt, StepTakesMemory, after, after_one, put_in, step_of};
 ghost use Rattle.std.specs.Prelude.{◌≤◌, ◌+◌};
 

@@ -2,9 +2,9 @@
 
 ghost use Rattle.std.specs.Prelude.{◌≡◌, ◌∷◌, [], None, Ok, Some, IfErr, IfOk, OnOk, option_map, true};
 ghost use Rattle.buffa_wire.specs.BudgetLeft.{PaysAtMost, defaults};
-ghost use Rattle.buffa_wire.specs.View.{field_data_of};
+ghost use Rattle.buffa_wire.specs.RecordsOfValues.{field_data_of};
 ghost use Rattle.buffa_codec.specs.Strict.{Faultless, IsFaultOrFull};
-ghost use Rattle.buffa_codec.specs.Sub.{sub};
+ghost use Rattle.buffa_codec.specs.RecordsOfNumber.{sub};
 ghost use Rattle.buffa_ext.specs.Messages.{IsAllMerged, IsAnswer, PartlyMergedRecord, cost_all, encodings_in, message_of};
 ghost use Rattle.buffa_ext.specs.Strict.{AreMessages, FirstRecordFault, ReachesStrictly, MessageRecordFault, kind_fault};
 ghost use Rattle.buffa_ext.specs.StrictFacts.{no_fault, no_first_fault, one_left};

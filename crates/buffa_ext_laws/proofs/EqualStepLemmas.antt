@@ -5,7 +5,7 @@ use Rattle.std.specs.Cmp.Lexicographic.{pointwise}
 use Rattle.std.proofs.lemmas.Bool.Decides.{Decides-eqb}
 use Rattle.std.proofs.lemmas.Bool.{and_from, false≢true}
 use Rattle.buffa_wire.specs.Equal.{field_data_eq, field_data_eq-Decides}
-use Rattle.buffa_wire.specs.View.{field_data_of}
+use Rattle.buffa_wire.specs.RecordsOfValues.{field_data_of}
 use Rattle.buffa_wire.specs.declared.unknown_fields.UnknownFieldData.{UnknownFieldData}
 use Rattle.buffa_ext.specs.Steps.{step_of, clear, set}
 use Rattle.buffa_ext.specs.declared.steps.Step.{Step}

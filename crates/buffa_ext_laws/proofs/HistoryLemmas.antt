@@ -4,7 +4,7 @@ use Rattle.std.specs.List.{filter_map, last_or, cons_option}
 use Rattle.std.proofs.lemmas.Bool.{eqb-false, eqb-true}
 use Rattle.std.proofs.lemmas.List.{append-nil}
 use Rattle.buffa_wire.specs.Records.{FieldData}
-use Rattle.buffa_codec.specs.Sub.{sub, without, tagged}
+use Rattle.buffa_codec.specs.RecordsOfNumber.{sub, without, tagged}
 use Rattle.std.proofs.lemmas.List.Elements.{filter-append}
 use Rattle.buffa_codec.proofs.FilteredLemmas.{sub-append, sub-set, sub-set_other, sub-cons, sub-without_same, sub-without_other, sub-tagged_same, sub-tagged_other, without-tagged, without-without}
 use Rattle.buffa_ext.specs.Steps.{NumberStep, set, clear, after_one, after, step_says, history, IsExactlySet, KeepsTheRest, ReadsHistory, ComesLast, TakesOut}

@@ -5,7 +5,7 @@ use Rattle.std.proofs.lemmas.List.{map-append}
 use Rattle.buffa_wire.specs.BudgetLeft.{BudgetLeft, defaults}
 use Rattle.buffa_wire.specs.Records.{FieldData, varint, fixed32, fixed64, bytes, group}
 use Rattle.buffa_codec.specs.Decoded.{ReadsAll, ReadsList, elements, last_read, packed_record}
-use Rattle.buffa_ext_laws.specs.Through.{ListsThrough, ReadsThrough}
+use Rattle.buffa_ext_laws.specs.MappedReadings.{ListsThrough, ReadsThrough}
 use Rattle.buffa_wire.specs.Encoding.{encodings}
 
 pub option_twice : {A B C : Type 0} (g : A → B) (f : B → C) (o : Option A) → option_map (λ x. f (g x)) o ≡ option_map f (option_map g o)

@@ -5,4 +5,4 @@ pub mod PackedGrammar
 pub mod PinnedCodecs
 pub mod PinnedExtensions
 pub mod PinnedItems
-pub mod Through
+pub mod MappedReadings

@@ -3,7 +3,7 @@ use Rattle.std.specs.Prelude.{◌≡◌, ℕ, ℤ, Bool, Option, option_map}
 use Rattle.buffa_bytes.specs.Scalars.{int32_of}
 use Rattle.buffa_wire.specs.BudgetLeft.{BudgetLeft}
 use Rattle.buffa_wire.specs.Enums.{open_number}
-use Rattle.buffa_wire.specs.Found.{varint_in}
+use Rattle.buffa_wire.specs.NumberInRecord.{varint_in}
 use Rattle.buffa_wire.specs.Records.{FieldData}
 
 -- at any depth and of any budget a record is read as it holds, and a value is written as what holds it

@@ -20,8 +20,8 @@ ghost use Rattle.buffa_codec.specs.Decoded.{ReadsAll, ReadsList, Refuses, UsesVe
 ghost use Rattle.buffa_codec.specs.Decoded.{LaterReadingsWin, LeavesIn, ReadAlike, ReadingsJoin, SpendsIn, one_in, packed_record, string_held};
 ghost use Rattle.buffa_codec.specs.Strict.{AreElements, IsFaultOrFull, bytes_fault, number_list_fault, packed_fault};
 ghost use Rattle.buffa_codec.specs.Strict.{string_fault, unless_found};
-ghost use Rattle.buffa_codec.specs.Sub.{sub, tagged, without};
-ghost use Rattle.buffa_ext_laws.specs.Through.{ListsThrough, ReadsThrough, WritesThrough};
+ghost use Rattle.buffa_codec.specs.RecordsOfNumber.{sub, tagged, without};
+ghost use Rattle.buffa_ext_laws.specs.MappedReadings.{ListsThrough, ReadsThrough, WritesThrough};
 
 use buffa_codec::codec::{ExtensionCodec, PackableCodec, SingularCodec};
 use buffa_codec::last::LastWins;

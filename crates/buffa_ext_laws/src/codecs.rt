@@ -18,7 +18,7 @@ ghost use Rattle.buffa_wire.specs.BudgetLeft.{BudgetLeft, defaults, nothing};
 ghost use Rattle.buffa_ext_laws.specs.PinnedCodecs.{BeginsAlike, EncodingIsPinned, HasAnswer, LeavesOne, OneAnswer, OneList};
 ghost use Rattle.buffa_ext_laws.specs.PinnedCodecs.{RefusalIsPinned, UnpackingIsPinned};
 ghost use Rattle.buffa_wire.specs.Enums.{open_number};
-ghost use Rattle.buffa_wire.specs.Found.{fixed32_in, fixed64_in, varint_in};
+ghost use Rattle.buffa_wire.specs.NumberInRecord.{fixed32_in, fixed64_in, varint_in};
 ghost use Rattle.buffa_wire.specs.Records.{FieldData, bytes as held_bytes};
 ghost use Rattle.buffa_ext_laws.specs.Costs.{StaysWithin};
 ghost use Rattle.buffa_codec.specs.Packed.{numbers_in};
@@ -31,7 +31,7 @@ ghost use Rattle.buffa_codec.specs.Decoded.{bytes_held, elements};
 ghost use Rattle.buffa_codec.specs.Decoded.{CoversAll, ReadsList, first_refusal, packed_record, string_held};
 ghost use Rattle.buffa_bytes.specs.declared.wire_type.WireType.{WireType};
 ghost use Rattle.buffa_ext_laws.specs.PackedGrammar.{ArePacked};
-ghost use Rattle.buffa_ext_laws.specs.Through.{ListsThrough, ReadsThrough, WritesThrough};
+ghost use Rattle.buffa_ext_laws.specs.MappedReadings.{ListsThrough, ReadsThrough, WritesThrough};
 
 pub use crate::codec_words::{
     additions_are_these, bytes_of_a_record_are_these, costs_are_these, elements_are_these,

@@ -17,7 +17,7 @@ ghost use Rattle.buffa_wire.specs.Parse.{Fits};
 ghost use Rattle.buffa_wire.specs.Records.{FieldData, bytes as held_bytes, records_of};
 ghost use Rattle.buffa_ext_laws.specs.PinnedCodecs.{OneAnswer};
 ghost use Rattle.buffa_codec.specs.Decoded.{HasByte, bytes_held};
-ghost use Rattle.buffa_codec.specs.Sub.{sub};
+ghost use Rattle.buffa_codec.specs.RecordsOfNumber.{sub};
 ghost use Rattle.buffa_ext.specs.Steps.{SameIsOneStep};
 ghost use Rattle.buffa_ext.specs.Messages.{BeginsFieldIn, LeavesOf, MergesRecords, cost_all, group_held, group_of};
 ghost use Rattle.buffa_ext.specs.Messages.{group_refusal, merged_all, message_of, encoding_refusal, encodings_in};

@@ -17,7 +17,7 @@ use Rattle.buffa_bytes.specs.Readings.{check_wire, skip_at, varint_at, FullOnlyI
 use Rattle.buffa_bytes.specs.Values.{int32_at, int32_of}
 use Rattle.buffa_wire.specs.BudgetLeft.{BudgetLeft, Lacks, Pays, PaysAtMost, unknown_fields}
 use Rattle.buffa_wire.specs.Enums.{Numbers}
-use Rattle.buffa_wire.specs.Kept.{keep_charge}
+use Rattle.buffa_wire.specs.KeptField.{keep_charge}
 use Rattle.buffa_wire.specs.Records.{varint}
 use Rattle.buffa_wire.specs.Takes.{IsTaken}
 use Rattle.buffa_fields.specs.Unknowns.{Kept}

@@ -15,7 +15,7 @@ use Rattle.buffa_fields.specs.MemberParts.{part_with_unknowns, member_part}
 use Rattle.buffa_fields.specs.Members.{part}
 use Rattle.buffa_fields.specs.facts.OneOfFacts.{one_of_laws}
 use Rattle.buffa_fields.specs.OneOfParts.{OneOf, one_of_part}
-use Rattle.buffa_fields.specs.Parts.{Part, PartLaws}
+use Rattle.buffa_fields.specs.MessageParts.{Part, PartLaws}
 use denote.Ref.{Bor}
 
 -- A part of a value P, with its laws. keeps: whether a field of it may give records to those that the message keeps.

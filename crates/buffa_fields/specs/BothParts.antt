@@ -4,7 +4,7 @@ use Rattle.std.specs.Prelude.{◌≡◌, ℕ, Bool, true, false, ◌||◌, [], �
 use Rattle.std.specs.Option.{option_map}
 use Rattle.buffa_fields.specs.Unknowns.{Kept}
 use Rattle.buffa_fields.specs.Schema.{Choice}
-use Rattle.buffa_fields.specs.Parts.{Part, part_charge}
+use Rattle.buffa_fields.specs.MessageParts.{Part, part_charge}
 use Rattle.buffa_wire.specs.Takes.{Taker}
 
 -- what the second part means is among the others of the first

@@ -5,7 +5,7 @@ pub mod UndeclaredFields
 pub mod TaggedField
 pub mod Schema
 pub mod Unknowns
-pub mod Parts
+pub mod MessageParts
 pub mod MemberParts
 pub mod Members
 pub mod BothParts

@@ -6,7 +6,7 @@ use Rattle.buffa_bytes.specs.Number.{IsNumber}
 use Rattle.buffa_fields.specs.Unknowns.{AllUnknowns, Unknowns, ReadsBackWithUnknowns, TookWithUnknowns, unknowns_levels, kept_among}
 use Rattle.buffa_fields.specs.UndeclaredFields.{AllNumbers}
 use Rattle.buffa_fields.specs.Schema.{ReadsBackTo, Shape, Took, is_number, visited}
-use Rattle.buffa_fields.specs.Parts.{Part}
+use Rattle.buffa_fields.specs.MessageParts.{Part}
 
 module _ {M P A : Type 0} (k : ℕ) (get : M → P) (s : Shape P A) where
   -- a member

@@ -4,7 +4,7 @@ use Rattle.std.proofs.Common.{sym, ap, ◌∙◌, arith, append_assoc, append-ni
 use Rattle.buffa_wire.specs.Parse.{AreValid}
 use Rattle.buffa_wire.specs.ReadableFacts.{valid_joined}
 use Rattle.buffa_wire.specs.Records.{FieldData, height, records_of}
-use Rattle.buffa_wire.specs.Kept.{keep_charge}
+use Rattle.buffa_wire.specs.KeptField.{keep_charge}
 use Rattle.buffa_wire.proofs.KeepLemmas.{keep_stays}
 use Rattle.buffa_wire.specs.Takes.{Taker, costs_nothing}
 use Rattle.buffa_fields.specs.Unknowns.{Unknowns}
@@ -18,7 +18,7 @@ use Rattle.buffa_fields.specs.facts.MemberPartFacts.{laws_with_unknowns, member_
 use Rattle.buffa_fields.specs.MemberParts.{part_with_unknowns, member_part}
 use Rattle.buffa_fields.specs.facts.PairFacts.{either_stays, readable_both}
 use Rattle.buffa_fields.specs.facts.PartFacts.{mine_front, mine_kept, part_again, part_differs_only_at, part_asks, part_back, part_is_taken}
-use Rattle.buffa_fields.specs.Parts.{Part, PartLaws, part_charge, part_take}
+use Rattle.buffa_fields.specs.MessageParts.{Part, PartLaws, part_charge, part_take}
 
 -- a part, and the others
 abbrev pub part : {M A B : Type 0} (p : Part M A) → PartLaws p → Schema M B → Schema M (A × B)

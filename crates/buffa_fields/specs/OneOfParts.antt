@@ -6,7 +6,7 @@ use Rattle.buffa_fields.specs.Cases.{Cases, CasesLaws, CaseWords, or_cases, if_t
 use Rattle.buffa_fields.specs.facts.CasesFacts.{or_laws, none_laws, single_laws}
 use Rattle.buffa_fields.specs.UndeclaredFields.{AllNumbers}
 use Rattle.buffa_fields.specs.Schema.{Seen, Shape}
-use Rattle.buffa_fields.specs.Parts.{Part}
+use Rattle.buffa_fields.specs.MessageParts.{Part}
 use Rattle.buffa_fields.specs.Values.{IfThere}
 use Rattle.buffa_fields.specs.declared.meaning.Or.{Or}
 

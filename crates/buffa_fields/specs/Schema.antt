@@ -19,7 +19,7 @@ use Rattle.buffa_wire.specs.Passes.{IsNext, IsSized, IsWritten}
 use Rattle.buffa_wire.specs.RecordReading.{field_at}
 use Rattle.buffa_wire.specs.Records.{FieldData, height, records_of}
 use Rattle.buffa_wire.specs.Encoding.{records_encoding, wire_of}
-use Rattle.buffa_wire.specs.Kept.{keep_charge}
+use Rattle.buffa_wire.specs.KeptField.{keep_charge}
 use Rattle.buffa_fields.specs.UndeclaredFields.{AllNumbers, KeepTakesMemory, keep_takes}
 use Rattle.buffa_fields.specs.Levels.{IsTakenWritten}
 use Rattle.buffa_wire.specs.Takes.{Asks, IsTaken, Charge, ReadsBack, Stays, Taker}

@@ -6,7 +6,7 @@ use Rattle.buffa_bytes.specs.declared.error.DecodeError.{DecodeError}
 use Rattle.buffa_wire.specs.Parse.{TakesField}
 use Rattle.buffa_wire.specs.RecordReading.{RecordTakesMemory, field_at}
 use Rattle.buffa_wire.specs.Records.{FieldData}
-use Rattle.buffa_wire.specs.Kept.{kept_record_at}
+use Rattle.buffa_wire.specs.KeptField.{kept_record_at}
 use Rattle.buffa_wire.specs.Takes.{Asks, Taker}
 
 abbrev pub record_in : Result (FieldData × ℕ × List ℕ) DecodeError → Option FieldData

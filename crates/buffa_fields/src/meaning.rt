@@ -133,7 +133,7 @@ pub struct Unknowns {
 impl Model for Unknowns {
     ghost use Rattle.std.specs.Prelude.{ℕ, List};
     ghost use Rattle.std.specs.Coded.{coded_list, coded_ℕ, coded×};
-    ghost use Rattle.buffa_wire.specs.Code.{coded_field_data};
+    ghost use Rattle.buffa_wire.specs.StoredRecords.{coded_field_data};
     ghost use Rattle.buffa_wire.specs.Records.{FieldData};
 
     ghost Value = { List (ℕ × FieldData) };

@@ -7,7 +7,7 @@ ghost use Rattle.buffa_fields.specs.facts.SchemaFacts.{comes_free};
 ghost use Rattle.buffa_recursive.specs.Layers.{IsNormalRecursive};
 ghost use Rattle.buffa_recursive.specs.Fixpoint.{semantics, message_schema};
 ghost use Rattle.buffa_recursive.specs.InnerMessages.{AreExactBy, encoding_by};
-ghost use Rattle.buffa_recursive.specs.Asking.{each_asked};
+ghost use Rattle.buffa_recursive.specs.ConditionsInside.{each_asked};
 ghost use Rattle.buffa_recursive.specs.MessageTree.{MessageTree};
 ghost use Rattle.buffa_fields_laws.specs.MessagesInside.{IsIn};
 

@@ -5,7 +5,7 @@ use Rattle.buffa_wire.specs.BudgetLeft.{BudgetLeft, nothing, units}
 use Rattle.buffa_map.specs.Entry.{EntryFault}
 use Rattle.buffa_map.specs.EntryReading.{inner_charge, charge_of}
 use Rattle.buffa_map.specs.Merge.{RefusesEntry, Rules, State, unknown_cost}
-use Rattle.buffa_map_laws.specs.Plain.{MergesExactly, PlainFault, SpendsExactly}
+use Rattle.buffa_map_laws.specs.EntriesOfScalars.{MergesExactly, PlainFault, SpendsExactly}
 
 exact : (a b cost n : ℕ) → (b ≡ a) ⊎ ((b + cost ≤ a) × (a ≤ b + (cost + n))) → n ≡ 0 → b + cost ≤ a → b + cost ≡ a
 exact a b cost n (inl h) z l = omega (arith, h, l)

@@ -2,7 +2,7 @@
 pub mod Laws
 pub mod Pinned
 pub mod PinnedEncodings
-pub mod Plain
+pub mod EntriesOfScalars
 pub mod CodecWords
 pub mod EntryWords
 pub mod FieldWords

@@ -7,7 +7,7 @@ ghost use Rattle.buffa_map.specs.Message.{message_reading};
 ghost use Rattle.buffa_map_laws.specs.Laws.{EntriesAreRead, ChargesUnits, OneReading, RewriteMeans};
 ghost use Rattle.buffa_map_laws.specs.Laws.{RunsAreRead, RunsJoin, ValuesAreRead, WalksAgree, WrittenIsRead};
 ghost use Rattle.buffa_map_laws.specs.Laws.{MessagesAreRead, NewerTakes};
-ghost use Rattle.buffa_map_laws.specs.Plain.{EntriesAreExact};
+ghost use Rattle.buffa_map_laws.specs.EntriesOfScalars.{EntriesAreExact};
 
 use buffa_map::map_codec::{MapCodec, MapStorage, MapValueDecode};
 use buffa_wire::MessageSpec;

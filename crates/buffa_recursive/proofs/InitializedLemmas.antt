@@ -5,7 +5,7 @@ use Rattle.std.specs.List.{AllByRecursion, Contains, list_all}
 use Rattle.std.specs.Map.{values_of}
 use Rattle.std.proofs.lemmas.List.Folds.{list_all_at}
 use Rattle.buffa_map.specs.Pairs.{means}
-use Rattle.buffa_recursive.specs.Asking.{AskingOf}
+use Rattle.buffa_recursive.specs.ConditionsInside.{AskingOf}
 use Rattle.buffa_recursive.specs.RecursiveSchema.{RecursiveSchema}
 use Rattle.buffa_recursive.specs.facts.InitializedFacts.{pairs_by_meaning}
 

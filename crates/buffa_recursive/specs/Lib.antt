@@ -15,6 +15,6 @@ pub mod MapShape
 pub mod MapTree
 pub mod Model
 pub mod Initialized
-pub mod Asking
+pub mod ConditionsInside
 pub mod Terms
 pub mod facts

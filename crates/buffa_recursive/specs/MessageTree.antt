@@ -3,7 +3,7 @@
 use Rattle.std.specs.Prelude.{◌≡◌, ℕ, zero, suc, ◌+◌, ◌≤◌, ◌<◌, max, List, [], ◌∷◌, length, Option, Some, None, refl}
 use Rattle.std.proofs.Common.{ap, arith, get_or}
 use Rattle.std.specs.Coded.{Coded}
-use Rattle.buffa_wire.specs.Code.{stored_head, stored_tail}
+use Rattle.buffa_wire.specs.StoredRecords.{stored_head, stored_tail}
 use denote.Param.Weighed.{most}
 use base.Stored.{Gv, gnil, gnum, gcons}
 

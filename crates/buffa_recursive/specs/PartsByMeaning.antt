@@ -10,7 +10,7 @@ use Rattle.buffa_fields.specs.facts.MemberPartFacts.{laws_with_unknowns, member_
 use Rattle.buffa_fields.specs.MemberParts.{part_with_unknowns, member_part}
 use Rattle.buffa_fields.specs.facts.OneOfFacts.{one_of_laws}
 use Rattle.buffa_fields.specs.OneOfParts.{OneOf, one_of_part}
-use Rattle.buffa_fields.specs.Parts.{Part, PartLaws}
+use Rattle.buffa_fields.specs.MessageParts.{Part, PartLaws}
 use Rattle.buffa_recursive.specs.InnerMessages.{shape_by_meaning}
 
 pub record PartBy (A : Type 0) : Type 1 where

@@ -4,5 +4,5 @@ pub use Rattle.buffa_recursive.specs.MemberList.{keeps_unknown, recursive_messag
 pub use Rattle.buffa_recursive.specs.MapTree.{most-of_map}
 pub use Rattle.buffa_recursive.specs.Model.{has, has_case, has_unknown_fields, has_list, has_map, has_none, has_one, MeaningOf, CaseMeaningOf}
 pub use Rattle.buffa_recursive.specs.Initialized.{true_if_there}
-pub use Rattle.buffa_recursive.specs.Asking.{each_asked}
+pub use Rattle.buffa_recursive.specs.ConditionsInside.{each_asked}
 pub use Rattle.buffa_fields.specs.Cases.{by_case}

@@ -3,7 +3,7 @@
 ghost use Rattle.std.specs.Prelude.{◌≡◌, ◌<◌, ℕ};
 ghost use Rattle.std.specs.Option.{option_map};
 ghost use Rattle.buffa_map.specs.Pairs.{means};
-ghost use Rattle.buffa_recursive.specs.Asking.{AskingOf};
+ghost use Rattle.buffa_recursive.specs.ConditionsInside.{AskingOf};
 ghost use Rattle.buffa_recursive.specs.RecursiveSchema.{RecursiveSchema};
 
 use buffa_wire::Blank;

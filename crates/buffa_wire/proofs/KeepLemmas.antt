@@ -16,7 +16,7 @@ use Rattle.buffa_wire.proofs.LoopLemmas.{field_is_read, field_refused, field_tak
 use Rattle.buffa_wire.proofs.MessageLemmas.{NoLimit, no_limit}
 use Rattle.buffa_bytes.proofs.SequenceLemmas.{ok_same}
 use Rattle.buffa_wire.specs.BudgetLeft.{unknown_fields, IsLimit}
-use Rattle.buffa_wire.specs.Kept.{had_enough, keep_charge, kept_record_at, least, more_left}
+use Rattle.buffa_wire.specs.KeptField.{had_enough, keep_charge, kept_record_at, least, more_left}
 use Rattle.buffa_wire.specs.Parse.{FieldFault, FieldFaultOf, GroupRecordsFault, InsideFault, IsPayload, NextFault, Parse, RecordsFault, TakesRecords, field_count, fields_inside}
 use Rattle.buffa_wire.specs.RecordReading.{field_at}
 use Rattle.buffa_wire.specs.Records.{FieldData, Records, bytes, fixed32, fixed64, group, no_records, one, varint}

@@ -6,7 +6,7 @@ use Rattle.std.proofs.lemmas.Bool.{false_from_ne_true}
 use Rattle.std.proofs.lemmas.List.{take_all}
 use Rattle.buffa_wire.specs.Records.{FieldData, Records, one, no_records, records_of, list_of, Held}
 use Rattle.buffa_wire.specs.Equal.{held_eq, records_eq-Decides, field_eq, field_eq-Decides}
-use Rattle.buffa_wire.specs.View.{CalledAtRecord, record_of, records_in}
+use Rattle.buffa_wire.specs.RecordsOfValues.{CalledAtRecord, record_of, records_in}
 use Rattle.buffa_wire.specs.declared.unknown_fields.UnknownField.{UnknownField}
 
 pub list-records : (rs : List (ℕ × FieldData)) → list_of (records_of rs) ≡ rs

@@ -3,7 +3,7 @@ use Rattle.std.specs.Prelude.{◌≡◌, ℕ, ◌≤◌, max, List, [], ◌∷�
 use Rattle.std.proofs.Common.{arith, ap}
 use denote.Param.Weighed.{most}
 use Rattle.buffa_wire.specs.Records.{FieldData, records_of, height, records_height, field_data_height}
-use Rattle.buffa_wire.specs.View.{field_data_of, records_in}
+use Rattle.buffa_wire.specs.RecordsOfValues.{field_data_of, records_in}
 use Rattle.buffa_wire.specs.declared.unknown_fields.UnknownField.{UnknownField}
 use Rattle.buffa_wire.specs.declared.unknown_fields.UnknownFieldData.{UnknownFieldData}
 use Rattle.buffa_wire.specs.declared.unknown_fields.UnknownFieldData.TheVariants.{Varint, Fixed32, Fixed64, LengthDelimited, Group}

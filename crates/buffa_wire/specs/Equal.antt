@@ -7,7 +7,7 @@ use Rattle.std.proofs.lemmas.Slice.Eq.{bytes_eq-Decides}
 use Rattle.std.proofs.lemmas.Bool.Decides.{Decides-eqb}
 use Rattle.std.specs.Cmp.{IsEquivalence, nat_eq_equiv, decided, on_equiv, and_equiv, first_so, second_so}
 use Rattle.std.proofs.lemmas.Bool.{and_from, false≢true}
-use Rattle.buffa_wire.specs.View.{field_data_of, record_of}
+use Rattle.buffa_wire.specs.RecordsOfValues.{field_data_of, record_of}
 use Rattle.buffa_wire.specs.declared.unknown_fields.UnknownField.{UnknownField}
 use Rattle.buffa_wire.specs.Records.{FieldData, varint, fixed32, fixed64, bytes, group, Records, no_records, one, records_of, Held}
 

@@ -3,8 +3,8 @@
 ghost use Rattle.std.specs.Prelude.{◌≡◌, ◌<◌, ◌^◌, ℕ, List, IfOk, IfSome, None, OnErr, Option, Some, length};
 ghost use Rattle.std.specs.Prelude.{refl};
 ghost use Rattle.buffa_wire.specs.Records.{FieldData, bytes, fixed32, fixed64, varint};
-ghost use Rattle.buffa_wire.specs.View.{field_data_of};
-ghost use Rattle.buffa_wire.specs.Found.{fixed32_in, fixed32_only, fixed64_in, fixed64_only, varint_in, varint_only};
+ghost use Rattle.buffa_wire.specs.RecordsOfValues.{field_data_of};
+ghost use Rattle.buffa_wire.specs.NumberInRecord.{fixed32_in, fixed32_only, fixed64_in, fixed64_only, varint_in, varint_only};
 ghost use Rattle.buffa_bytes.specs.declared.wire_type.WireType.{WireType};
 ghost use Rattle.buffa_bytes.specs.PayloadValue.{HasPayloadValue, payload_value_at};
 ghost use Rattle.buffa_bytes.specs.PayloadValue.PayloadValue.{number};

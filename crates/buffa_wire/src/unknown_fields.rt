@@ -63,13 +63,13 @@ pub struct UnknownFields {
 
 impl Model for UnknownFields {
     ghost use Rattle.buffa_wire.specs.Records.{Held, height};
-    ghost use Rattle.buffa_wire.specs.Code.{coded_held};
+    ghost use Rattle.buffa_wire.specs.StoredRecords.{coded_held};
 
     ghost Value = { Held };
 
     ghost coded = { coded_held };
 
-    ghost use Rattle.buffa_wire.specs.View.{held};
+    ghost use Rattle.buffa_wire.specs.RecordsOfValues.{held};
 
     ghost view = { held };
 

@@ -21,7 +21,7 @@ ghost use Rattle.buffa_bytes.specs.Written.{UsesRoom, Writes};
 ghost use Rattle.buffa_wire.specs.BudgetLeft.{BudgetLeft, Covers, Lacks, Pays, PaysAtMost, UnknownTaken, UnknownsSpent, IsLimit};
 ghost use Rattle.buffa_wire.specs.BudgetLeft.{budget_left, defaults, minus, charge_by, nothing, plus, units, unknown_fields};
 ghost use Rattle.buffa_wire.specs.Cache.{Cache, advanced, appended};
-ghost use Rattle.buffa_wire.specs.Kept.{more_left};
+ghost use Rattle.buffa_wire.specs.KeptField.{more_left};
 ghost use Rattle.buffa_wire.specs.Message.{BeginsField, IsFieldMerged, IsJudged, IsMerged, IsMergedAlone, MergeFault};
 ghost use Rattle.buffa_wire.specs.Message.{MergesBytes, MergesField, MergesInside, Unchanged};
 ghost use Rattle.buffa_wire.specs.Message.{IsInside, MessageFault, PartlyMerged, PartlyMergedInside, cost_in, cost_of_payload, merged_in};

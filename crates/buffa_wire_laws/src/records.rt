@@ -14,14 +14,14 @@ ghost use Rattle.buffa_wire.specs.declared.context.DecodeContext.{DecodeContext}
 ghost use Rattle.buffa_bytes.specs.Join.{Join};
 ghost use Rattle.buffa_bytes.specs.Varint.{IsByte};
 ghost use Rattle.buffa_wire.specs.Records.{FieldData, Held, height, records_of};
-ghost use Rattle.buffa_wire.specs.View.{field_data_of, record_of};
+ghost use Rattle.buffa_wire.specs.RecordsOfValues.{field_data_of, record_of};
 ghost use Rattle.buffa_wire.specs.Encoding.{records_encoding};
 ghost use Rattle.buffa_wire.specs.Parse.{AreValid, FieldFault, Fits, InRange, Parse, RecordsFault, TakesField, field_count};
 ghost use Rattle.buffa_wire.specs.RecordReading.{field_at, list_at};
 ghost use Rattle.buffa_wire.specs.BudgetLeft.{BudgetLeft, nothing, plus};
 ghost use Rattle.buffa_wire.specs.Cache.{Cache, advanced, appended};
 ghost use Rattle.buffa_wire.specs.Enums.{open_number};
-ghost use Rattle.buffa_wire.specs.Kept.{keep_charge, more_left};
+ghost use Rattle.buffa_wire.specs.KeptField.{keep_charge, more_left};
 ghost use Rattle.buffa_wire.specs.Passes.{IsNext};
 ghost use Rattle.buffa_wire.specs.Pinned.{BudgetIsPinned, FieldIsPinned, FieldMergeIsPinned, InsideIsPinned, MergeIsPinned, PassesArePinned, RecordsArePinned};
 

@@ -12,7 +12,7 @@ ghost use Rattle.buffa_bytes.specs.declared.wire_type.WireType.TheVariants as wi
 ghost use Rattle.buffa_bytes.specs.Pinned.{IsCopied, Means};
 ghost use Rattle.buffa_wire.specs.declared.reals.DoubleBits.{DoubleBits};
 ghost use Rattle.buffa_wire.specs.declared.reals.FloatBits.{FloatBits};
-ghost use Rattle.buffa_wire.specs.Found.{fixed32_in, fixed64_in, varint_in};
+ghost use Rattle.buffa_wire.specs.NumberInRecord.{fixed32_in, fixed64_in, varint_in};
 ghost use Rattle.buffa_wire.specs.Pinned.{IsRecordedAs, IsSpelled, SpellsBelow};
 ghost use Rattle.buffa_wire.specs.Records.{FieldData, fixed32, fixed64, varint};
 

@@ -30,12 +30,12 @@ ghost use Rattle.buffa_bytes.specs.Varint.{varint_encoding};
 ghost use Rattle.buffa_bytes.specs.Number.{IsNumber, wire_number};
 ghost use Rattle.buffa_wire.specs.Encoding.{encodings, payload_encoding, records_encoding, tagged_encoding, wire_of};
 ghost use Rattle.buffa_wire.specs.Enums.{DeclaresBlank, Numbers, Refines, numbers, open_number};
-ghost use Rattle.buffa_wire.specs.Found.{fixed32_in, fixed64_in, varint_in};
+ghost use Rattle.buffa_wire.specs.NumberInRecord.{fixed32_in, fixed64_in, varint_in};
 ghost use Rattle.buffa_wire.specs.Parse.{AreValid, Fits, InRange, field_count, fields_inside};
 ghost use Rattle.buffa_wire.specs.Records as field_data;
 ghost use Rattle.buffa_wire.specs.Records.{FieldData, Held, IsEmpty, IsNumeric, Records, field_data_height, height, records_height};
 ghost use Rattle.buffa_wire.specs.Records.{records_of};
-ghost use Rattle.buffa_wire.specs.View.{AnswersRecords, CalledAtRecord, field_data_of, held, record_of, records_in};
+ghost use Rattle.buffa_wire.specs.RecordsOfValues.{AnswersRecords, CalledAtRecord, field_data_of, held, record_of, records_in};
 ghost use Rattle.buffa_wire.specs.declared.unknown_fields.UnknownFieldData.TheVariants as payload;
 ghost use Rattle.buffa_wire.specs.declared.unknown_fields.UnknownFields.TheInside.{Inside};
 

@@ -28,7 +28,7 @@ use Rattle.buffamap.specs.Read.{RepliesToBytes, RepliesToRead, RepliesToRun, run
 use Rattle.buffamap.specs.Reply.{Reply, bad_input, success, fault, hex_line}
 use Rattle.buffamap.specs.Rewrite.{Entry, IsRewritten, IsRewrittenOf, RepliesToRewrite, choice_reading, ChoicePair, choice_run}
 use Rattle.buffamap.specs.Write.{RepliesToMap, RepliesToWrite, field_reply}
-use Rattle.buffa_codec.specs.Sub.{sub}
+use Rattle.buffa_codec.specs.RecordsOfNumber.{sub}
 use Rattle.buffamap.proofs.FitLemmas.{pairs_fit, run_fits}
 use Rattle.buffamap.proofs.OrderedLemmas.{same_test}
 use Rattle.buffamap.proofs.OrderLemmas.{ordered, ordered_holds, ordered_once, ordered_sorted}

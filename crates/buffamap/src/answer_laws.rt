@@ -19,7 +19,7 @@ ghost use Rattle.buffa_bytes.specs.declared.error.DecodeError.TheVariants.{OutOf
 ghost use Rattle.buffa_bytes.specs.declared.wire_type.WireType.TheVariants.{Varint};
 ghost use Rattle.buffa_codec.specs.Decoded.{elements, last_read, string_held};
 ghost use Rattle.buffa_codec.specs.Packed.{numbers_in};
-ghost use Rattle.buffa_codec.specs.Sub.{sub};
+ghost use Rattle.buffa_codec.specs.RecordsOfNumber.{sub};
 ghost use Rattle.buffa_map.specs.Encoding.{HasEncoding, entry_encoding, field_encoding};
 ghost use Rattle.buffa_map.specs.Enums.{ClosedFits, closed_reading, closed_writing};
 ghost use Rattle.buffa_map.specs.Pairs.{ListsOnce};
@@ -29,7 +29,7 @@ ghost use Rattle.buffa_map.specs.RunReading.{run_of};
 ghost use Rattle.buffa_map.specs.Scalars.{int32_reading, int32_writing, text_reading, text_writing};
 ghost use Rattle.buffa_message_set.specs.Item.{item_in};
 ghost use Rattle.buffa_wire.specs.BudgetLeft.{BudgetLeft, Lacks, defaults};
-ghost use Rattle.buffa_wire.specs.Found.{varint_in};
+ghost use Rattle.buffa_wire.specs.NumberInRecord.{varint_in};
 ghost use Rattle.buffa_wire.specs.Message.{MergeFault};
 ghost use Rattle.buffa_wire.specs.RecordReading.{list_at};
 ghost use Rattle.buffa_wire.specs.Records.{FieldData};

@@ -1,6 +1,6 @@
 // `ext N`: what extensions of number N read in a message.
 ghost use Rattle.std.specs.Prelude.{◌≡◌, ◌++◌, IfErr, IfOk, OnOk, codes, refl};
-ghost use Rattle.buffa_codec.specs.Sub.{sub};
+ghost use Rattle.buffa_codec.specs.RecordsOfNumber.{sub};
 ghost use Rattle.buffamap.specs.Ext.{IsShown, RepliesToExt, ext_text, has_line, int32_line, int32_of_last};
 ghost use Rattle.buffamap.specs.Ext.{int32s_of_each, ints_line, records_from, string_line, string_of_last, words_of};
 ghost use Rattle.buffamap.specs.Fault.{TellsReply};

@@ -6,7 +6,7 @@ use Rattle.buffa_wire.specs.BudgetLeft.{BudgetLeft, Pays}
 use Rattle.buffa_bytes.specs.Number.{IsNumber}
 use Rattle.buffa_wire.specs.Parse.{FitsFieldData, IsValidFieldData}
 use Rattle.buffa_wire.specs.Records.{FieldData, field_data_height}
-use Rattle.buffa_wire.specs.View.{field_data_of, records_in}
+use Rattle.buffa_wire.specs.RecordsOfValues.{field_data_of, records_in}
 use Rattle.buffa_wire.specs.declared.unknown_fields.UnknownField.{UnknownField}
 use Rattle.buffa_codec.specs.Decoded.{CoversAll}
 use Rattle.buffa_codec.specs.CodecFacts.{left_over}

@@ -3,7 +3,7 @@
 ghost use Rattle.std.specs.Prelude.{◌≡◌, map, IfOk, IsTrue, OnOk};
 ghost use Rattle.std.specs.List.{AllByRecursion};
 ghost use Rattle.buffa_wire.specs.BudgetLeft.{Pays, defaults};
-ghost use Rattle.buffa_wire.specs.View.{field_data_of};
+ghost use Rattle.buffa_wire.specs.RecordsOfValues.{field_data_of};
 ghost use Rattle.buffa_codec.specs.Decoded.{CoversAll};
 ghost use Rattle.conformance_extensions.specs.Normal.{IsNormal};
 

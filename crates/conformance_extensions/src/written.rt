@@ -4,7 +4,7 @@ ghost use Rattle.std.specs.Prelude.{◌≤◌, IsTrue};
 ghost use Rattle.buffa_bytes.specs.Number.{IsNumber};
 ghost use Rattle.buffa_wire.specs.Parse.{FitsFieldData, IsValidFieldData};
 ghost use Rattle.buffa_wire.specs.Records.{field_data_height};
-ghost use Rattle.buffa_wire.specs.View.{field_data_of};
+ghost use Rattle.buffa_wire.specs.RecordsOfValues.{field_data_of};
 ghost use Rattle.conformance_extensions.specs.Normal.{AreWritten};
 
 use buffa_wire::{MAX_FIELD_NUMBER, UnknownFieldData, UnknownFields};

@@ -12,7 +12,7 @@ use Rattle.buffa_map.specs.Codec.{Reading}
 use Rattle.buffa_map.specs.Enums.{closed_reading}
 use Rattle.buffa_map.specs.Message.{message_reading}
 use Rattle.buffa_map.specs.Scalars.{int32_reading, text_reading}
-use Rattle.buffa_wire.specs.Kept.{keep_charge}
+use Rattle.buffa_wire.specs.KeptField.{keep_charge}
 use Rattle.buffa_fields.specs.UndeclaredFields.{keep_takes}
 use Rattle.buffa_wire.specs.Takes.{Charge, Taker, cost_of, merged_of}
 use Rattle.buffa_fields.specs.ClosedEnumMaps.{kept_pair_cost, kept_pair_taken}

@@ -21,7 +21,7 @@ ghost use Rattle.buffa_wire.specs.BudgetLeft.{BudgetLeft, Pays, nothing};
 ghost use Rattle.buffa_wire.specs.Cache.{Cache};
 ghost use Rattle.buffa_wire.specs.Encoding.{records_encoding};
 ghost use Rattle.buffa_wire.specs.Enums.{numbers};
-ghost use Rattle.buffa_wire.specs.Kept.{keep_charge};
+ghost use Rattle.buffa_wire.specs.KeptField.{keep_charge};
 ghost use Rattle.buffa_wire.specs.Message.{IsFieldMerged, PartlyMerged};
 ghost use Rattle.buffa_wire.specs.Parse.{AreValid, Fits};
 ghost use Rattle.buffa_wire.specs.Passes.{IsWritten, cap};

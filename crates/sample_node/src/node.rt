@@ -54,7 +54,7 @@ impl Model for Node {
     ghost use Rattle.std.specs.Prelude.{string_bytes};
     ghost use Rattle.std.specs.Coded.{coded_list, coded_ℕ, coded_ℤ, coded×};
     ghost use Rattle.std.proofs.Common.{arith};
-    ghost use Rattle.buffa_wire.specs.Code.{coded_field_data};
+    ghost use Rattle.buffa_wire.specs.StoredRecords.{coded_field_data};
     ghost use Rattle.buffa_map.specs.Pairs.{means};
     ghost use Rattle.buffa_recursive.specs.MessageTree.{coded_tree, tree_height};
     ghost use Rattle.buffa_recursive.specs.MapTree.{most-of_map};

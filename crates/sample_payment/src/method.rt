@@ -18,7 +18,7 @@ use std::string::String;
 ///     int32 cash = 3;
 ///     Transfer transfer = 4;
 /// }
-#[derive(Debug, Drop, PartialEq, Eq)]
+#[derive(Clone, Debug, Drop, PartialEq, Eq)]
 pub enum Method {
     Card(String),
     Cash(i32),

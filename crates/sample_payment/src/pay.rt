@@ -1,9 +1,10 @@
 //! How a `oneof` is read and set.
 
-ghost use Rattle.std.specs.Prelude.{◌≡◌, IsTrue, string_bytes};
+ghost use Rattle.std.specs.Prelude.{◌≡◌, IfOk, IsTrue, string_bytes};
 
 use crate::method::Method;
 use crate::payment::Payment;
+use buffa_fields::Blank;
 use std::alloc::{AllocError, Global};
 
 /// The cash that is paid, where it is paid in cash.
@@ -34,4 +35,15 @@ pub fn is_same(a: &Payment, b: &Payment) -> bool
     ensures note { IsTrue result → string_bytes a.now.note ≡ string_bytes b.now.note }
 {
     a == b
+}
+
+/// A copy of a payment: it means what the payment does, undeclared fields too.
+///
+/// # Errors
+/// Where memory runs out.
+pub fn copy_of(payment: &Payment) -> Result<Payment, AllocError>
+    ensures meaning { IfOk result (λ copy. ⟦<Payment as Blank>⟧.meaning copy ≡ ⟦<Payment as Blank>⟧.meaning payment.now) }
+    ensures amount { IfOk result (λ copy. copy.amount ≡ payment.now.amount) }
+{
+    payment.clone()
 }

@@ -24,7 +24,7 @@ use std::string::String;
 ///     }
 ///     string note = 5;
 /// }
-#[derive(Debug, Drop, PartialEq, Eq)]
+#[derive(Clone, Debug, Drop, PartialEq, Eq)]
 pub struct Payment {
     pub amount: i32,
     pub method: Option<Method>,

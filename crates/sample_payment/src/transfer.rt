@@ -17,7 +17,7 @@ use std::string::String;
 ///     string to = 1;
 ///     int32 day = 2;
 /// }
-#[derive(Debug, Drop, PartialEq, Eq)]
+#[derive(Clone, Debug, Drop, PartialEq, Eq)]
 pub struct Transfer {
     pub to: String,
     pub day: i32,

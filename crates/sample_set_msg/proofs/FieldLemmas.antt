@@ -23,7 +23,7 @@ use Rattle.buffa_fields.specs.facts.UndeclaredFieldFacts.{keep_ok, none_there}
 use Rattle.buffa_wire.specs.Takes.{answer, framed}
 use Rattle.buffa_wire.proofs.TakesLemmas.{framed_at, framed_err}
 use Rattle.buffa_wire.proofs.LoopLemmas.{field_end}
-use Rattle.buffa_wire.specs.Kept.{keep_charge}
+use Rattle.buffa_wire.specs.KeptField.{keep_charge}
 use Rattle.buffa_bytes.specs.Readings.{skip_at}
 use Rattle.sample_set_msg.specs.Set.{IsSetFieldRefused, IsSetRefused, TakesSetField, item_field, item_of, record_of_field, set_cost, set_field, set_merged, set_charge, starts}
 use Rattle.sample_set_msg.specs.SetFacts.{set_same, set_sound, set_stays}

@@ -15,7 +15,7 @@ use Rattle.buffa_wire.specs.Records.{FieldData, bytes, group, height, no_records
 use Rattle.buffa_wire.specs.Encoding.{tagged_encoding}
 use Rattle.buffa_message_set.specs.Item.{IsTypeId, item_at, item_in, item_encoding}
 use Rattle.buffa_wire.specs.ByField.{FieldCharge, FieldReader, cost_by, merged_by, value_of}
-use Rattle.buffa_wire.specs.Kept.{keep_charge}
+use Rattle.buffa_wire.specs.KeptField.{keep_charge}
 use Rattle.buffa_fields.specs.UndeclaredFields.{keep_takes}
 use Rattle.buffa_wire.specs.Takes.{framed}
 

@@ -13,7 +13,7 @@ ghost use Rattle.buffa_message_set.specs.Item.{item_at, item_encoding, item_in};
 ghost use Rattle.buffa_wire.specs.BudgetLeft.{BudgetLeft, Pays, unknown_fields};
 ghost use Rattle.buffa_wire.specs.ByField.{cost_by, merged_by, value_of};
 ghost use Rattle.buffa_wire.specs.Encoding.{tagged_encoding};
-ghost use Rattle.buffa_wire.specs.Kept.{keep_charge};
+ghost use Rattle.buffa_wire.specs.KeptField.{keep_charge};
 ghost use Rattle.buffa_wire.specs.Message.{BeginsField, MergeFault};
 ghost use Rattle.buffa_wire.specs.RecordReading.{field_at};
 ghost use Rattle.buffa_wire.specs.Records.{FieldData, Records, bytes, fixed32, fixed64, group, height, no_records, one, varint};

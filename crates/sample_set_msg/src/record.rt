@@ -3,7 +3,7 @@
 ghost use Rattle.std.specs.Prelude.{◌≡◌, ◌≢◌, length, min};
 ghost use Rattle.buffa_bytes.specs.declared.wire_type.WireType.TheVariants.{EndGroup};
 ghost use Rattle.buffa_bytes.specs.Readings.{FullOnlyIf, GivesUnlessFull};
-ghost use Rattle.buffa_wire.specs.View.{field_data_of, record_of};
+ghost use Rattle.buffa_wire.specs.RecordsOfValues.{field_data_of, record_of};
 ghost use Rattle.buffa_bytes.specs.Written.{UsesRoom, Writes};
 ghost use Rattle.sample_set_msg.specs.Set.{is_type_id, record_of_field, set_record_encoding, starts};
 

@@ -14,7 +14,7 @@ ghost use Rattle.buffa_fields.specs.UndeclaredFields.{keep_takes};
 ghost use Rattle.buffa_wire.specs.Takes.{cost_of, merged_of};
 ghost use Rattle.buffa_wire.specs.BudgetLeft.{nothing};
 ghost use Rattle.buffa_wire.specs.Enums.{numbers};
-ghost use Rattle.buffa_wire.specs.Kept.{keep_charge};
+ghost use Rattle.buffa_wire.specs.KeptField.{keep_charge};
 ghost use Rattle.buffa_wire.specs.Parse.{AreValid, Fits};
 ghost use Rattle.buffa_wire.specs.Records.{FieldData, height, records_of};
 ghost use Rattle.buffa_wire.specs.Encoding.{records_encoding};

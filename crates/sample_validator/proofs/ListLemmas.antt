@@ -5,7 +5,7 @@ use Rattle.buffa_bytes.proofs.ListLemmas.{nil_first, nil_second}
 use Rattle.buffa_bytes.specs.Values.{int32_of}
 use Rattle.buffa_bytes.specs.declared.wire_type.WireType.TheVariants.{Varint}
 use Rattle.buffa_wire.specs.BudgetLeft.{BudgetLeft, defaults}
-use Rattle.buffa_wire.specs.Found.{varint_in}
+use Rattle.buffa_wire.specs.NumberInRecord.{varint_in}
 use Rattle.buffa_wire.specs.Records.{FieldData, varint, fixed32, fixed64, bytes, group}
 use Rattle.buffa_codec.specs.Packed.{numbers_in}
 use Rattle.buffa_codec.specs.Decoded.{AsksInList, Has, ReadsAll, ReadsList, elements}

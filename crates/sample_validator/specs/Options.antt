@@ -7,9 +7,9 @@ use Rattle.buffa_bytes.specs.Scalars.{bool_of}
 use Rattle.buffa_bytes.specs.declared.error.DecodeError.{DecodeError}
 use Rattle.buffa_bytes.specs.declared.wire_type.WireType.TheVariants.{Varint}
 use Rattle.buffa_wire.specs.Records.{FieldData, varint, bytes}
-use Rattle.buffa_wire.specs.Found.{varint_in}
+use Rattle.buffa_wire.specs.NumberInRecord.{varint_in}
 use Rattle.buffa_codec.specs.Decoded.{last_read, string_held}
-use Rattle.buffa_codec.specs.Sub.{sub}
+use Rattle.buffa_codec.specs.RecordsOfNumber.{sub}
 use Rattle.buffa_codec.specs.Strict.{Faultless, FirstFault, unless_found}
 use Rattle.buffa_codec.specs.Packed.{numbers_in}
 

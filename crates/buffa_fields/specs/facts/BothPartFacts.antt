@@ -21,7 +21,7 @@ use Rattle.buffa_fields.specs.facts.LevelFacts.{all_turn, back_holds, both_numbe
 use Rattle.buffa_fields.specs.Levels.{IsTakenWritten}
 use Rattle.buffa_fields.specs.facts.MemberPartFacts.{none_mine}
 use Rattle.buffa_fields.specs.facts.PairFacts.{either_stays, joined_back, part_taken, readable_both}
-use Rattle.buffa_fields.specs.Parts.{Part, PartLaws}
+use Rattle.buffa_fields.specs.MessageParts.{Part, PartLaws}
 
 abbrev answer : Type 0
 answer = Result (Unit {0}) DecodeError

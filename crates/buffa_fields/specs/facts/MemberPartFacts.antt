@@ -19,7 +19,7 @@ use Rattle.buffa_fields.specs.facts.LevelFacts.{unknowns_low, some_mapped}
 use Rattle.buffa_fields.specs.Levels.{IsTakenWritten}
 use Rattle.buffa_fields.specs.MemberParts.{part_with_unknowns, member_part}
 use Rattle.buffa_fields.specs.facts.PairFacts.{not_declared, part_taken, sound_parts}
-use Rattle.buffa_fields.specs.Parts.{PartLaws}
+use Rattle.buffa_fields.specs.MessageParts.{PartLaws}
 
 abbrev answer : Type 0
 answer = Result (Unit {0}) DecodeError

@@ -15,7 +15,7 @@ use Rattle.buffa_fields.specs.facts.LevelFacts.{all_turn, front_holds}
 use Rattle.buffa_fields.specs.UndeclaredFields.{AllNumbers}
 use Rattle.buffa_fields.specs.Levels.{IsTakenWritten}
 use Rattle.buffa_fields.specs.facts.PairFacts.{joined_back, others_lead, part_taken}
-use Rattle.buffa_fields.specs.Parts.{Part, PartLaws, part_charge, part_take}
+use Rattle.buffa_fields.specs.MessageParts.{Part, PartLaws, part_charge, part_take}
 
 abbrev answer : Type 0
 answer = Result (Unit {0}) DecodeError

@@ -21,7 +21,7 @@ use Rattle.buffa_wire.proofs.PassLemmas.{appended_none, appended_twice, next_fro
 use Rattle.buffa_wire.specs.Records.{FieldData, records_height, records_of}
 use Rattle.buffa_wire.specs.Encoding.{records_encoding}
 use Rattle.buffa_fields.specs.Schema.{Choice, Comes, Follow, IsCounted, IsPut, IsFieldKept, IsPutBehind, Schema, Passed, Seen, Shape, more, passes, visited}
-use Rattle.buffa_wire.specs.Kept.{keep_charge}
+use Rattle.buffa_wire.specs.KeptField.{keep_charge}
 use Rattle.buffa_fields.specs.UndeclaredFields.{KeepTakesMemory, keep_takes}
 use Rattle.buffa_fields.specs.RefusedMessage.{IsMemberRefused}
 use Rattle.buffa_fields.specs.facts.UndeclaredFieldFacts.{records_lead}

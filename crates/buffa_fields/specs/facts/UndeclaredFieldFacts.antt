@@ -18,7 +18,7 @@ use Rattle.buffa_wire.specs.Encoding.{wire_of}
 use Rattle.std.specs.Prelude.{Bool, true}
 use Rattle.buffa_wire.proofs.KeepLemmas.{all_fields, enough_reads, enough_unknown, charged_for, other_limit}
 use Rattle.buffa_wire.proofs.JoinLemmas.{payload_of_record, record_of_payload}
-use Rattle.buffa_wire.specs.Kept.{keep_charge}
+use Rattle.buffa_wire.specs.KeptField.{keep_charge}
 use Rattle.buffa_fields.specs.UndeclaredFields.{IsFieldThere, KeepTakesMemory, keep_takes}
 use Rattle.buffa_wire.specs.Takes.{IsTaken, Leads, Piece, Taker, Untaken, joined_fields}
 use Rattle.buffa_bytes.proofs.SequenceLemmas.{err_same}

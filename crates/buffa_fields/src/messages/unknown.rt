@@ -8,7 +8,7 @@ ghost use Rattle.buffa_bytes.specs.declared.wire_type.WireType.TheVariants.{Star
 ghost use Rattle.buffa_wire.specs.Passes.{cap};
 ghost use Rattle.buffa_wire.specs.RecordReading.{RecordTakesMemory, field_at};
 ghost use Rattle.buffa_wire.specs.Encoding.{records_encoding};
-ghost use Rattle.buffa_wire.specs.View.{field_data_of};
+ghost use Rattle.buffa_wire.specs.RecordsOfValues.{field_data_of};
 ghost use Rattle.buffa_fields.specs.Schema.{IsFieldKept, Passed};
 
 use buffa_wire::{

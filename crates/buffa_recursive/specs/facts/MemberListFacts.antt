@@ -6,7 +6,7 @@ use Rattle.buffa_fields.specs.Schema.{Schema, Shape}
 use Rattle.buffa_fields.specs.Members.{field, part}
 use Rattle.buffa_recursive.specs.MessageTree.{MessageTree, message_tree, tree_height, rest_of, inner_height}
 use Rattle.buffa_recursive.specs.RecursiveSchema.{SchemasAlike}
-use Rattle.buffa_fields.specs.Parts.{Part, PartLaws}
+use Rattle.buffa_fields.specs.MessageParts.{Part, PartLaws}
 
 pub tree_lower : {a b h : ℕ} → a ≤ b → b ≤ h → a ≤ h
 tree_lower low is = omega (arith, low, is)

@@ -15,7 +15,7 @@ use std::alloc::Global;
 /// message BoolValue {
 ///     bool value = 1;
 /// }
-#[derive(Debug, Drop)]
+#[derive(Clone, Debug, Drop)]
 pub struct BoolValue {
     /// The value.
     pub value: bool,

@@ -15,7 +15,7 @@ use std::alloc::Global;
 /// message BytesValue {
 ///     bytes value = 1;
 /// }
-#[derive(Debug, Drop)]
+#[derive(Clone, Debug, Drop)]
 pub struct BytesValue {
     /// The value.
     pub value: Vec<u8>,

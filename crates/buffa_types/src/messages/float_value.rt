@@ -15,7 +15,7 @@ use std::alloc::Global;
 /// message FloatValue {
 ///     float value = 1;
 /// }
-#[derive(Debug, Drop)]
+#[derive(Clone, Debug, Drop)]
 pub struct FloatValue {
     /// The value.
     pub value: FloatBits,

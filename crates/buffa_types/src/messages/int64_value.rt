@@ -15,7 +15,7 @@ use std::alloc::Global;
 /// message Int64Value {
 ///     int64 value = 1;
 /// }
-#[derive(Debug, Drop)]
+#[derive(Clone, Debug, Drop)]
 pub struct Int64Value {
     /// The value.
     pub value: i64,

@@ -15,7 +15,7 @@ use std::alloc::Global;
 /// message UInt64Value {
 ///     uint64 value = 1;
 /// }
-#[derive(Debug, Drop)]
+#[derive(Clone, Debug, Drop)]
 pub struct UInt64Value {
     /// The value.
     pub value: u64,

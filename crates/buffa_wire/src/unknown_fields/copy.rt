@@ -2,7 +2,7 @@
 
 ghost use Rattle.std.specs.Prelude.{◌≡◌, [], IfOk, IsOk};
 ghost use Rattle.buffa_wire.specs.Records.{IsEmpty, IsNumeric};
-ghost use Rattle.buffa_wire.specs.View.{field_data_of, record_of};
+ghost use Rattle.buffa_wire.specs.RecordsOfValues.{field_data_of, record_of};
 
 use crate::unknown_fields::{UnknownField, UnknownFieldData, UnknownFields};
 use std::alloc::AllocError;
@@ -76,5 +76,22 @@ impl UnknownFields {
             out.push(copy)?;
         }
         Ok(out)
+    }
+}
+
+impl Clone for UnknownFields {
+    /// Equal fields in their order, groups and all, whose memory comes from the same allocator.
+    ///
+    /// # Errors
+    /// Where memory runs out; no fields take none.
+    ///
+    /// ```ignore
+    /// let copy = fields.clone()?;
+    /// ```
+    fn clone(&self) -> Result<UnknownFields, AllocError>
+        ensures equal { IfOk result (λ f. f.records ≡ self.now.records) }
+        ensures empty { self.now.records ≡ [] → IsOk result }
+    {
+        self.copy()
     }
 }

@@ -2,7 +2,7 @@
 
 ghost use Rattle.std.specs.Cmp.{partial_equiv_from_equiv, on_per, on_equiv};
 ghost use Rattle.buffa_wire.specs.Equal.{field_data_eq, field_data_eq_equiv, field_eq, field_eq_equiv, held_eq, held_eq_equiv};
-ghost use Rattle.buffa_wire.specs.View.{field_data_of};
+ghost use Rattle.buffa_wire.specs.RecordsOfValues.{field_data_of};
 
 use crate::unknown_fields::{UnknownField, UnknownFieldData, UnknownFields};
 

@@ -5,7 +5,7 @@ ghost use Rattle.std.specs.Fn.{CalledAt};
 ghost use Rattle.std.specs.List.{filter};
 ghost use Rattle.std.specs.List.Retain.{IsFiltered};
 ghost use Rattle.buffa_wire.specs.Records.{FieldData};
-ghost use Rattle.buffa_wire.specs.View.{AnswersRecords, CalledAtRecord, record_of, records_in};
+ghost use Rattle.buffa_wire.specs.RecordsOfValues.{AnswersRecords, CalledAtRecord, record_of, records_in};
 
 use crate::unknown_fields::{UnknownField, UnknownFields};
 use std::alloc::{AllocError, Global};

@@ -2,7 +2,7 @@
 
 ghost use Rattle.std.specs.Prelude.{◌≡◌, ◌≤◌, length, min};
 ghost use Rattle.buffa_wire.specs.Encoding.{records_encoding, tagged_encoding, payload_encoding};
-ghost use Rattle.buffa_wire.specs.View.{field_data_of};
+ghost use Rattle.buffa_wire.specs.RecordsOfValues.{field_data_of};
 ghost use Rattle.buffa_bytes.specs.Values.{tag_encoding};
 ghost use Rattle.buffa_bytes.specs.Varint.{varint_encoding};
 

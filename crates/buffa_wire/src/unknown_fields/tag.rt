@@ -2,7 +2,7 @@
 
 ghost use Rattle.std.specs.Prelude.{◌≡◌, ◌+◌, ◌*◌};
 ghost use Rattle.buffa_wire.specs.Encoding.{wire_of};
-ghost use Rattle.buffa_wire.specs.View.{field_data_of};
+ghost use Rattle.buffa_wire.specs.RecordsOfValues.{field_data_of};
 ghost use Rattle.buffa_bytes.specs.Number.{wire_number};
 
 use crate::unknown_fields::UnknownFieldData;

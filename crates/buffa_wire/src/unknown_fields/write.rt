@@ -3,7 +3,7 @@
 ghost use Rattle.std.specs.Prelude.{◌++◌};
 ghost use Rattle.buffa_bytes.specs.Values.{tag_encoding};
 ghost use Rattle.buffa_wire.specs.Encoding.{records_encoding, tagged_encoding, write_outcome};
-ghost use Rattle.buffa_wire.specs.View.{field_data_of};
+ghost use Rattle.buffa_wire.specs.RecordsOfValues.{field_data_of};
 ghost use Rattle.buffa_bytes.specs.Written.{UsesRoom, Writes};
 
 use crate::short::{write_bytes, write_fixed32, write_fixed64, write_two};

@@ -1,5 +1,5 @@
 use Rattle.std.proofs.Common.{sym, ap, ◌∙◌, option_map}
-use Rattle.buffa_wire.specs.View.{field_data_of}
+use Rattle.buffa_wire.specs.RecordsOfValues.{field_data_of}
 use Rattle.buffa_codec.proofs.TakesLemmas.{takes_own, takes_value, takes_packed}
 use Rattle.buffa_codec.proofs.repeated.read_one.Goals as goal
 

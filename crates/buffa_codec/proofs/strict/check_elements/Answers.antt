@@ -1,7 +1,7 @@
 use Rattle.std.proofs.Common.{ap, sym, subst, ◌∙◌}
 use Rattle.std.proofs.lemmas.Result.{err_from_is_err_and}
 use Rattle.buffa_wire.specs.BudgetLeft.{defaults}
-use Rattle.buffa_wire.specs.View.{field_data_of, records_in}
+use Rattle.buffa_wire.specs.RecordsOfValues.{field_data_of, records_in}
 use Rattle.buffa_codec.proofs.StrictLemmas.{element_fault_here, element_more, element_other}
 use Rattle.buffa_codec.proofs.strict.check_elements.Goals.{then-field-number+in_ok-check_element, else-field-number}
 use Rattle.buffa_codec.proofs.strict.check_elements.Goals as goal

@@ -1,5 +1,5 @@
 use Rattle.std.proofs.Common.{ap, ◌∙◌}
-use Rattle.buffa_wire.specs.View.{records_in}
+use Rattle.buffa_wire.specs.RecordsOfValues.{records_in}
 use Rattle.buffa_codec.proofs.StrictLemmas.{fault_here, faultless_more, faultless_other}
 use Rattle.buffa_codec.proofs.strict.check_values.Goals.{then-field-number+in-None, else-field-number}
 use Rattle.buffa_codec.proofs.strict.check_values.Goals as goal

@@ -1,6 +1,6 @@
 use Rattle.std.proofs.Common.{ap, ◌∙◌, subst, inr}
 use Rattle.std.proofs.lemmas.Result.{err_from_is_err_and}
-use Rattle.buffa_codec.specs.Sub.{sub}
+use Rattle.buffa_codec.specs.RecordsOfNumber.{sub}
 use Rattle.buffa_codec.proofs.FilteredLemmas.{sub-set}
 use Rattle.buffa_ext.proofs.back.set_then_read.Goals as goal
 

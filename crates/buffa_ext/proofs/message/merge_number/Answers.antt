@@ -1,6 +1,6 @@
 use Rattle.std.proofs.Common.{◌∙◌, ap}
 use Rattle.std.proofs.lemmas.Result.{err_from_is_err_and}
-use Rattle.buffa_wire.specs.View.{records_in}
+use Rattle.buffa_wire.specs.RecordsOfValues.{records_in}
 use Rattle.buffa_ext.specs.Messages.{PartlyMergedRecord}
 use Rattle.buffa_ext.proofs.MergeLemmas.{one_more, passed_over, partly_merged_here, stops_here}
 use Rattle.buffa_ext.proofs.message.merge_number.Goals.{then-field-number+in_ok-found, else-field-number}

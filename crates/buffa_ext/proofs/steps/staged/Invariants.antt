@@ -1,6 +1,6 @@
 use Rattle.std.proofs.Common.{◌≡◌, map}
-use Rattle.buffa_wire.specs.View.{field_data_of}
-use Rattle.buffa_codec.specs.Sub.{tagged}
+use Rattle.buffa_wire.specs.RecordsOfValues.{field_data_of}
+use Rattle.buffa_codec.specs.RecordsOfNumber.{tagged}
 use Rattle.buffa_ext.proofs.steps.staged.Given as goal
 
 abbrev pub invariant-loop-payload : goal.invariant-loop-payload

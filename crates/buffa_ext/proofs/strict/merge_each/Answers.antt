@@ -1,6 +1,6 @@
 use Rattle.std.proofs.Common.{◌≡◌, None, true, sym, ap, ◌∙◌}
 use Rattle.std.proofs.lemmas.Result.{err_from_is_err_and}
-use Rattle.buffa_wire.specs.View.{records_in}
+use Rattle.buffa_wire.specs.RecordsOfValues.{records_in}
 use Rattle.buffa_codec.specs.Strict.{IsFaultOrFull}
 use Rattle.buffa_codec.proofs.StrictLemmas.{faultless_more, faultless_other}
 use Rattle.buffa_ext.specs.Messages.{PartlyMergedRecord}

@@ -1,7 +1,7 @@
 use Rattle.std.proofs.Common.{take, Ok}
-use Rattle.buffa_wire.specs.View.{records_in}
+use Rattle.buffa_wire.specs.RecordsOfValues.{records_in}
 use Rattle.buffa_codec.specs.Strict.{Faultless}
-use Rattle.buffa_codec.specs.Sub.{sub}
+use Rattle.buffa_codec.specs.RecordsOfNumber.{sub}
 use Rattle.buffa_ext.specs.Messages.{IsAllMerged, encodings_in}
 use Rattle.buffa_ext.specs.Strict.{kind_fault}
 use Rattle.buffa_ext.proofs.strict.merge_each.Given as goal

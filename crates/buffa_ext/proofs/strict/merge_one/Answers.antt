@@ -1,7 +1,7 @@
 use Rattle.std.proofs.Common.{sym, ◌∙◌}
 use Rattle.std.proofs.lemmas.Option.{none-some}
 use Rattle.std.proofs.lemmas.Result.{err_from_is_err_and}
-use Rattle.buffa_wire.specs.View.{field_data_of}
+use Rattle.buffa_wire.specs.RecordsOfValues.{field_data_of}
 use Rattle.buffa_ext.specs.StrictFacts.{is_of_another, is_of_kind, refused_record, found_kind}
 use Rattle.buffa_ext.proofs.strict.merge_one.Goals as goal
 

@@ -4,7 +4,7 @@ use Rattle.std.specs.Int.{cast_unsigned, w64}
 use Rattle.buffa_bytes.specs.Scalars.{int32_of, int32_encoding}
 use Rattle.buffa_bytes.specs.declared.wire_type.WireType.TheVariants.{Varint}
 use Rattle.buffa_wire.specs.Enums.{open_number}
-use Rattle.buffa_wire.specs.Found.{varint_in}
+use Rattle.buffa_wire.specs.NumberInRecord.{varint_in}
 use Rattle.buffa_wire.specs.Records.{varint}
 use Rattle.buffa_codec.specs.Packed.{numbers_in}
 use Rattle.buffa_ext_laws.proofs.ThroughLemmas.{lists_through, option_twice, packed_through, reads_through}

@@ -1,5 +1,5 @@
 use Rattle.std.proofs.Common.{◌≡◌, take}
-use Rattle.buffa_wire.specs.View.{records_in}
+use Rattle.buffa_wire.specs.RecordsOfValues.{records_in}
 use Rattle.buffa_wire.proofs.unknown_fields.+copy.Given as goal
 
 abbrev pub invariant-UnknownFields::copy-loop-field : goal.invariant-UnknownFields::copy-loop-field

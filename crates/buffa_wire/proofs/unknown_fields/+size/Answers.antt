@@ -1,7 +1,7 @@
 use Rattle.std.proofs.Common.{length, ap, ◌∙◌, arith}
 use Rattle.buffa_wire.specs.Records.{Held}
 use Rattle.buffa_wire.specs.Encoding.{records_encoding}
-use Rattle.buffa_wire.specs.View.{record_of, records_in}
+use Rattle.buffa_wire.specs.RecordsOfValues.{record_of, records_in}
 use Rattle.buffa_wire.proofs.ByValueLemmas.{length_more, length_parts}
 use Rattle.buffa_wire.proofs.EncodingLemmas.{records_by_value}
 use Rattle.buffa_wire.proofs.unknown_fields.+size.Goals as goal

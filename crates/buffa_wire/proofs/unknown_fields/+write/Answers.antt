@@ -6,7 +6,7 @@ use Rattle.buffa_bytes.specs.Written.{WritesFront}
 use Rattle.buffa_bytes.proofs.SinkLemmas.{front_first, front_second}
 use Rattle.buffa_wire.specs.Records.{Held}
 use Rattle.buffa_wire.specs.Encoding.{tagged_encoding, records_encoding}
-use Rattle.buffa_wire.specs.View.{field_data_of, record_of, records_in}
+use Rattle.buffa_wire.specs.RecordsOfValues.{field_data_of, record_of, records_in}
 use Rattle.buffa_wire.proofs.ByValueLemmas.{length_more, length_parts, write_more, write_stops}
 use Rattle.buffa_wire.proofs.EncodingLemmas.{records_by_value, err_front, ok_whole, room_no, room_yes, reported_no, reported_yes}
 use Rattle.buffa_wire.proofs.unknown_fields.+write.Goals as goal

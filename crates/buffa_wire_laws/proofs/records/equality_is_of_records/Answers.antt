@@ -1,7 +1,7 @@
 use Rattle.std.proofs.Common.{sym, ap, ◌∙◌}
 use Rattle.buffa_wire.specs.Records.{records_of, list_of}
 use Rattle.buffa_wire.specs.Equal.{field_data_eq-Decides, records_eq-Decides, field_eq-Decides}
-use Rattle.buffa_wire.specs.View.{field_data_of}
+use Rattle.buffa_wire.specs.RecordsOfValues.{field_data_of}
 use Rattle.buffa_wire.proofs.RecordLemmas.{list-records, held_eq_yes}
 use Rattle.buffa_wire_laws.proofs.records.equality_is_of_records.Goals as goal
 

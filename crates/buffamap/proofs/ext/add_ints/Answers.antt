@@ -1,5 +1,5 @@
 use Rattle.std.proofs.Common.{rules, ◌≡◌, ◌++◌, [], ◌∷◌, ◌∙◌, ap, codes}
-use Rattle.buffa_codec.specs.Sub.{sub}
+use Rattle.buffa_codec.specs.RecordsOfNumber.{sub}
 use Rattle.buffamap.specs.Ext.{ints_line, int32s_of_each, words_of}
 use Rattle.buffamap.proofs.ExtensionLemmas.{line_behind, list_read}
 use Rattle.buffamap.proofs.ext.add_ints.Goals as goal

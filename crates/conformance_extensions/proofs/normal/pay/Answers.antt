@@ -1,6 +1,6 @@
 use Rattle.std.proofs.Common.{true, refl, sym, ap, subst, ◌∙◌, option_map}
 use Rattle.buffa_wire.specs.BudgetLeft.{Pays}
-use Rattle.buffa_wire.specs.View.{field_data_of}
+use Rattle.buffa_wire.specs.RecordsOfValues.{field_data_of}
 use Rattle.conformance_extensions.proofs.normal.pay.Goals as goal
 
 pub returns-in-Some : goal.returns-in-Some

@@ -2,7 +2,7 @@ use Rattle.std.proofs.Common.{◌≤◌, sym, ap, subst, ◌∙◌, arith}
 use Rattle.buffa_wire.specs.DepthFacts.{height-records}
 use Rattle.buffa_wire.specs.Parse.{FitsFieldData, IsValidFieldData}
 use Rattle.buffa_wire.specs.Records.{field_data_height}
-use Rattle.buffa_wire.specs.View.{field_data_of, records_in}
+use Rattle.buffa_wire.specs.RecordsOfValues.{field_data_of, records_in}
 use Rattle.conformance_extensions.specs.Normal.{AreWritten}
 use Rattle.conformance_extensions.proofs.FrontLemmas.{written_from, written_none}
 use Rattle.conformance_extensions.proofs.written.+walk.Goals as goal

@@ -1,5 +1,5 @@
 use Rattle.std.proofs.Common.{◌+◌, ◌*◌, drop}
-use Rattle.buffa_wire.specs.View.{records_in}
+use Rattle.buffa_wire.specs.RecordsOfValues.{records_in}
 use Rattle.conformance_extensions.specs.Normal.{AreWritten}
 use Rattle.conformance_extensions.proofs.written.+walk.Given as goal
 

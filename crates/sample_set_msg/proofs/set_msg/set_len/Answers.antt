@@ -1,6 +1,6 @@
 use Rattle.std.proofs.Common.{arith}
 use Rattle.buffa_wire.proofs.ByValueLemmas.{length_more}
-use Rattle.buffa_wire.specs.View.{record_of}
+use Rattle.buffa_wire.specs.RecordsOfValues.{record_of}
 use Rattle.sample_set_msg.proofs.EncodingLemmas.{set_by_value}
 use Rattle.sample_set_msg.proofs.set_msg.set_len.Goals as goal
 

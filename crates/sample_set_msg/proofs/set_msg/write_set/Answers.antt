@@ -2,7 +2,7 @@ use Rattle.std.proofs.Common.{◌∙◌, ap, arith, length, subst}
 use Rattle.std.proofs.lemmas.Result.{err_from_is_err_and}
 use Rattle.buffa_bytes.specs.Written.{WritesFront}
 use Rattle.buffa_wire.proofs.ByValueLemmas.{length_more, length_parts, write_more, write_stops}
-use Rattle.buffa_wire.specs.View.{record_of, records_in}
+use Rattle.buffa_wire.specs.RecordsOfValues.{record_of, records_in}
 use Rattle.sample_set_msg.specs.Set.{set_encoding}
 use Rattle.sample_set_msg.proofs.EncodingLemmas.{set_by_value}
 use Rattle.sample_set_msg.proofs.set_msg.write_set.Goals as goal

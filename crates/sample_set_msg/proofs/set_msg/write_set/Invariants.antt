@@ -1,5 +1,5 @@
 use Rattle.std.proofs.Common.{◌≡◌, ◌+◌, ◌≤◌, ◌++◌, length, take}
-use Rattle.buffa_wire.specs.View.{records_in}
+use Rattle.buffa_wire.specs.RecordsOfValues.{records_in}
 use Rattle.sample_set_msg.specs.Set.{set_encoding}
 use Rattle.sample_set_msg.proofs.set_msg.write_set.Given as goal
 

@@ -4,7 +4,7 @@ use Rattle.std.specs.Str.{is_utf8}
 use Rattle.std.proofs.lemmas.Bool.{false_from_ne_true, false≢true}
 use Rattle.std.proofs.lemmas.Str.{IsUtf8-from_is_utf8, is_utf8-from_IsUtf8}
 use Rattle.buffa_wire.specs.Records.{bytes}
-use Rattle.buffa_wire.specs.View.{field_data_of}
+use Rattle.buffa_wire.specs.RecordsOfValues.{field_data_of}
 use Rattle.buffa_codec.specs.Decoded.{string_held}
 use Rattle.buffa_codec.specs.CodecFacts.{string_back}
 use Rattle.buffa_codec.proofs.delimited.StringCodecSingularCodec.decode_one.Goals as goal

@@ -1,6 +1,6 @@
 use Rattle.std.proofs.Common.{sym, ap, ◌∙◌, arith, option_map}
-use Rattle.buffa_wire.specs.View.{records_in}
-use Rattle.buffa_codec.specs.Sub.{sub}
+use Rattle.buffa_wire.specs.RecordsOfValues.{records_in}
+use Rattle.buffa_codec.specs.RecordsOfNumber.{sub}
 use Rattle.buffa_codec.specs.Decoded.{last_read}
 use Rattle.buffa_wire.specs.BudgetLeft.{defaults}
 use Rattle.buffa_codec.proofs.LastLemmas.{none_at_other, none_at_unread, found_last, last_there}

@@ -1,7 +1,7 @@
 use Rattle.std.proofs.Common.{◌≡◌, ◌≤◌, [], drop, length}
 use Rattle.std.specs.List.{filter_map}
-use Rattle.buffa_wire.specs.View.{records_in}
-use Rattle.buffa_codec.specs.Sub.{sub}
+use Rattle.buffa_wire.specs.RecordsOfValues.{records_in}
+use Rattle.buffa_codec.specs.RecordsOfNumber.{sub}
 use Rattle.buffa_wire.specs.BudgetLeft.{defaults}
 use Rattle.buffa_codec.proofs.last.AnyExtensionCodec.decode.Given as goal
 

@@ -7,7 +7,7 @@ use Rattle.std.specs.Result.{OnErr, OnOk}
 use Rattle.buffa_bytes.proofs.ResultLemmas.{OnOk-always}
 use Rattle.buffa_wire.specs.Records.{FieldData, Held, bytes}
 use Rattle.buffa_codec.specs.Decoded.{Adds, AddsSome, packed_record}
-use Rattle.buffa_codec.specs.Sub.{tagged}
+use Rattle.buffa_codec.specs.RecordsOfNumber.{tagged}
 use Rattle.buffa_codec.proofs.ListLemmas.{packed_some}
 use Rattle.buffa_codec.proofs.CapacityLemmas.{capacity_stays}
 use Rattle.buffa_codec.proofs.TurnLemmas.{writes_none}

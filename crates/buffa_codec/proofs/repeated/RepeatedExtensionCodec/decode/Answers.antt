@@ -1,4 +1,4 @@
-use Rattle.buffa_wire.specs.View.{records_in, field_data_of}
+use Rattle.buffa_wire.specs.RecordsOfValues.{records_in, field_data_of}
 use Rattle.buffa_codec.specs.Decoded.{AsksInList}
 use Rattle.buffa_codec.proofs.TakesLemmas.{has_record}
 use Rattle.std.proofs.Common.{sym, ap, ◌∙◌, subst, map}

@@ -1,6 +1,6 @@
 use Rattle.std.proofs.Common.{map, take}
-use Rattle.buffa_wire.specs.View.{records_in}
-use Rattle.buffa_codec.specs.Sub.{sub}
+use Rattle.buffa_wire.specs.RecordsOfValues.{records_in}
+use Rattle.buffa_codec.specs.RecordsOfNumber.{sub}
 use Rattle.buffa_codec.specs.Decoded.{ReadsAll}
 use Rattle.buffa_wire.specs.BudgetLeft.{defaults}
 use Rattle.buffa_codec.proofs.repeated.RepeatedExtensionCodec.decode.Given as goal

@@ -1,6 +1,6 @@
 use Rattle.std.proofs.Common.{◌≡◌, ◌≤◌, ◌+◌, ◌++◌, map, take, None}
 use Rattle.std.specs.List.{AllByRecursion}
-use Rattle.buffa_codec.specs.Sub.{tagged}
+use Rattle.buffa_codec.specs.RecordsOfNumber.{tagged}
 use Rattle.buffa_codec.specs.Decoded.{KeepsCapacity, first_refusal}
 use Rattle.buffa_codec.proofs.repeated.RepeatedExtensionCodec.try_encode.Given as goal
 

@@ -2,7 +2,7 @@ use Rattle.std.proofs.Common.{◌≡◌, false, true, sym, ap, ◌∙◌}
 use Rattle.std.specs.Str.{is_utf8}
 use Rattle.std.proofs.lemmas.Bool.{false_from_ne_true}
 use Rattle.std.proofs.lemmas.Str.{IsUtf8-from_is_utf8, is_utf8-from_IsUtf8}
-use Rattle.buffa_wire.specs.View.{field_data_of}
+use Rattle.buffa_wire.specs.RecordsOfValues.{field_data_of}
 use Rattle.buffa_codec.specs.Strict.{string_fault}
 use Rattle.buffa_codec.specs.StrictFacts.{text_fault, text_no_fault}
 use Rattle.buffa_codec.proofs.strict.StringCodecStrictSingularCodec.fault.Goals as goal

@@ -1,6 +1,6 @@
 use Rattle.std.proofs.Common.{option_map}
 use Rattle.buffa_wire.specs.BudgetLeft.{defaults}
-use Rattle.buffa_codec.specs.Sub.{sub}
+use Rattle.buffa_codec.specs.RecordsOfNumber.{sub}
 use Rattle.buffa_ext.specs.MessageFacts.{is_full, records_answer}
 use Rattle.buffa_ext.proofs.message.MessageInExtensionCodec.decode.Goals as goal
 

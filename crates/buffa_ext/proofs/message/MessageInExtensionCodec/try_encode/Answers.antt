@@ -1,5 +1,5 @@
 use Rattle.std.proofs.Common.{sym, subst}
-use Rattle.buffa_wire.specs.View.{field_data_of}
+use Rattle.buffa_wire.specs.RecordsOfValues.{field_data_of}
 use Rattle.buffa_codec.specs.Decoded.{KeepsCapacity}
 use Rattle.buffa_codec.proofs.CapacityLemmas.{capacity_more, capacity_stays}
 use Rattle.buffa_ext.proofs.message.MessageInExtensionCodec.try_encode.Goals as goal

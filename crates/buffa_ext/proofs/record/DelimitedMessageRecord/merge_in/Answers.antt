@@ -1,6 +1,6 @@
 use Rattle.std.proofs.Common.{sym, ap, subst}
 use Rattle.std.proofs.lemmas.Result.{err_from_is_err_and}
-use Rattle.buffa_wire.specs.View.{field_data_of}
+use Rattle.buffa_wire.specs.RecordsOfValues.{field_data_of}
 use Rattle.buffa_wire.specs.Message.{BeginsField}
 use Rattle.buffa_codec.specs.Decoded.{bytes_held}
 use Rattle.buffa_ext.specs.Messages.{HasField}

@@ -2,7 +2,7 @@ use Rattle.std.proofs.Common.{refl, sym, ap, ◌∙◌, ◌++◌, inr, subst}
 use Rattle.std.proofs.lemmas.Result.{err_from_is_err_and}
 use Rattle.buffa_wire.specs.Encoding.{fields_encoding, records_encoding}
 use Rattle.buffa_wire.specs.Records.{records_of}
-use Rattle.buffa_wire.specs.View.{field_data_of}
+use Rattle.buffa_wire.specs.RecordsOfValues.{field_data_of}
 use Rattle.buffa_codec.specs.Decoded.{HasByte}
 use Rattle.buffa_ext.specs.Messages.{group_held}
 use Rattle.buffa_wire.proofs.InsideLemmas.{tag_has_byte}

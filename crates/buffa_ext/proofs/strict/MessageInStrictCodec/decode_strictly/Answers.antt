@@ -1,6 +1,6 @@
 use Rattle.std.proofs.Common.{option_map}
 use Rattle.std.proofs.lemmas.Result.{err_from_is_err_and}
-use Rattle.buffa_codec.specs.Sub.{sub}
+use Rattle.buffa_codec.specs.RecordsOfNumber.{sub}
 use Rattle.buffa_ext.specs.MessageFacts.{is_full}
 use Rattle.buffa_ext.specs.StrictFacts.{strict_answer, strict_whole, found_strictly}
 use Rattle.buffa_ext.proofs.strict.MessageInStrictCodec.decode_strictly.Goals as goal

@@ -1,5 +1,5 @@
 use Rattle.std.proofs.lemmas.Result.{err_from_is_err_and}
-use Rattle.buffa_wire.specs.View.{field_data_of}
+use Rattle.buffa_wire.specs.RecordsOfValues.{field_data_of}
 use Rattle.buffa_ext.specs.StrictFacts.{element_leaves, is_element, found_element}
 use Rattle.buffa_ext.proofs.strict.MessageInStrictElementCodec.check_element.Goals as goal
 

@@ -3,7 +3,7 @@ use Rattle.std.specs.Result.{MatchResult}
 use Rattle.buffa_bytes.specs.declared.error.DecodeError.{DecodeError}
 use Rattle.std.proofs.lemmas.Result.{err_from_is_err_and}
 use Rattle.buffa_bytes.proofs.SequenceLemmas.{err_same}
-use Rattle.buffa_wire.specs.View.{field_data_of}
+use Rattle.buffa_wire.specs.RecordsOfValues.{field_data_of}
 use Rattle.buffa_fields.specs.Schema.{IsFieldKept}
 use Rattle.buffa_fields.specs.facts.UndeclaredFieldFacts.{keep_asks, keep_asks_put, keep_err_as, keep_full, keep_ok, keep_refused, takes_no_end}
 use Rattle.buffa_fields.proofs.messages.unknown.keep.Goals as goal

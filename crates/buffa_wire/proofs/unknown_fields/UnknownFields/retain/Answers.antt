@@ -1,6 +1,6 @@
 use Rattle.std.proofs.Common.{ap, ◌∙◌, sym}
 use Rattle.std.proofs.lemmas.Fn.{filter_same}
-use Rattle.buffa_wire.specs.View.{record_of, records_in}
+use Rattle.buffa_wire.specs.RecordsOfValues.{record_of, records_in}
 use Rattle.buffa_wire.proofs.RecordLemmas.{filter-records_in, filtered_records}
 use Rattle.buffa_wire.proofs.unknown_fields.UnknownFields.retain.Goals as goal
 

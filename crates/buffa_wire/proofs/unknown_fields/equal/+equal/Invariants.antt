@@ -1,5 +1,5 @@
 use Rattle.std.proofs.Common.{◌≡◌, take}
-use Rattle.buffa_wire.specs.View.{records_in}
+use Rattle.buffa_wire.specs.RecordsOfValues.{records_in}
 use Rattle.buffa_wire.proofs.unknown_fields.equal.+equal.Given as goal
 
 abbrev pub invariant-UnknownFieldsPartialEq::eq-loop-i : goal.invariant-UnknownFieldsPartialEq::eq-loop-i

@@ -1,6 +1,6 @@
 use Rattle.std.proofs.Common.{◌∙◌, ap}
 use Rattle.std.proofs.lemmas.Result.{err_from_is_err_and}
-use Rattle.buffa_wire.specs.View.{record_of}
+use Rattle.buffa_wire.specs.RecordsOfValues.{record_of}
 use Rattle.sample_set_msg.proofs.FieldLemmas.{record_no_end, set_err, set_ok, set_refused}
 use Rattle.sample_set_msg.proofs.set_msg.SetMsgMessage.merge_field.Goals as goal
 
