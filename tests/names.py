@@ -32,7 +32,7 @@ REFUSED = [
     (FACADE + "Extensions.antt", ("{Adds, AddsSome,", "{Adds as AddsSome, AddsSome as Adds,")),
     (
         FACADE + "Extensions.antt",
-        ("Sub.{sub, tagged, without}", "Sub.{sub, tagged}\n\nabbrev pub without : ℕ → List (ℕ × FieldData) → List (ℕ × FieldData)\nwithout n rs = rs\n"),
+        ("RecordsOfNumber.{sub, tagged, without}", "RecordsOfNumber.{sub, tagged}\n\nabbrev pub without : ℕ → List (ℕ × FieldData) → List (ℕ × FieldData)\nwithout n rs = rs\n"),
     ),
     (FACADE + "Items.antt", ("HasMessage, IsTypeId,", "HasMessage,"), ("pub use", "pub use Rattle.buffa_bytes.specs.Number.{IsNumber as IsTypeId}\npub use")),
     (FACADE + "Items.antt", (" item_encoding}", " body_encoding as item_encoding}")),
