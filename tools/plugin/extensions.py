@@ -26,6 +26,11 @@ MODULE_OF = {
 }
 
 
+def local(name):
+    """What the file calls a type of the .proto's: another name where it imports that of something else."""
+    return f"{name}Type" if name in MODULE_OF else name
+
+
 class Extension(Declaration):
     """A declared extension: the name of its function, its codec, and the type of its values; or why it isn't written."""
 
@@ -63,7 +68,7 @@ class Extension(Declaration):
         kind = self.it.type
         self.is_bytes = kind == Field.TYPE_STRING and bool(self.world.strings) and self.field.file.is_closed
         if kind in (*MESSAGES, Field.TYPE_ENUM):
-            name = self.world.types[self.target]
+            name = local(self.world.types[self.target])
             self.imports.add(self.target)
             self.rust = f"Option<EnumValue<{name}>>" if kind == Field.TYPE_ENUM else f"Option<{name}>"
             codec = {Field.TYPE_ENUM: "EnumCodec", Field.TYPE_GROUP: "GroupCodec"}.get(kind, "MessageCodec")
@@ -153,7 +158,7 @@ def head(world, written, enums):
     names |= {"AllocError", "ExtensionCodec", "ExtensionSet", "Global"} if read else set()
     made = [prelude_line(words).strip()]
     made += ["ghost use Rattle.buffa_ext.specs.Defaults.{IsDefaulted, ReadsNumber};"] * bool(read)
-    return made + [""] + uses(world, names, set().union(*[it.imports for it in written]), MODULE_OF) + [""]
+    return made + [""] + uses(world, names, set().union(*[it.imports for it in written]), MODULE_OF, local) + [""]
 
 
 def said(it):
@@ -204,7 +209,7 @@ def default(it, enums):
         made = [f"Ok({it.value} {{ {bits} }})"] if len(bits) <= LITERAL_WIDTH else [f"Ok({it.value} {{", f"    {bits},", "})"]
         return Default(made, "(λ it. it.bits)", str(getters.bits(it)), {"option_map"}, {it.value})
     if it.it.type == Field.TYPE_ENUM:
-        name, number = it.world.types[it.target], getters.number_of(it, enums)
+        name, number = local(it.world.types[it.target]), getters.number_of(it, enums)
         made = [f"Ok(EnumValue::Known({name}::{getters.variant(it, enums)}))"]
         words = {"option_map", "true", number.split()[0]}
         return Default(made, f"⟦<EnumValue<{name}> as Blank>⟧.meaning", f"(true, {number})", words, {"Blank", "EnumValue"})

@@ -16,13 +16,14 @@ LITERAL_WIDTH = 18
 LONGEST = 120
 
 
-def uses(world, names, own, module_of=MODULE):
-    """The use lines of names, whose modules are given, and of types of the .proto's, which are given by their full names."""
+def uses(world, names, own, module_of=MODULE, local=lambda name: name):
+    """The use lines of names, whose modules are given, and of types of the .proto's, which are given by their full names, as a file calls them."""
     by_module = {}
     for name in names:
         by_module.setdefault(module_of[name], set()).add(name)
     for full in own:
-        by_module.setdefault(world.module_of(full), set()).add(world.types[full])
+        name = world.types[full]
+        by_module.setdefault(world.module_of(full), set()).add(name if local(name) == name else f"{name} as {local(name)}")
 
     def order(module):
         """Where rt fmt puts a line: a name that stands alone among the modules, and names in braces behind them."""
