@@ -2,13 +2,14 @@
 # bench/real.sh [build|run] [MESSAGE..]: generated messages as people have them, read, sized and written, beside the peers; all messages if
 # none are named. With `build` it only makes what it runs, and with `run` it only runs what was made; bench/run.sh calls it for both.
 #
-# Ours is what the plugin makes of the .proto files of Debian's packages, in crates that are made and proved outside the repository; the
-# peers' code is made of the same files: C++ protobuf, prost by prost-build, nanopb with all members as pointers, and upb by reflection.
+# Ours is what the plugin makes of the .proto files of Debian's packages, in crates that are made outside the repository. The peers' code is
+# made of the same files: C++ protobuf, prost by prost-build, nanopb with all members as pointers, and upb by reflection.
 # The packages: libprotobuf-dev protobuf-compiler python3-protobuf librust-prost-dev librust-prost-types-dev librust-prost-build-dev
 # libupb-dev nanopb libnanopb-dev libosmpbf-dev libonnx-dev golang-github-prometheus-client-model-dev golang-etcd-server-dev
 #
 #   BENCH_BUILD, BENCH_CORE, BENCH_PASSES    as in run.sh
 #   BENCH_COUNT   0: no instructions under callgrind, which take a minute and more
+#   BENCH_PROVED  1: ours is proved first, which takes an hour or so; else it is built unproved, as real/unproved.sh says
 set -euo pipefail
 bench=$(cd "$(dirname "$0")" && pwd)
 top=$(dirname "$bench")
@@ -21,7 +22,6 @@ if [ "${1:-}" = build ] || [ "${1:-}" = run ]; then step=$1; shift; fi
 messages=("$@")
 [ $# -gt 0 ] || messages=(error_info descriptor metrics range osm descriptors places onnx)
 programs=(./ours ./prost ./cpp ./nanopb ./upb)
-kit=$(dirname "$(dirname "$(readlink -f "$(command -v rattle || echo /opt/rattle/bin/rattle)")")")
 
 # The .proto files, as the packages have them. etcd's name a library of options for Go, so its three messages are cut out of them.
 take_protos() {
@@ -52,7 +52,7 @@ take_data() {
     /usr/bin/python3 "$bench/real/data.py" "$build/protos" "$build/data"
 }
 
-# Ours: a crate for each .proto, and a static library over them, in a repository of its own, which keeps what was proved.
+# Ours: a crate for each .proto, and a program over them, in a repository of its own, which keeps what was proved.
 make_crate() {
     local house=$1 name=$2 file=$3
     shift 3
@@ -62,10 +62,10 @@ make_crate() {
 }
 
 build_ours() {
-    local house=$build/house
-    mkdir -p "$house/crates/real/src" "$house/crates/real/c"
+    local house=$build/house real=$build/house/crates/real
+    mkdir -p "$real/src" "$real/c"
     [ -d "$house/.git" ] || git init -q "$house"
-    "$top/tools/vendor" "$house" buffa_descriptor buffa_types buffa_recursive buffa_fields ${BENCH_BUILT---built} >&2
+    "$top/tools/vendor" "$house" buffa_descriptor buffa_types buffa_recursive buffa_fields --built >&2
     sed -i '/^real/d' "$house/crates.txt"
     make_crate "$house" error_info error_info.proto
     make_crate "$house" metrics metrics.proto
@@ -73,11 +73,15 @@ build_ours() {
     make_crate "$house" osm osmformat.proto leave=OSMPBF.HeaderBlock,leave=OSMPBF.HeaderBBox
     make_crate "$house" onnx onnx.proto
     printf '%s\n' 'real_error_info: buffa_fields' 'real_metrics: buffa_fields buffa_types' 'real_range: buffa_fields' 'real_osm: buffa_fields' \
-        'real_onnx: buffa_fields' >> "$house/crates.txt"
-    echo 'real staticlib: real_error_info real_metrics real_range real_osm real_onnx buffa_descriptor buffa_fields' >> "$house/crates.txt"
-    cp "$bench/real/ours/lib.rt.in" "$house/crates/real/src/lib.rt"
-    (cd "$house/crates/real" && RT_ALLOW_C=real rt lib ${BENCH_JOBS:+--jobs "$BENCH_JOBS"} >&2)
-    gcc -O2 -Wall -I"$bench" -I"$bench/real" -o "$build/ours" "$bench/real/ours.c" "$house/crates/real/out/libreal.a" "$kit/c/liblibc_c.a" -lm
+        'real_onnx: buffa_fields' 'real: real_error_info real_metrics real_range real_osm real_onnx buffa_descriptor buffa_fields anyhow' >> "$house/crates.txt"
+    cp "$bench/real/ours/main.rt.in" "$real/src/main.rt"
+    cp "$bench/bench.h" "$bench/real/real.h" "$bench/real/ours.c" "$real/c"
+    if [ "${BENCH_PROVED:-0}" = 1 ]; then
+        (cd "$real" && RT_ALLOW_C=real rt run < /dev/null >&2)
+        cp "$real/out/real" "$build/ours"
+    else
+        "$bench/real/unproved.sh" "$real" "$build/ours" "$real/c/ours.c"
+    fi
 }
 
 build_peers() {
@@ -111,12 +115,16 @@ run_all() {
             for program in "${programs[@]}"; do taskset -c "$core" "$program" "$message" >> lines.tsv; done
         done
     done
-    for program in "${programs[@]}"; do LD_PRELOAD=./count.so "$program" "${messages[@]}" >> lines.tsv; done
+    for message in "${messages[@]}"; do
+        for program in "${programs[@]}"; do LD_PRELOAD=./count.so "$program" "$message" >> lines.tsv; done
+    done
     [ "${BENCH_COUNT:-1}" = 1 ] || return 0
-    for program in "${programs[@]}"; do
-        rm -rf cg && mkdir cg
-        LD_PRELOAD=./instructions.so valgrind --tool=callgrind --callgrind-out-file=cg/out "$program" "${messages[@]}" 2> /dev/null \
-            | sed 's/\trequests /\tinstructions /' >> lines.tsv
+    for message in "${messages[@]}"; do
+        for program in "${programs[@]}"; do
+            rm -rf cg && mkdir cg
+            LD_PRELOAD=./instructions.so valgrind --tool=callgrind --callgrind-out-file=cg/out "$program" "$message" 2> /dev/null \
+                | sed 's/\trequests /\tinstructions /' >> lines.tsv
+        done
     done
 }
 
@@ -128,6 +136,7 @@ if [ "$step" != run ]; then
 fi
 if [ "$step" != build ]; then
     run_all
+    cd "$build"
     echo "real messages: $(date -u +%F), least of $passes passes; protobuf $(protoc --version | cut -d ' ' -f 2), prost, nanopb and upb by Debian's packages"
     /usr/bin/python3 "$bench/real/table.py" lines.tsv
 fi
