@@ -1,6 +1,7 @@
 #!/usr/bin/env bash
 # bench/run.sh [ENTRIES..]: map fields, trees, unknown fields, extensions and Items beside the peers, at 1,000, 10,000,
-# 100,000 and 1,000,000 entries if none are given. Prints tables of what is timed, and of requests for memory.
+# 100,000 and 1,000,000 entries if none are given, and then real messages, by real.sh. Prints tables of what is timed, and of
+# requests for memory.
 #
 # Ours is a static library over the crates of this repository; the peers are C++ protobuf and prost, by Debian's
 # packages (libprotobuf-dev, protobuf-compiler, librust-prost-dev, librust-indexmap-dev), and plain Rust. At each
@@ -9,7 +10,7 @@
 #   BENCH_BUILD   where it builds, outside the repository (buffa-bench in the user's cache); what it proves there, it keeps
 #   BENCH_CORE    the core (the last one)
 #   BENCH_PASSES  how often all of them run (3)
-#   BENCH_FIELDS  which tables (all of them, by the names in table.py)
+#   BENCH_FIELDS  which tables (all of them, by the names in table.py, and `real` for those of real.sh)
 #   BENCH_COUNT   1: instructions an entry under callgrind (Debian's valgrind), at the first number, in the place of times
 set -euo pipefail
 bench=$(cd "$(dirname "$0")" && pwd)
@@ -19,7 +20,11 @@ core=${BENCH_CORE:-$(($(nproc) - 1))}
 passes=${BENCH_PASSES:-3}
 sizes=("$@")
 [ $# -gt 0 ] || sizes=(1000 10000 100000 1000000)
-read -r -a fields <<< "${BENCH_FIELDS:-strings messages tree1 tree5 tree20 two records packed repeated message_list one items}"
+read -r -a fields <<< "${BENCH_FIELDS:-strings messages tree1 tree5 tree20 two records packed repeated message_list one items real}"
+is_real=
+for at in "${!fields[@]}"; do
+    [ "${fields[at]}" != real ] || { is_real=1; unset "fields[at]"; }
+done
 programs=(./ours ./peer_rust ./peer_cpp)
 kit=$(dirname "$(dirname "$(readlink -f "$(command -v rattle || echo /opt/rattle/bin/rattle)")")")
 # What ours stands on.
@@ -53,6 +58,7 @@ build_peers() {
     gcc -O2 -shared -fPIC -o "$build/count.so" "$bench/count.c"
 }
 
+if [ ${#fields[@]} -eq 0 ]; then exec "$bench/real.sh"; fi
 mkdir -p "$build/data"
 build_ours
 build_peers
@@ -68,6 +74,7 @@ if [ "${BENCH_COUNT:-0}" = 1 ]; then
                 | sed 's/allocations /instructions at /'
         done
     done
+    [ -z "$is_real" ] || "$bench/real.sh"
     exit
 fi
 : > lines.tsv
@@ -87,3 +94,4 @@ prost=$(awk '/^name = "prost"$/ {getline; gsub(/[^0-9.]/, ""); print}' rust/Carg
 echo "$(date -u +%F), $(rt version | head -n 1); protobuf $(protoc --version | cut -d ' ' -f 2), prost $prost, $(rustc --version);"
 echo "least of $passes passes, nanoseconds; requests for memory at the fewest entries."
 python3 "$bench/table.py" lines.tsv
+[ -z "$is_real" ] || "$bench/real.sh"
