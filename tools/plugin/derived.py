@@ -2,7 +2,7 @@
 
 
 def find_compared(messages):
-    """Says of each message whether `==` is derived of it: not where it holds itself, or a message in it, at any depth, does."""
+    """Says of each message whether `==` and `clone` are derived of it: not where it holds itself, or a message in it, at any depth, does."""
     without, before = {full for full, m in messages.items() if m.holds_itself}, None
     while without != before:
         before = set(without)
@@ -15,5 +15,16 @@ def find_compared(messages):
 
 def derives(it):
     """The line of what is derived."""
-    made = ["Clone"] * bool(it.world.clone) + ["Debug", "Drop"] + ["PartialEq", "Eq"] * bool(it.world.equal and it.is_compared)
+    made = ["Debug", "Drop"]
+    if it.is_compared:
+        made = ["Clone"] * bool(it.world.clone) + made + ["PartialEq", "Eq"] * bool(it.world.equal)
     return f"#[derive({', '.join(made)})]"
+
+
+def says_what_is_missing(message):
+    """What a message's comment says of what was asked for and isn't derived of it."""
+    asked = ["`==`"] * bool(message.world.equal) + ["`clone`"] * bool(message.world.clone)
+    if message.is_compared or not asked:
+        return []
+    missing = f"neither {' nor '.join(asked)}" if len(asked) > 1 else f"no {asked[0]}"
+    return ["", f"It has {missing}, since it holds itself, or a message in it does."]

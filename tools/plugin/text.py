@@ -7,7 +7,7 @@ import knots
 import labels
 import oneof
 import required
-from derived import derives
+from derived import derives, says_what_is_missing
 from names import MODULE, TERMS, TERMS_INSIDE, ordered, place, snake
 
 WIDTH = 100
@@ -93,7 +93,7 @@ def message_docs(message):
     for said, fields in remarks(message):
         if fields:
             made += ["", f"{said}: " + ", ".join(f"{f.name} = {f.number}" for f in fields) + "."]
-    made += ["", "It has no `==`, since it holds itself, or a message in it does."] * (bool(message.world.equal) and not message.is_compared)
+    made += says_what_is_missing(message)
     made += ["", "Its extensions are those of its `unknown_fields`."] * bool(message.rest)
     made += ["", "A MessageSet: its Items are among the fields that aren't declared, each a group of number 1."] * message.is_set
     return docs(made + [] if message.is_keeping else made + ["", "The fields that aren't declared are passed over."])
