@@ -39,7 +39,7 @@ pub use buffa_fields::oneofs::case::{Case, Set, case_reads_back};
 pub use buffa_fields::oneofs::one_of::{OneOf, visit_one_of};
 pub use buffa_fields::passes::visitor::Visitor;
 pub use buffa_recursive::inner_merger::InnerMerger;
-pub use buffa_recursive::keyed::{ByKey, Keyed};
+pub use buffa_recursive::map_keys::{ByKey, Keyed};
 pub use buffa_recursive::maps::take_map;
 pub use buffa_recursive::one_of::take_one_of;
 pub use buffa_recursive::recursive_fields::RecursiveFields;

@@ -5,8 +5,8 @@ ghost use Rattle.std.specs.Prelude.{◌≡◌, ◌≢◌, ◌↔◌, [], ◌∷�
 ghost use Rattle.buffa_wire.specs.Enums.{open_number};
 ghost use Rattle.buffa_codec.specs.Decoded.{LaterReadingsWin, ReadAlike, ReadingsJoin};
 ghost use Rattle.buffa_ext_laws.specs.MappedReadings.{ListsThrough, ReadsThrough, WritesThrough};
-ghost use Rattle.buffa_ext.specs.Steps.{ClearsAreOne, IsExactlySet, KeepsTheRest, LeavesOthers, SecondCounts};
-ghost use Rattle.buffa_ext.specs.Steps.{ComesLast, TakesOut, TakesThePlace};
+ghost use Rattle.buffa_ext.specs.SetsAndClears.{ClearsAreOne, IsExactlySet, KeepsTheRest, LeavesOthers, SecondCounts};
+ghost use Rattle.buffa_ext.specs.SetsAndClears.{ComesLast, TakesOut, TakesThePlace};
 ghost use Rattle.buffa_map.specs.Laws.{SizeIsLength};
 ghost use Rattle.buffa_map_laws.specs.Laws.{RewriteMeans, RunsJoin};
 ghost use Rattle.buffa_map.specs.Scalars.{delimited_writing};

@@ -3,7 +3,7 @@ use Rattle.std.proofs.Common.{◌≡◌, ℕ, ◌+◌, ◌≤◌, add_assoc, Lis
 use Rattle.std.proofs.lemmas.List.{map-append, take-map}
 use Rattle.std.proofs.Math.Seq.{take-append_seam}
 use Rattle.buffa_wire.specs.Records.{FieldData}
-use Rattle.buffa_ext.specs.Steps.{NumberStep, RefusedAt, StepTakesMemory, after, after_one, put_count, put_in}
+use Rattle.buffa_ext.specs.SetsAndClears.{NumberStep, RefusedAt, StepTakesMemory, after, after_one, put_count, put_in}
 
 -- one more step
 pub after-snoc : (rs : List (ℕ × FieldData)) (cs : List NumberStep) (c : NumberStep) → after rs (cs ++ c ∷ []) ≡ after_one (after rs cs) c

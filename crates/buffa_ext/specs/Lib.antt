@@ -1,5 +1,5 @@
 -- The words that this crate hands out.
-pub mod Steps
+pub mod SetsAndClears
 pub mod Defaults
 pub mod Messages
 pub mod MessageFacts

@@ -3,7 +3,7 @@
 ghost use Rattle.std.specs.Prelude.{◌≡◌, ◌≢◌, ◌≤◌, ◌+◌, ◌⊎◌, [], length, IfOk, OnOk, OnErr};
 ghost use Rattle.buffa_wire.specs.Records.{Held};
 ghost use Rattle.buffa_codec.specs.Decoded.{Refuses};
-ghost use Rattle.buffa_ext.specs.Steps.{IsSet, IsSetUnread};
+ghost use Rattle.buffa_ext.specs.SetsAndClears.{IsSet, IsSetUnread};
 
 use crate::descriptor::Extension;
 use crate::set::ExtensionSet;

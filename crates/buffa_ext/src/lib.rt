@@ -17,13 +17,13 @@
 #![tactic(auto)]
 
 pub mod back;
+pub mod change_records;
 pub mod codecs;
 pub mod descriptor;
 pub mod message;
-pub mod record;
+pub mod message_record;
 pub mod set;
-pub mod stage;
-pub mod steps;
+pub mod sets_and_clears;
 pub mod strict;
 
 pub use back::set_then_read;

@@ -12,7 +12,7 @@ ghost use Rattle.buffa_ext.specs.Messages.{cost_all, message_of};
 ghost use Rattle.buffa_ext.specs.Messages.{encoding_refusal, encodings_in};
 ghost use Rattle.buffa_ext.specs.MessageFacts.{message_back, spent, spent_cost};
 
-use crate::record::{Delimited, Grouped, MessageRecord};
+use crate::message_record::{Delimited, Grouped, MessageRecord};
 use buffa_codec::{ExtensionCodec, SingularCodec};
 use buffa_wire::{
     Budget, DEFAULT_UNKNOWN_FIELD_LIMIT, DecodeContext, DecodeError, EncodeError, Message,

@@ -9,10 +9,10 @@ ghost use Rattle.buffa_codec.specs.RecordsOfNumber.{sub};
 ghost use Rattle.buffa_codec.specs.Decoded.{Refuses};
 ghost use Rattle.buffa_codec.specs.Strict.{IsFaultOrFull};
 ghost use Rattle.buffa_ext.specs.Defaults.{IsDefaulted, IsRefused, ReadsNumber};
-ghost use Rattle.buffa_ext.specs.Steps.{HoldsRecord, IsCleared, IsSet};
+ghost use Rattle.buffa_ext.specs.SetsAndClears.{HoldsRecord, IsCleared, IsSet};
 
+use crate::change_records::{has_number, remove, replace};
 use crate::descriptor::{Declared, Extension};
-use crate::stage::{has_number, remove, replace};
 use buffa_codec::{ExtensionCodec, StrictCodec};
 use buffa_wire::{Blank, DecodeError, EncodeError, UnknownFields};
 use std::alloc::{AllocError, Global};

@@ -10,7 +10,7 @@ ghost use Rattle.buffa_ext.specs.Strict.{AreMessages, FirstRecordFault, ReachesS
 ghost use Rattle.buffa_ext.specs.StrictFacts.{no_fault, no_first_fault, one_left};
 
 use crate::message::MessageIn;
-use crate::record::MessageRecord;
+use crate::message_record::MessageRecord;
 use buffa_codec::{StrictCodec, StrictElementCodec};
 use buffa_wire::{
     Budget, DEFAULT_UNKNOWN_FIELD_LIMIT, DecodeContext, DecodeError, Message, RECURSION_LIMIT,

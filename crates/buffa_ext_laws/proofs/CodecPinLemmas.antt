@@ -7,7 +7,7 @@ use Rattle.buffa_bytes.specs.declared.error.EncodeError.TheVariants.{OutOfMemory
 use Rattle.buffa_wire.specs.BudgetLeft.{BudgetLeft, Pays, defaults, minus}
 use Rattle.buffa_wire.specs.Records.{FieldData}
 use Rattle.buffa_codec.specs.Decoded.{AddsSome, LaterReadingsWin, ReadsAll, ReadsList, elements, last_read}
-use Rattle.buffa_ext_laws.specs.PinnedCodecs.{AreValues, BeginsAlike, EncodingIsPinned, HasAnswer, LeavesOne, OneAnswer, OneList, RefusalIsPinned}
+use Rattle.buffa_ext_laws.specs.LeftOpenCodecs.{AreValues, BeginsAlike, EncodingIsPinned, HasAnswer, LeavesOne, OneAnswer, OneList, RefusalIsPinned}
 use Rattle.buffa_codec.specs.CodecFacts.{left_over}
 use Rattle.buffa_codec.proofs.FilteredLemmas.{last_read-append}
 use Rattle.std.proofs.lemmas.Option.{none-some, same_Some}

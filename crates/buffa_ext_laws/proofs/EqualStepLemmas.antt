@@ -7,9 +7,9 @@ use Rattle.std.proofs.lemmas.Bool.{and_from, false≢true}
 use Rattle.buffa_wire.specs.Equal.{field_data_eq, field_data_eq-Decides}
 use Rattle.buffa_wire.specs.RecordsOfValues.{field_data_of}
 use Rattle.buffa_wire.specs.declared.unknown_fields.UnknownFieldData.{UnknownFieldData}
-use Rattle.buffa_ext.specs.Steps.{step_of, clear, set}
-use Rattle.buffa_ext.specs.declared.steps.Step.{Step}
-use Rattle.buffa_ext.specs.declared.steps.Step.TheVariants.{Set, Clear}
+use Rattle.buffa_ext.specs.SetsAndClears.{step_of, clear, set}
+use Rattle.buffa_ext.specs.declared.sets_and_clears.Step.{Step}
+use Rattle.buffa_ext.specs.declared.sets_and_clears.Step.TheVariants.{Set, Clear}
 
 -- two payloads hold the same
 abbrev hold_one : UnknownFieldData → UnknownFieldData → Bool

@@ -12,7 +12,7 @@ use Rattle.buffa_codec.specs.CodecFacts.{left_over, minus_nothing}
 use Rattle.buffa_ext.specs.Defaults.{IsDefaulted}
 use Rattle.buffa_ext.specs.Messages.{AreMerged, IsEncodingRefused, LeavesOf, MergesRecords, cost_all, merged_all, message_of, encodings_in}
 use Rattle.buffa_ext.specs.MessageFacts.{all_merged, left_yes}
-use Rattle.buffa_ext_laws.specs.PinnedExtensions.{ListIsExact, MergingIsPinned, RecordMergeIsPinned}
+use Rattle.buffa_ext_laws.specs.LeftOpenExtensions.{ListIsExact, MergingIsPinned, RecordMergeIsPinned}
 use Rattle.std.proofs.lemmas.Option.{none-some, same_Some}
 use Rattle.std.proofs.lemmas.Bool.{false≢true}
 use Rattle.buffa_bytes.proofs.SequenceLemmas.{heads, tails}

@@ -7,7 +7,7 @@ use Rattle.buffa_wire.specs.Records.{FieldData}
 use Rattle.buffa_codec.specs.RecordsOfNumber.{sub, without, tagged}
 use Rattle.std.proofs.lemmas.List.Elements.{filter-append}
 use Rattle.buffa_codec.proofs.FilteredLemmas.{sub-append, sub-set, sub-set_other, sub-cons, sub-without_same, sub-without_other, sub-tagged_same, sub-tagged_other, without-tagged, without-without}
-use Rattle.buffa_ext.specs.Steps.{NumberStep, set, clear, after_one, after, step_says, history, IsExactlySet, KeepsTheRest, ReadsHistory, ComesLast, TakesOut}
+use Rattle.buffa_ext.specs.SetsAndClears.{NumberStep, set, clear, after_one, after, step_says, history, IsExactlySet, KeepsTheRest, ReadsHistory, ComesLast, TakesOut}
 
 pub last_or-some : {A : Type 0} (d : A) (o : Option A) (xs : List A) → unwrap_or (last_or o xs) d ≡ unwrap_or (last_or None xs) (unwrap_or o d)
 last_or-some d None [] = refl

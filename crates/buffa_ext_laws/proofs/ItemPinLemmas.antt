@@ -11,7 +11,7 @@ use Rattle.buffa_bytes.specs.Values.{tag_encoding}
 use Rattle.buffa_bytes.proofs.SequenceLemmas.{ok_same}
 use Rattle.buffa_wire.proofs.SpentLemmas.{same_left}
 use Rattle.buffa_message_set.specs.Item.{IsTypeId, ItemFault, SpendsUnknown, TakesItem, body_encoding, item_at, item_in, item_encoding}
-use Rattle.buffa_ext_laws.specs.PinnedItems.{GivesItem, ItemIsPinned, WrittenItemIsPinned}
+use Rattle.buffa_ext_laws.specs.LeftOpenItems.{GivesItem, ItemIsPinned, WrittenItemIsPinned}
 use Rattle.buffa_message_set.proofs.ItemLemmas.{one_item, read_sound, written_item}
 
 -- an unknown field is left

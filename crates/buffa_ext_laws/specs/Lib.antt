@@ -2,7 +2,7 @@
 pub mod Costs
 pub mod Names
 pub mod PackedGrammar
-pub mod PinnedCodecs
-pub mod PinnedExtensions
-pub mod PinnedItems
+pub mod LeftOpenCodecs
+pub mod LeftOpenExtensions
+pub mod LeftOpenItems
 pub mod MappedReadings

@@ -18,7 +18,7 @@ use buffa_ext::codecs::{
     SingularCodec, Sint32, Sint64, StringCodec, Uint32, Uint64,
 };
 use buffa_ext::message::MessageIn;
-use buffa_ext::record::{Delimited, Grouped};
+use buffa_ext::message_record::{Delimited, Grouped};
 use buffa_wire::{Enumeration, Message, scalars};
 use std::marker::PhantomData;
 

@@ -15,8 +15,8 @@ ghost use Rattle.buffa_bytes.specs.Scalars.{bool_encoding, fixed32_encoding, fix
 ghost use Rattle.buffa_bytes.specs.Scalars.{sfixed32_encoding, sfixed64_encoding, sint32_encoding, sint64_encoding, uint32_encoding};
 ghost use Rattle.buffa_bytes.specs.Scalars.{uint64_encoding};
 ghost use Rattle.buffa_wire.specs.BudgetLeft.{BudgetLeft, defaults, nothing};
-ghost use Rattle.buffa_ext_laws.specs.PinnedCodecs.{BeginsAlike, EncodingIsPinned, HasAnswer, LeavesOne, OneAnswer, OneList};
-ghost use Rattle.buffa_ext_laws.specs.PinnedCodecs.{RefusalIsPinned, UnpackingIsPinned};
+ghost use Rattle.buffa_ext_laws.specs.LeftOpenCodecs.{BeginsAlike, EncodingIsPinned, HasAnswer, LeavesOne, OneAnswer, OneList};
+ghost use Rattle.buffa_ext_laws.specs.LeftOpenCodecs.{RefusalIsPinned, UnpackingIsPinned};
 ghost use Rattle.buffa_wire.specs.Enums.{open_number};
 ghost use Rattle.buffa_wire.specs.NumberInRecord.{fixed32_in, fixed64_in, varint_in};
 ghost use Rattle.buffa_wire.specs.Records.{FieldData, bytes as held_bytes};

@@ -17,9 +17,9 @@ ghost use Rattle.buffa_codec.specs.RecordsOfNumber.{sub};
 ghost use Rattle.buffa_ext.specs.Defaults.{IsDefaulted, IsRefused, ReadsNumber};
 ghost use Rattle.buffa_ext.specs.Messages.{BeginsFieldIn, LeavesOf, cost_all, encodings_in, group_held, group_of};
 ghost use Rattle.buffa_ext.specs.Messages.{group_refusal, merged_all, message_of};
-ghost use Rattle.buffa_ext.specs.Steps.{HoldsRecord, IsCleared, IsSet, IsSetUnread, KeepsRoom, NumberStep, RefusedAt, StepTakesMemory, after};
-ghost use Rattle.buffa_ext.specs.Steps.{after_one, clear, history, put_count, set, step_of};
-ghost use Rattle.buffa_ext.specs.declared.steps.Step.TheVariants.{Clear, Set};
+ghost use Rattle.buffa_ext.specs.SetsAndClears.{HoldsRecord, IsCleared, IsSet, IsSetUnread, KeepsRoom, NumberStep, RefusedAt, StepTakesMemory, after};
+ghost use Rattle.buffa_ext.specs.SetsAndClears.{after_one, clear, history, put_count, set, step_of};
+ghost use Rattle.buffa_ext.specs.declared.sets_and_clears.Step.TheVariants.{Clear, Set};
 
 use buffa_codec::{ExtensionCodec, LastWins};
 use buffa_ext::descriptor::Declared;

@@ -7,7 +7,7 @@ ghost use Rattle.std.specs.declared.alloc.Global.{Global as GlobalValue};
 ghost use Rattle.std.specs.declared.alloc.AllocError.{AllocError as AllocErrorValue};
 ghost use Rattle.buffa_ext.specs.declared.descriptor.Make.{Make};
 ghost use Rattle.buffa_ext.specs.declared.descriptor.NoDefault.{NoDefault};
-ghost use Rattle.buffa_ext.specs.declared.steps.Step.TheVariants.{Set};
+ghost use Rattle.buffa_ext.specs.declared.sets_and_clears.Step.TheVariants.{Set};
 ghost use Rattle.buffa_bytes.specs.Pinned.{IsCopied, SameIsOne};
 ghost use Rattle.buffa_bytes.specs.declared.error.DecodeError.{DecodeError};
 ghost use Rattle.buffa_bytes.specs.declared.error.EncodeError.TheVariants.{MessageTooLarge};
@@ -15,23 +15,23 @@ ghost use Rattle.buffa_bytes.specs.declared.wire_type.WireType.TheVariants.{Leng
 ghost use Rattle.buffa_wire.specs.BudgetLeft.{BudgetLeft, Covers, Pays, PaysAtMost, defaults};
 ghost use Rattle.buffa_wire.specs.Parse.{Fits};
 ghost use Rattle.buffa_wire.specs.Records.{FieldData, bytes as held_bytes, records_of};
-ghost use Rattle.buffa_ext_laws.specs.PinnedCodecs.{OneAnswer};
+ghost use Rattle.buffa_ext_laws.specs.LeftOpenCodecs.{OneAnswer};
 ghost use Rattle.buffa_codec.specs.Decoded.{HasByte, bytes_held};
 ghost use Rattle.buffa_codec.specs.RecordsOfNumber.{sub};
-ghost use Rattle.buffa_ext.specs.Steps.{SameIsOneStep};
+ghost use Rattle.buffa_ext.specs.SetsAndClears.{SameIsOneStep};
 ghost use Rattle.buffa_ext.specs.Messages.{BeginsFieldIn, LeavesOf, MergesRecords, cost_all, group_held, group_of};
 ghost use Rattle.buffa_ext.specs.Messages.{group_refusal, merged_all, message_of, encoding_refusal, encodings_in};
-ghost use Rattle.buffa_ext_laws.specs.PinnedExtensions.{ClearIsPinned, DefaultIsPinned, ListIsExact, MergingIsPinned};
-ghost use Rattle.buffa_ext_laws.specs.PinnedExtensions.{RecordMergeIsPinned, SetIsPinned};
-ghost use Rattle.buffa_ext.specs.Steps.{ClearsAreOne, IsExactlySet, KeepsTheRest, LeavesOthers, NumberStep};
-ghost use Rattle.buffa_ext.specs.Steps.{ReadsHistory, SecondCounts, ComesLast, TakesOut, TakesThePlace, after, history};
+ghost use Rattle.buffa_ext_laws.specs.LeftOpenExtensions.{ClearIsPinned, DefaultIsPinned, ListIsExact, MergingIsPinned};
+ghost use Rattle.buffa_ext_laws.specs.LeftOpenExtensions.{RecordMergeIsPinned, SetIsPinned};
+ghost use Rattle.buffa_ext.specs.SetsAndClears.{ClearsAreOne, IsExactlySet, KeepsTheRest, LeavesOthers, NumberStep};
+ghost use Rattle.buffa_ext.specs.SetsAndClears.{ReadsHistory, SecondCounts, ComesLast, TakesOut, TakesThePlace, after, history};
 
 pub use crate::codec_names::{number_names_are_these, other_names_are_these};
 pub use crate::extension_words::{
     answers_of_codecs_are_these, answers_with_a_default_are_these, groups_are_these,
     histories_are_these, merged_messages_are_these, replays_are_refused_so, steps_are_these,
 };
-pub use crate::merging::{merged_records_are_these, one_record_is_merged_so};
+pub use crate::merging_words::{merged_records_are_these, one_record_is_merged_so};
 pub use crate::strict_readings::{
     packed_faults_are_these, record_faults_are_these, strict_lists_are_pinned,
     strict_messages_are_pinned, strict_number_lists_are_pinned, strict_values_are_pinned,
@@ -39,8 +39,8 @@ pub use crate::strict_readings::{
 use buffa_codec::{ExtensionCodec, LastWins, Repeated, SingularCodec};
 use buffa_ext::descriptor::{Declared, Make, NoDefault};
 use buffa_ext::message::{GroupCodec, MessageCodec, MessageIn};
-use buffa_ext::record::{Delimited, Grouped, MessageRecord};
-use buffa_ext::steps::{ReplayFault, Step};
+use buffa_ext::message_record::{Delimited, Grouped, MessageRecord};
+use buffa_ext::sets_and_clears::{ReplayFault, Step};
 use buffa_wire::{Message, MessageSpec};
 use std::alloc::{AllocError, Global};
 

@@ -13,7 +13,7 @@ ghost use Rattle.buffa_bytes.specs.declared.wire_type.WireType.{WireType};
 ghost use Rattle.buffa_wire.specs.BudgetLeft.{BudgetLeft, IsLimit};
 ghost use Rattle.buffa_message_set.specs.Item.{GroupsAreReadAlike, HasMessage, IsTypeId, Item, ItemFault, ItemsAreGroups, NoOtherFront, Reaches, SpendsUnknown};
 ghost use Rattle.buffa_message_set.specs.Item.{TakesItem, WrittenIsItem, body_encoding, item_at, item_encoding, item_in, said};
-ghost use Rattle.buffa_ext_laws.specs.PinnedItems.{ItemIsPinned, WrittenItemIsPinned};
+ghost use Rattle.buffa_ext_laws.specs.LeftOpenItems.{ItemIsPinned, WrittenItemIsPinned};
 
 use buffa_message_set::message_set::{ITEM_END_TAG, ITEM_START_TAG, MESSAGE_TAG, TYPE_ID_TAG};
 

@@ -9,5 +9,5 @@ pub mod codecs;
 pub mod extension_words;
 pub mod extensions;
 pub mod items;
-pub mod merging;
+pub mod merging_words;
 pub mod strict_readings;

@@ -20,7 +20,7 @@ use buffa_codec::{
     StrictCodec, StrictElementCodec, StrictSingularCodec, StringCodec,
 };
 use buffa_ext::message::MessageIn;
-use buffa_ext::record::MessageRecord;
+use buffa_ext::message_record::MessageRecord;
 use buffa_wire::Message;
 
 /// A strict reading of one value reads each record of the number, or there is one fault, that of the first record that isn't

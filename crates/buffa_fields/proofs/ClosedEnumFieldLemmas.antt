@@ -20,7 +20,7 @@ use Rattle.buffa_wire.specs.Enums.{Numbers}
 use Rattle.buffa_wire.specs.KeptField.{keep_charge}
 use Rattle.buffa_wire.specs.Records.{varint}
 use Rattle.buffa_wire.specs.Takes.{IsTaken}
-use Rattle.buffa_fields.specs.Unknowns.{Kept}
+use Rattle.buffa_fields.specs.UnknownsOfMembers.{Kept}
 use Rattle.buffa_fields.specs.UndeclaredFields.{KeepTakesMemory, keep_takes}
 use Rattle.buffa_fields.specs.Schema.{IsFieldKept}
 use Rattle.buffa_fields.specs.facts.UndeclaredFieldFacts.{kept_costs, kept_record}

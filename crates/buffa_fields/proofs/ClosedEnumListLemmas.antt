@@ -21,7 +21,7 @@ use Rattle.buffa_wire.specs.ByField.{value_of}
 use Rattle.buffa_wire.specs.Enums.{Numbers}
 use Rattle.buffa_wire.specs.Records.{varint}
 use Rattle.buffa_wire.specs.Takes.{IsTaken, Taker}
-use Rattle.buffa_fields.specs.Unknowns.{Kept}
+use Rattle.buffa_fields.specs.UnknownsOfMembers.{Kept}
 use Rattle.buffa_fields.specs.facts.InsideFacts.{delimited_alone}
 use Rattle.buffa_fields.specs.ClosedEnumLists.{PutsNumbers, RefusesKeptNumbers, declared_of, is_undeclared, kept_numbers_cost, kept_numbers_taken, numbers_cost, sifted, sifted_cost, undeclared_of, varints}
 use Rattle.buffa_fields.specs.facts.ClosedEnumListFacts.{sifted_costs}

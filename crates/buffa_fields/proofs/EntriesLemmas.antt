@@ -20,7 +20,7 @@ use Rattle.buffa_map.specs.EntryReading.{inner_charge, charge_of}
 use Rattle.buffa_map.specs.Laws.{LimitsAreTrue}
 use Rattle.buffa_map.specs.Merge.{MergesEntry, RefusesEntry, Rules, State, unknown_cost}
 use Rattle.buffa_map.specs.declared.map_entry.MapEntry.{MapEntry}
-use Rattle.buffa_fields.specs.Entries.{entry_cost, entry_taken}
+use Rattle.buffa_fields.specs.EntriesTaken.{entry_cost, entry_taken}
 use Rattle.buffa_fields.proofs.ValueLemmas.{wire_refused}
 use Rattle.buffa_fields.proofs.InsideLemmas.{alone_is, delimited_front, no_payload}
 

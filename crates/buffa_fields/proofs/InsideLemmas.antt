@@ -23,7 +23,7 @@ use Rattle.buffa_wire.specs.Records.{FieldData}
 use Rattle.buffa_wire.specs.Takes.{IsTaken, Charge, Taker, Untaken}
 use Rattle.buffa_wire.proofs.SpentLemmas.{PaysAtMost_nothing}
 use Rattle.buffa_wire.specs.Pinned.{done}
-use Rattle.buffa_fields.specs.facts.PairFacts.{part_taken}
+use Rattle.buffa_fields.specs.facts.FieldAndOthersFacts.{part_taken}
 use Rattle.buffa_fields.specs.Framing.{cost_as, each_cost_as}
 use Rattle.buffa_fields.specs.facts.InsideFacts.{delimited_alone}
 use Rattle.buffa_fields.specs.Submessages.{or_blank, taken_behind, taken_there}

@@ -25,7 +25,7 @@ use Rattle.buffa_fields.specs.facts.ListFacts.{element_falls, element_sound, ele
 use Rattle.buffa_fields.proofs.ValueLemmas.{fault_no_limit, value_err, value_ok, value_reported, wire_refused, wire_reported}
 use Rattle.buffa_fields.proofs.InsideLemmas.{alone_is, delimited_front, no_payload}
 use Rattle.std.specs.Option.{option_map}
-use Rattle.buffa_fields.specs.facts.PairFacts.{part_taken}
+use Rattle.buffa_fields.specs.facts.FieldAndOthersFacts.{part_taken}
 
 module _ {V : Type 0} (codec : Reading V) (plain : codec.nested ≡ false)
     (no_limit : (d : ℕ) (old : V) (c : PayloadValue) (x : DecodeError) → codec.reads d old c ≡ Err x → IsLimit x → ⊥) (d : ℕ) where

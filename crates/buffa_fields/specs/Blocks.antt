@@ -5,14 +5,14 @@ use Rattle.buffa_bytes.specs.declared.error.DecodeError.{DecodeError}
 use Rattle.buffa_bytes.specs.declared.tag.Tag.{Tag}
 use Rattle.buffa_wire.specs.BudgetLeft.{budget_left}
 use Rattle.buffa_wire.specs.declared.context.DecodeContext.{DecodeContext}
-use Rattle.buffa_fields.specs.Unknowns.{Unknowns, Kept}
-use Rattle.buffa_fields.specs.BothParts.{no_unknowns_part, both_part, part_within}
+use Rattle.buffa_fields.specs.UnknownsOfMembers.{Unknowns, Kept}
+use Rattle.buffa_fields.specs.TwoPartsAreOne.{no_unknowns_part, both_part, part_within}
 use Rattle.buffa_fields.specs.facts.BothPartFacts.{Alone, Leaves, no_unknowns_laws, both_alone, both_laws, both_leave, keeps_none, within_laws}
 use Rattle.buffa_fields.specs.ContextAfter.{ContextAfter}
 use Rattle.buffa_fields.specs.Schema.{Schema, Seen, Shape}
 use Rattle.buffa_fields.specs.facts.MemberPartFacts.{laws_with_unknowns, member_laws}
 use Rattle.buffa_fields.specs.MemberParts.{part_with_unknowns, member_part}
-use Rattle.buffa_fields.specs.Members.{part}
+use Rattle.buffa_fields.specs.MemberList.{part}
 use Rattle.buffa_fields.specs.facts.OneOfFacts.{one_of_laws}
 use Rattle.buffa_fields.specs.OneOfParts.{OneOf, one_of_part}
 use Rattle.buffa_fields.specs.MessageParts.{Part, PartLaws}

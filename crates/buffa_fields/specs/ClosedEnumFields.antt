@@ -18,7 +18,7 @@ use Rattle.buffa_wire.specs.Message.{FieldRefused}
 use Rattle.buffa_wire.specs.Enums.{Numbers}
 use Rattle.buffa_wire.specs.Records.{FieldData, varint}
 use Rattle.buffa_wire.specs.Takes.{Asks, IsTaken, Charge, Taker}
-use Rattle.buffa_fields.specs.Unknowns.{Kept}
+use Rattle.buffa_fields.specs.UnknownsOfMembers.{Kept}
 
 module _ (e : Numbers) where
   -- whether the low 32 bits of a varint are a declared number

@@ -19,7 +19,7 @@ use Rattle.buffa_wire.specs.Enums.{Numbers}
 use Rattle.buffa_wire.specs.Records.{varint}
 use Rattle.buffa_wire.specs.Takes.{IsTaken, Charge, Taker, framed}
 use Rattle.buffa_wire.specs.declared.context.DecodeContext.{DecodeContext}
-use Rattle.buffa_fields.specs.Unknowns.{Kept}
+use Rattle.buffa_fields.specs.UnknownsOfMembers.{Kept}
 use Rattle.buffa_fields.specs.Lists.{elements_taken}
 use Rattle.buffa_fields.specs.Refusals.{RefusesElements}
 use denote.Ref.{Bor}

@@ -21,8 +21,8 @@ use Rattle.buffa_map.specs.Entry.{EntryFault, IsEntry, EntryFieldsTakeMemory}
 use Rattle.buffa_map.specs.EntryReading.{entry_of, charge_of}
 use Rattle.buffa_map.specs.Run.{undeclared_record}
 use Rattle.buffa_map.specs.declared.map_entry.MapEntry.{MapEntry}
-use Rattle.buffa_fields.specs.Unknowns.{Kept}
-use Rattle.buffa_fields.specs.Entries.{entry_cost, entry_taken}
+use Rattle.buffa_fields.specs.UnknownsOfMembers.{Kept}
+use Rattle.buffa_fields.specs.EntriesTaken.{entry_cost, entry_taken}
 use Rattle.buffa_fields.specs.MapFields.{stepped}
 
 module _ {K V : Type 0} (key : Reading K) (val : Reading V) where

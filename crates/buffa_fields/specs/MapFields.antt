@@ -13,7 +13,7 @@ use Rattle.buffa_map.specs.EntryReading.{charge_of}
 use Rattle.buffa_map.specs.Encoding.{entry_encoding}
 use Rattle.buffa_map.specs.declared.map_entry.MapEntry.{MapEntry}
 use Rattle.buffa_wire.specs.Takes.{Asks, Charge, Taker}
-use Rattle.buffa_fields.specs.Entries.{entry_cost, entry_taken}
+use Rattle.buffa_fields.specs.EntriesTaken.{entry_cost, entry_taken}
 
 -- where pairs are put so, the pairs after an entry that said s: a declared one is put
 abbrev pub stepped : {K V : Type 0} → (List (K × V) → K → V → List (K × V)) → List (K × V) → MapEntry K V → List (K × V)

@@ -3,7 +3,7 @@
 use Rattle.std.specs.Prelude.{◌≡◌, ℕ, ◌==◌, ◌&&◌, not, max, []}
 use Rattle.std.specs.Option.{option_map}
 use Rattle.buffa_bytes.specs.Number.{IsNumber}
-use Rattle.buffa_fields.specs.Unknowns.{AllUnknowns, Unknowns, ReadsBackWithUnknowns, TookWithUnknowns, unknowns_levels, kept_among}
+use Rattle.buffa_fields.specs.UnknownsOfMembers.{AllUnknowns, Unknowns, ReadsBackWithUnknowns, TookWithUnknowns, unknowns_levels, kept_among}
 use Rattle.buffa_fields.specs.UndeclaredFields.{AllNumbers}
 use Rattle.buffa_fields.specs.Schema.{ReadsBackTo, Shape, Took, is_number, visited}
 use Rattle.buffa_fields.specs.MessageParts.{Part}

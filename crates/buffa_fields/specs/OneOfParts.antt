@@ -1,7 +1,7 @@
 -- A oneof is a part of a message. Source: the protobuf encoding guide, "Oneofs"; the protobuf language guide, "Oneof".
 use Rattle.std.specs.Prelude.{◌≡◌, ℕ, Bool, not, max, List, [], Option, None}
 use Rattle.std.specs.Option.{option_map}
-use Rattle.buffa_fields.specs.Unknowns.{Kept}
+use Rattle.buffa_fields.specs.UnknownsOfMembers.{Kept}
 use Rattle.buffa_fields.specs.Cases.{Cases, CasesLaws, CaseWords, or_cases, if_there, none_of, single_case}
 use Rattle.buffa_fields.specs.facts.CasesFacts.{or_laws, none_laws, single_laws}
 use Rattle.buffa_fields.specs.UndeclaredFields.{AllNumbers}

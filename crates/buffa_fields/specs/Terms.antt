@@ -30,15 +30,15 @@ pub use Rattle.buffa_map.specs.MessageField.{IsFieldSized, IsFieldWritten, Keeps
 pub use Rattle.buffa_map.specs.Pairs.{InOrder, ListsOnce, SamePairs, mean, means, put}
 pub use Rattle.buffa_map.specs.Encoding.{AllHold, HasEncoding, entry_encoding, field_size, field_encoding, record_encoding, saturated}
 pub use Rattle.buffa_map.specs.Rewrite.{FieldWriting, ForEntriesOf, IfNotDecoded, IfNotEncoded, MatchRefusal, RefusesDecoding, RefusesEncoding, RewritesRun, StopsRewrite, WhereDecoded, field_writing, rewrite_encoding}
-unfoldable pub use Rattle.buffa_fields.specs.Unknowns.{TookWithUnknowns}
+unfoldable pub use Rattle.buffa_fields.specs.UnknownsOfMembers.{TookWithUnknowns}
 unfoldable pub use Rattle.buffa_fields.specs.Schema.{AsksAsSaid, RefusesAsSaid, TakesAsSaid, TellsWrongType}
 pub use Rattle.buffa_fields.specs.Schema.{Took}
-pub use Rattle.buffa_fields.specs.facts.BlockFacts.{both_waited, first_comes, here, not_here, second_comes}
+pub use Rattle.buffa_fields.specs.facts.BlockVisitFacts.{both_waited, first_comes, here, not_here, second_comes}
 pub use Rattle.buffa_fields.specs.Blocks.{TakesBlock, TakesWithUnknowns, no_unknowns, block, block_of, both_blocks, eight, five, four, one, one_case, one_with_unknowns, seven, six, three, two}
 pub use Rattle.buffa_fields.specs.Cases.{other_of, this_of}
 pub use Rattle.buffa_fields.specs.Levels.{AreExactLevels}
-pub use Rattle.buffa_fields.specs.Members.{field, field_with_unknowns, keep_unknown, skip_unknown}
-pub use Rattle.buffa_fields.specs.OneOf.{one_of}
-pub use Rattle.buffa_fields.specs.OneOfCode.{coded_or}
+pub use Rattle.buffa_fields.specs.MemberList.{field, field_with_unknowns, keep_unknown, skip_unknown}
+pub use Rattle.buffa_fields.specs.NamingOneOfs.{one_of}
+pub use Rattle.buffa_fields.specs.OneOfStored.{coded_or}
 pub use Rattle.buffa_fields.specs.OneOfParts.{case, enum_of, no_case, some_cases}
 pub use Rattle.buffa_fields.specs.facts.SchemaFacts.{chosen, not_chosen}

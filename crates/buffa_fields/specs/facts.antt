@@ -1,5 +1,5 @@
 -- What the definitions come to: proofs that ghosts of `src/` name.
-pub mod PairFacts
+pub mod FieldAndOthersFacts
 pub mod ReadBackFacts
 pub mod ValueFacts
 pub mod BlankFacts
@@ -11,7 +11,7 @@ pub mod MemberPartFacts
 pub mod BothPartFacts
 pub mod CasesFacts
 pub mod OneOfFacts
-pub mod BlockFacts
+pub mod BlockVisitFacts
 pub mod ClosedEnumFieldFacts
 pub mod ClosedEnumListFacts
 pub mod EntriesFacts
@@ -27,6 +27,6 @@ pub mod ClosedEnumMapFacts
 pub mod EntryDepthFacts
 pub mod LevelFacts
 pub mod LevelKindFacts
-pub mod ValidFacts
+pub mod ValidRecordFacts
 pub mod FramingFacts
 pub mod VisitFacts

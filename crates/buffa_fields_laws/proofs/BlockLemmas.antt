@@ -5,13 +5,13 @@ use Rattle.std.specs.Option.{option_map}
 use Rattle.buffa_bytes.specs.declared.error.DecodeError.{DecodeError}
 use Rattle.buffa_bytes.specs.declared.wire_type.WireType.{WireType}
 use Rattle.buffa_wire.specs.BudgetLeft.{BudgetLeft}
-use Rattle.buffa_fields.specs.Unknowns.{Unknowns}
-use Rattle.buffa_fields_laws.specs.BlockSchemas.{SaysTheSame}
+use Rattle.buffa_fields.specs.UnknownsOfMembers.{Unknowns}
+use Rattle.buffa_fields_laws.specs.SameSchema.{SaysTheSame}
 use Rattle.buffa_fields.specs.Blocks.{Block, no_unknowns, block, block_of, both_blocks, one, one_case, one_with_unknowns}
-use Rattle.buffa_fields.specs.BothParts.{inward, none_given, outward, second_put}
+use Rattle.buffa_fields.specs.TwoPartsAreOne.{inward, none_given, outward, second_put}
 use Rattle.buffa_fields.specs.Schema.{Choice, Schema, Shape, Took}
-use Rattle.buffa_fields.specs.Members.{field, field_with_unknowns}
-use Rattle.buffa_fields.specs.OneOf.{one_of}
+use Rattle.buffa_fields.specs.MemberList.{field, field_with_unknowns}
+use Rattle.buffa_fields.specs.NamingOneOfs.{one_of}
 use Rattle.buffa_fields.specs.OneOfParts.{OneOf}
 use Rattle.buffa_fields.specs.facts.CasesFacts.{map_same}
 use Rattle.buffa_fields.specs.MemberParts.{member_part}

@@ -16,8 +16,8 @@ use Rattle.buffa_map.specs.declared.map_entry.MapEntry.{MapEntry}
 use Rattle.buffa_wire.specs.BudgetLeft.{nothing, plus, unknown_fields}
 use Rattle.buffa_wire.specs.ByField.{value_of}
 use Rattle.buffa_wire.specs.Enums.{Numbers}
-use Rattle.buffa_fields.specs.Unknowns.{Unknowns, Kept}
-use Rattle.buffa_fields.specs.Entries.{entry_cost, entry_taken}
+use Rattle.buffa_fields.specs.UnknownsOfMembers.{Unknowns, Kept}
+use Rattle.buffa_fields.specs.EntriesTaken.{entry_cost, entry_taken}
 use Rattle.buffa_fields.specs.facts.InsideFacts.{delimited_alone}
 use Rattle.buffa_fields.specs.ClosedEnumLists.{kept_numbers_cost, kept_numbers_taken, numbers_put, undeclared_of, varints}
 use Rattle.buffa_fields.specs.facts.ClosedEnumListFacts.{sifted_costs}
@@ -27,8 +27,8 @@ use Rattle.buffa_fields.specs.ClosedEnumFields.{kept_number_cost, kept_number_ta
 use Rattle.buffa_fields.specs.Schema.{Schema, Shape}
 use Rattle.buffa_fields.specs.Lists.{elements_taken}
 use Rattle.buffa_fields.specs.MapFields.{pair_cost}
-use Rattle.buffa_fields.specs.Members.{field_with_unknowns}
-use Rattle.buffa_fields.specs.Pinned.{GoesToUnknowns}
+use Rattle.buffa_fields.specs.MemberList.{field_with_unknowns}
+use Rattle.buffa_fields.specs.TakenClauses.{GoesToUnknowns}
 
 -- ---- a member that puts records aside, in front of others that keep fields
 pub goes_to_unknowns : {M P A B : Type 0} (k : ℕ) (get : M → P) (s : Shape P A) (a : Unknowns A) (l : Schema M B) → l.keeps ≡ true → GoesToUnknowns s a l (field_with_unknowns k get s a l) k

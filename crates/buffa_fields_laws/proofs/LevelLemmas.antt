@@ -9,7 +9,7 @@ use Rattle.buffa_wire.specs.Takes.{merged_of}
 use Rattle.buffa_fields.specs.Schema.{Schema}
 use Rattle.buffa_fields.specs.facts.LevelFacts.{back_holds, front_holds}
 use Rattle.buffa_fields.specs.Levels.{AreExactLevels, IsTakenWritten}
-use Rattle.buffa_recursive.specs.facts.WrittenFacts.{height_low, of_any_number, taken_written}
+use Rattle.buffa_recursive.specs.facts.WrittenAreTakenFacts.{height_low, of_any_number, taken_written}
 
 module _ {M X : Type 0} (l : Schema M X) (owes : l.Owes) (exact : l.Exact) (sound : l.sound ≡ true) where
   low : (d : ℕ) (old v w : X) → Fits (records_of (l.records v)) → l.normal v → merged_of l.takes d old (records_encoding (l.records v)) ≡ Some w → l.levels v ≤ d

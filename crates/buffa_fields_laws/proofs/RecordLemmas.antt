@@ -30,14 +30,14 @@ use Rattle.buffa_map.specs.Entry.{IsEntry}
 use Rattle.buffa_map.specs.EntryReading.{entry_of}
 use Rattle.buffa_map.specs.declared.map_entry.MapEntry.{MapEntry}
 use Rattle.buffa_fields.proofs.InsideLemmas.{wire_taken}
-use Rattle.buffa_fields.specs.Entries.{entry_cost, entry_taken, whole_entry_in}
+use Rattle.buffa_fields.specs.EntriesTaken.{entry_cost, entry_taken, whole_entry_in}
 use Rattle.buffa_fields.specs.facts.GroupFacts.{body_is}
 use Rattle.buffa_fields.specs.Groups.{group_body, group_merged}
 use Rattle.buffa_fields.specs.facts.ListFacts.{element_falls, elements_end, elements_next}
 use Rattle.buffa_fields.specs.Lists.{element_at, elements_in, elements_taken, packed_in}
 use Rattle.buffa_fields.specs.Schema.{is_number}
 use Rattle.buffa_fields.specs.Submessages.{inside, message_cost, message_merged}
-use Rattle.buffa_fields.specs.facts.PairFacts.{number_of_test}
+use Rattle.buffa_fields.specs.facts.FieldAndOthersFacts.{number_of_test}
 use Rattle.buffa_fields.specs.RepeatedMessages.{messages_cost}
 use Rattle.buffa_fields.specs.facts.ValueFacts.{open_level}
 use Rattle.buffa_fields.specs.Values.{all_of, field_value_at, value_taken}

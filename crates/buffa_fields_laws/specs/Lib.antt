@@ -1,4 +1,4 @@
 -- The words that this crate hands out.
-pub mod BlockSchemas
+pub mod SameSchema
 pub mod OneOfClauses
 pub mod MessagesInside

@@ -5,13 +5,13 @@ ghost use Rattle.std.specs.Option.{option_map};
 ghost use Rattle.buffa_bytes.specs.declared.error.DecodeError.{DecodeError};
 ghost use Rattle.buffa_wire.specs.BudgetLeft.{BudgetLeft};
 ghost use Rattle.buffa_wire.specs.Records.{FieldData};
-ghost use Rattle.buffa_fields_laws.specs.BlockSchemas.{SaysTheSame, as_with_unknowns};
-ghost use Rattle.buffa_fields.specs.Unknowns.{TookWithUnknowns};
+ghost use Rattle.buffa_fields_laws.specs.SameSchema.{SaysTheSame, as_with_unknowns};
+ghost use Rattle.buffa_fields.specs.UnknownsOfMembers.{TookWithUnknowns};
 ghost use Rattle.buffa_fields.specs.Blocks.{no_unknowns, block, block_of, both_blocks, one, one_case, one_with_unknowns};
-ghost use Rattle.buffa_fields.specs.BothParts.{inward};
+ghost use Rattle.buffa_fields.specs.TwoPartsAreOne.{inward};
 ghost use Rattle.buffa_fields.specs.Schema.{Took};
-ghost use Rattle.buffa_fields.specs.Members.{field, field_with_unknowns};
-ghost use Rattle.buffa_fields.specs.OneOf.{one_of};
+ghost use Rattle.buffa_fields.specs.MemberList.{field, field_with_unknowns};
+ghost use Rattle.buffa_fields.specs.NamingOneOfs.{one_of};
 
 use buffa_fields::members::keeps_unknowns::KeepsUnknowns;
 use buffa_fields::messages::member_block::MemberBlock;

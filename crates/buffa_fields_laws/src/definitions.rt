@@ -23,17 +23,17 @@ ghost use Rattle.buffa_wire.specs.RecordReading.{field_at};
 ghost use Rattle.buffa_wire.specs.Records.{FieldData, records_of, varint};
 ghost use Rattle.buffa_wire.specs.Takes.{IsTaken, Charge, Taker, merged_of};
 ghost use Rattle.buffa_map.specs.declared.map_entry.MapEntry.{MapEntry};
-ghost use Rattle.buffa_fields.specs.Unknowns.{AllUnknowns, TookWithUnknowns, unknowns_levels};
+ghost use Rattle.buffa_fields.specs.UnknownsOfMembers.{AllUnknowns, TookWithUnknowns, unknowns_levels};
 ghost use Rattle.buffa_fields.specs.UndeclaredFields.{AllNumbers};
 ghost use Rattle.buffa_fields.specs.ClosedEnumLists.{declared_of, undeclared_of, varints};
 ghost use Rattle.buffa_fields.specs.ClosedEnumFields.{undeclared_number};
 ghost use Rattle.buffa_fields.specs.Schema.{Choice, IsFieldKept, Passed, Took};
 ghost use Rattle.buffa_fields.specs.MapFields.{stepped};
-ghost use Rattle.buffa_fields.specs.Members.{field_with_unknowns, keep_unknown};
+ghost use Rattle.buffa_fields.specs.MemberList.{field_with_unknowns, keep_unknown};
 ghost use Rattle.buffa_fields.specs.Submessages.{FitsInside};
 ghost use Rattle.buffa_fields_laws.specs.OneOfClauses.{CaseOrOthers};
 ghost use Rattle.buffa_fields.specs.OrderedMaps.{KeysAscend};
-ghost use Rattle.buffa_fields.specs.Pinned.{AmongKept, CostsEach, GoesToUnknowns, UnknownsOrOthers, LeavesAlone, MemberOrOthers, PassedOver, PutsToUnknowns, TakeAlike};
+ghost use Rattle.buffa_fields.specs.TakenClauses.{AmongKept, CostsEach, GoesToUnknowns, UnknownsOrOthers, LeavesAlone, MemberOrOthers, PassedOver, PutsToUnknowns, TakeAlike};
 ghost use Rattle.buffa_fields.specs.Refusals.{RefusesUnder};
 ghost use Rattle.buffa_fields.specs.RefusedMessage.{IsMemberRefused, MergingTakesMemory};
 ghost use Rattle.buffa_fields.specs.Values.{IfThere};
@@ -85,7 +85,7 @@ pub fn members_take_so<N: Member>()
 {}
 
 /// The same of a member that puts aside what it doesn't understand, and of the records that are kept beside it.
-#[tactic(auto, unfolding(buffa_fields::specs::Unknowns::TookWithUnknowns))]
+#[tactic(auto, unfolding(buffa_fields::specs::UnknownsOfMembers::TookWithUnknowns))]
 pub fn members_with_unknowns_take_so<N: KeepsUnknowns>()
     ensures { (d : ℕ) (old : N.Part) (kept : List (ℕ × FieldData)) (n : ℕ) (w : WireType) (bs : List ℕ) (before : BudgetLeft)
         (r : Result (Unit {0}) DecodeError) (new : N.Part) (keeps : List (ℕ × FieldData)) (after : BudgetLeft) (rest : List ℕ) →

@@ -137,7 +137,7 @@ where
 
 /// A field of a map, where a length and so many bytes are there, costs the units of a pair, and what the messages in its entry cost, also
 /// where the entry is refused. One of another wire type costs nothing.
-#[tactic(auto, unfolding(buffa_fields::specs::Entries::entry_cost))]
+#[tactic(auto, unfolding(buffa_fields::specs::EntriesTaken::entry_cost))]
 pub fn entries_cost_what_is_in_them<KC: MapCodec, VC: MapCodec, N: Message>()
 where
     KC::Value: MapKey + Hash + OrderedKey,

@@ -5,7 +5,7 @@ ghost use Rattle.buffa_wire.specs.Parse.{Fits};
 ghost use Rattle.buffa_wire.specs.Records.{FieldData, records_of};
 ghost use Rattle.buffa_wire.specs.Encoding.{records_encoding};
 ghost use Rattle.buffa_fields.specs.Levels.{AreExactLevels};
-ghost use Rattle.buffa_fields.specs.Members.{field, field_with_unknowns, keep_unknown, skip_unknown};
+ghost use Rattle.buffa_fields.specs.MemberList.{field, field_with_unknowns, keep_unknown, skip_unknown};
 
 use buffa_fields::members::explicit_field::ExplicitField;
 use buffa_fields::members::group_field::GroupField;

@@ -6,23 +6,23 @@ ghost use Rattle.buffa_bytes.specs.declared.error.DecodeError.{DecodeError};
 ghost use Rattle.buffa_bytes.specs.declared.wire_type.WireType.{WireType};
 ghost use Rattle.buffa_wire.specs.BudgetLeft.{BudgetLeft};
 ghost use Rattle.buffa_wire.specs.Records.{FieldData};
-ghost use Rattle.buffa_fields.specs.Unknowns.{ReadsBackWithUnknowns};
-ghost use Rattle.buffa_fields_laws.specs.BlockSchemas.{SaysAlike, SaysTheSame};
+ghost use Rattle.buffa_fields.specs.UnknownsOfMembers.{ReadsBackWithUnknowns};
+ghost use Rattle.buffa_fields_laws.specs.SameSchema.{SaysAlike, SaysTheSame};
 ghost use Rattle.buffa_recursive.specs.MessageTree.{MessageTree, TreeList, Maybe, Rest, InnerMembers, children_list, head_many, head_one, message_tree, tree_of, many, no_inner, of_list, of_option, one, option_of, rest_of, tail_inner};
 ghost use Rattle.buffa_fields.specs.Schema.{ReadsBackTo};
 ghost use Rattle.buffa_recursive.specs.OneOfMeaning.{TookByMeaning};
-ghost use Rattle.buffa_fields.specs.Members.{field, field_with_unknowns, keep_unknown, skip_unknown};
-ghost use Rattle.buffa_fields.specs.OneOf.{one_of};
+ghost use Rattle.buffa_fields.specs.MemberList.{field, field_with_unknowns, keep_unknown, skip_unknown};
+ghost use Rattle.buffa_fields.specs.NamingOneOfs.{one_of};
 ghost use Rattle.buffa_fields_laws.specs.OneOfClauses.{CaseByMeaningOrOthers};
 ghost use Rattle.buffa_fields.specs.OneOfParts.{case_means};
 ghost use Rattle.buffa_recursive.specs.MemberList.{MemberList, keeps_unknown, recursive_message, list_inside, map_inside, member, member_with_unknowns, member_one_of, one_inside, skips_unknown};
 ghost use Rattle.buffa_recursive.specs.MapTree.{pairs_by_semantics};
-ghost use Rattle.buffa_fields.specs.Pinned.{UnknownsByMeaningOrOthers, MemberByMeaningOrOthers};
+ghost use Rattle.buffa_fields.specs.TakenClauses.{UnknownsByMeaningOrOthers, MemberByMeaningOrOthers};
 ghost use Rattle.buffa_recursive.specs.InnerMessages.{Semantics, as_other, child_shape, list_shape};
 
 use buffa_fields::members::keeps_unknowns::KeepsUnknowns;
 use buffa_fields::oneofs::one_of::OneOf;
-use buffa_recursive::keyed::Keyed;
+use buffa_recursive::map_keys::Keyed;
 
 /// Some members of a message that holds itself, for contracts. A message has `Own` besides the messages of its own type, and these
 /// members have `These` of it.
@@ -43,7 +43,7 @@ pub trait OpenMembers {
 /// A member of another type, in front of others, is that member of a list of members, and the others stand behind it; but where these
 /// take a field, it is said that the member means what it did, and not that it is the same. So it is with one that puts records aside,
 /// and with a oneof, whose case took a field where it took it of some values that mean this, before and after.
-#[tactic(auto, unfolding(buffa_fields::specs::Schema::AsksAsSaid, buffa_fields::specs::Schema::RefusesAsSaid, buffa_fields::specs::Schema::TakesAsSaid, buffa_fields::specs::Schema::TellsWrongType, buffa_fields::specs::Unknowns::TookWithUnknowns))]
+#[tactic(auto, unfolding(buffa_fields::specs::Schema::AsksAsSaid, buffa_fields::specs::Schema::RefusesAsSaid, buffa_fields::specs::Schema::TakesAsSaid, buffa_fields::specs::Schema::TellsWrongType, buffa_fields::specs::UnknownsOfMembers::TookWithUnknowns))]
 pub fn members_of_other_types_are_named_so<F, T: OpenMembers, N: KeepsUnknowns, E: OneOf>()
     ensures member { (k : ℕ) (get : F → N.Part) (others : F → Rest T.Own T.These) → SaysAlike (λ v. v)
         ((member k N.shape T.open).schema (λ m. ((N.shape.meaning (get m), (others m).0), (others m).1)) T.semantics)

@@ -14,7 +14,7 @@ ghost use Rattle.buffa_wire.specs.Enums.{numbers};
 ghost use Rattle.buffa_map.specs.Entry.{IsEntry};
 ghost use Rattle.buffa_map.specs.Run.{undeclared_record};
 ghost use Rattle.buffa_map.specs.declared.map_entry.MapEntry.{MapEntry};
-ghost use Rattle.buffa_fields.specs.Unknowns.{AllUnknowns, unknowns_levels, take_with_unknowns};
+ghost use Rattle.buffa_fields.specs.UnknownsOfMembers.{AllUnknowns, unknowns_levels, take_with_unknowns};
 ghost use Rattle.buffa_fields.specs.ClosedEnumLists.{RefusesKeptNumbers, declared_of, kept_numbers_cost, kept_numbers_taken, undeclared_of, varints};
 ghost use Rattle.buffa_fields.specs.ClosedEnumMaps.{IsUnknownEntry, KeptPairTakesMemory, RefusesKeptPair, unknown_entry_levels, kept_pair_cost, kept_pair_taken};
 ghost use Rattle.buffa_fields.specs.ClosedEnumFields.{IsUnknownNumber, KeptNumberTakesMemory, RefusesKeptNumber, kept_number_cost, kept_number_taken, undeclared_number};
@@ -31,7 +31,7 @@ ghost use Rattle.buffa_fields.specs.UndeclaredFields.{AllNumbers, IsFieldThere};
 ghost use Rattle.buffa_fields.specs.Lists.{ElementsTakeMemory, check_list_wire, element_records, elements_taken, packed_records};
 ghost use Rattle.buffa_fields.specs.MapFields.{PairTakesMemory, pair_cost, pair_taken, entry_records, stepped};
 ghost use Rattle.buffa_fields.specs.Schema.{Choice, both_charge, both_take, is_number};
-ghost use Rattle.buffa_fields.specs.Members.{field, field_with_unknowns, keep_unknown, skip_unknown};
+ghost use Rattle.buffa_fields.specs.MemberList.{field, field_with_unknowns, keep_unknown, skip_unknown};
 ghost use Rattle.buffa_fields.specs.Groups.{GroupTakesMemory, group_cost, group_field_data, group_merged, group_records};
 ghost use Rattle.buffa_fields.specs.Submessages.{FitsInside, MessageTakesMemory, message_cost, message_levels, message_merged, message_records, message_slots, taken_behind, taken_there};
 ghost use Rattle.buffa_fields.specs.MapsOfMessages.{pair_levels, pair_records, pair_slots};
@@ -41,7 +41,7 @@ ghost use Rattle.buffa_fields.specs.RepeatedGroups.{GroupsTakeMemory, groups_cos
 ghost use Rattle.buffa_fields.specs.Refusals.{RefusesAs, RefusesElements, RefusesGroup, RefusesMessage, RefusesNew, RefusesPair, RefusesUnder};
 ghost use Rattle.buffa_fields.specs.MemberRecords.{explicit_records, implicit_records};
 ghost use Rattle.buffa_wire.specs.Takes.{cost_of, merged_of};
-ghost use Rattle.buffa_fields.specs.Pinned.{AmongKept, CostsEach, GoesToUnknowns, UnknownsOrOthers, LeavesAlone, MemberOrOthers, PassedOver, PutsToUnknowns, TakeAlike};
+ghost use Rattle.buffa_fields.specs.TakenClauses.{AmongKept, CostsEach, GoesToUnknowns, UnknownsOrOthers, LeavesAlone, MemberOrOthers, PassedOver, PutsToUnknowns, TakeAlike};
 ghost use Rattle.buffa_fields.specs.Values.{IfThere, RefusesAlone, ValueTakesMemory, free, some_taken, value_taken};
 
 pub use crate::definitions::{

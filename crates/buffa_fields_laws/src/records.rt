@@ -20,7 +20,7 @@ ghost use Rattle.buffa_map.specs.Pairs.{put};
 ghost use Rattle.buffa_map.specs.declared.map_entry.MapEntry.{MapEntry};
 ghost use Rattle.buffa_fields.specs.Groups.{group_merged};
 ghost use Rattle.buffa_fields.specs.Lists.{elements_in};
-ghost use Rattle.buffa_fields.specs.Members.{field, field_with_unknowns};
+ghost use Rattle.buffa_fields.specs.MemberList.{field, field_with_unknowns};
 ghost use Rattle.buffa_fields.specs.Submessages.{message_merged};
 
 use buffa_fields::members::explicit_field::ExplicitField;

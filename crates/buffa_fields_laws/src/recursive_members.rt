@@ -14,7 +14,7 @@ ghost use Rattle.buffa_fields.specs.MapFields.{PairTakesMemory, pair_cost, pair_
 ghost use Rattle.buffa_fields.specs.Submessages.{FitsInside, message_cost, message_levels, message_merged, message_records, message_slots, taken_there};
 ghost use Rattle.buffa_fields.specs.MapsOfMessages.{pair_levels, pair_records, pair_slots};
 ghost use Rattle.buffa_fields.specs.OrderedMaps.{KeysAscend};
-ghost use Rattle.buffa_fields.specs.Pinned.{TakeAlike};
+ghost use Rattle.buffa_fields.specs.TakenClauses.{TakeAlike};
 ghost use Rattle.buffa_fields.specs.Refusals.{RefusesBoxed, RefusesPair};
 ghost use Rattle.buffa_fields.specs.RepeatedMessages.{MessagesTakeMemory, messages_cost, messages_levels, messages_records, messages_slots, messages_taken};
 ghost use Rattle.buffa_fields.specs.RefusedMessage.{IsMemberRefused};
@@ -23,7 +23,7 @@ ghost use Rattle.buffa_fields.specs.Values.{IfThere};
 
 use buffa_fields::members::ordered_key::OrderedKey;
 use buffa_map::map_codec::MapCodec;
-use buffa_recursive::keyed::{ByKey, Keyed};
+use buffa_recursive::map_keys::{ByKey, Keyed};
 use buffa_recursive::recursive_fields::RecursiveFields;
 use buffa_recursive::recursive_meaning::{RecursiveFieldByField, RecursiveMeaning};
 use buffa_wire::{MessageMethods, MessageSpec, WireType};

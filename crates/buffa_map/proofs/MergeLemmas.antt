@@ -13,7 +13,7 @@ use Rattle.buffa_wire.specs.Records.{FieldData, bytes}
 use Rattle.buffa_map.specs.Entry.{EntryFault, FaultOf, IsEntry, EntryFieldsTakeMemory}
 use Rattle.buffa_map.specs.EntryReading.{blanks, inner_charge, charge_at, charge_of}
 use Rattle.buffa_map.specs.Merge.{EntryTakesMemory, MergesEntry, MergesWhole, RefusesEntry, RefusesWhole, Rules, State, state, unknown_cost}
-use Rattle.buffa_map.specs.EntryFields.{ReadsParts, RefusesCut, RefusesParts}
+use Rattle.buffa_map.specs.EntryFieldsSpent.{ReadsParts, RefusesCut, RefusesParts}
 use Rattle.buffa_map.specs.Pairs.{InOrder, SamePairs, put}
 use Rattle.buffa_map.specs.declared.map_entry.MapEntry.{MapEntry}
 use Rattle.buffa_bytes.proofs.UnreadLemmas.{past_cut}

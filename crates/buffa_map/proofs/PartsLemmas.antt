@@ -7,7 +7,7 @@ use Rattle.buffa_bytes.specs.Scan.{ParsesEach}
 use Rattle.buffa_map.specs.Codec.{AlwaysDeclared, Reading}
 use Rattle.buffa_map.specs.Entry.{FaultOf, IsEntryField, MergesFields, RefusesFields}
 use Rattle.buffa_map.specs.EntryReading.{blanks, charge_at, charge_of}
-use Rattle.buffa_map.specs.EntryFields.{ReadsParts, RefusesParts}
+use Rattle.buffa_map.specs.EntryFieldsSpent.{ReadsParts, RefusesParts}
 use Rattle.buffa_map.specs.declared.map_entry.MapEntry.{MapEntry}
 use Rattle.buffa_map.proofs.ChargeLemmas.{lacks_after}
 

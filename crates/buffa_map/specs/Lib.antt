@@ -8,7 +8,7 @@ pub mod EntryReading
 pub mod Run
 pub mod RunReading
 pub mod Merge
-pub mod EntryFields
+pub mod EntryFieldsSpent
 pub mod Encoding
 pub mod Message
 pub mod MessageFacts

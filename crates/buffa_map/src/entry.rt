@@ -7,7 +7,7 @@ ghost use Rattle.buffa_wire.specs.BudgetLeft.{budget_left, plus, units};
 ghost use Rattle.buffa_map.specs.Entry.{entry_meaning};
 ghost use Rattle.buffa_map.specs.Merge.{MergesEntry, MergesWhole, RefusesEntry, RefusesWhole, rules, state, records_before, records_after, capacity_before, capacity_after};
 ghost use Rattle.buffa_map.specs.Pairs.{InOrder, SamePairs, put};
-ghost use Rattle.buffa_map.specs.EntryFields.{ReadsCut, ReadsParts, RefusesCut, RefusesParts};
+ghost use Rattle.buffa_map.specs.EntryFieldsSpent.{ReadsCut, ReadsParts, RefusesCut, RefusesParts};
 
 use crate::codec::{MapCodec, MapValueDecode};
 use crate::entry_fields::merge_fields;

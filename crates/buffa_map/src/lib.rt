@@ -40,6 +40,6 @@ mod ordered;
 mod rewrite;
 mod run;
 mod size;
-mod sized;
+mod size_and_write;
 mod storage;
 mod write;

@@ -23,6 +23,6 @@ pub use crate::message_write::{write_message_field, write_message_field_by};
 pub use crate::rewrite::{RewriteError, rewrite_map_field};
 pub use crate::run::read_map_field;
 pub use crate::size::field_len;
-pub use crate::sized::size_and_write_field;
+pub use crate::size_and_write::size_and_write_field;
 pub use crate::storage::{MapStorage, MapWalk, StableOrder, StableWalk};
 pub use crate::write::write_field;

@@ -29,7 +29,7 @@ use Rattle.buffa_map.specs.EntryReading.{blanks, entry_field_at, field_charge, i
 use Rattle.buffa_map_laws.specs.EntryWords.{EntriesAreFields, EntriesAreMerged, EntriesCharge, FieldTakesMemory, PairsAreLists, RefusedEntriesStay, RulesAreMet, RunsAreEntries}
 use Rattle.buffa_map.specs.Merge.{EntryTakesMemory, MergesEntry, ReadsRun, RefusesRun, Rules, State, kept_of_entry, kept_of_run, unknown_cost}
 use Rattle.buffa_map.specs.Pairs.{SamePairs, put}
-use Rattle.buffa_map.specs.EntryFields.{RefusesParts}
+use Rattle.buffa_map.specs.EntryFieldsSpent.{RefusesParts}
 use Rattle.buffa_map.specs.Run.{ArePaid, EntryRecord, IsRecord, fold_entries, step, undeclared}
 use Rattle.buffa_map.specs.declared.map_entry.MapEntry.{MapEntry}
 use Rattle.buffa_map.proofs.EntryLemmas.{field_complete, field_step}

@@ -21,7 +21,7 @@ use Rattle.buffa_map.specs.Codec.{Writing}
 use Rattle.buffa_map.specs.MessageField.{IsFieldSized, IsFieldWritten, IsSmallField}
 use Rattle.buffa_map.specs.Merge.{Rules, state, unknown_cost}
 use Rattle.buffa_map.specs.Pairs.{ListsOnce, SamePairs, put}
-use Rattle.buffa_map_laws.specs.PinnedEncodings.{MapFieldIsPinned, MessagesArePinned, NoneIsFull, PutIsPinned, RewriteIsPinned}
+use Rattle.buffa_map_laws.specs.LeftOpenEncodings.{MapFieldIsPinned, MessagesArePinned, NoneIsFull, PutIsPinned, RewriteIsPinned}
 use Rattle.buffa_map.specs.Rewrite.{RefusesDecoding, RefusesEncoding, RefusesRewrite, RewritesRun}
 use Rattle.buffa_map.specs.Run.{EntryRecord, ArePaid, Run, fold_entries, undeclared_records}
 use Rattle.buffa_map.specs.Encoding.{HasEncoding, RefusesField, WritesField, entry_encoding, field_encoding, saturated}

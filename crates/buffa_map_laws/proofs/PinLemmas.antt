@@ -19,7 +19,7 @@ use Rattle.buffa_map.specs.Entry.{EntryFault}
 use Rattle.buffa_map.specs.EntryReading.{inner_charge, charge_at, charge_of, blanks}
 use Rattle.buffa_map.specs.Merge.{RefusesEntry, Rules, State, RefusesRun, unknown_cost, kept_of_entry, kept_of_run}
 use Rattle.buffa_map.specs.Pairs.{SamePairs}
-use Rattle.buffa_map_laws.specs.Pinned.{SameState, EntryIsPinned, RunIsPinned, ValueIsPinned}
+use Rattle.buffa_map_laws.specs.LeftOpen.{SameState, EntryIsPinned, RunIsPinned, ValueIsPinned}
 use Rattle.buffa_map.specs.Run.{EntryRecord, ArePaid, RecordFault, Run, fold_entries, cost_inside, step, undeclared}
 use Rattle.buffa_map.specs.RunReading.{record_at}
 use Rattle.buffa_map.proofs.EntryLemmas.{ImplicitField, charge_by-nothing, value_faulty}

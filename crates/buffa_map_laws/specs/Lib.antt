@@ -1,7 +1,7 @@
 -- The words that this crate hands out.
 pub mod Laws
-pub mod Pinned
-pub mod PinnedEncodings
+pub mod LeftOpen
+pub mod LeftOpenEncodings
 pub mod EntriesOfScalars
 pub mod CodecWords
 pub mod EntryWords

@@ -5,7 +5,7 @@
 mod calls;
 mod codecs;
 mod entries;
-mod guide;
+mod in_bytes;
 pub mod map_fields;
 mod pinned;
 mod runs;

@@ -21,7 +21,7 @@ pub use crate::entries::{
     plain_entries_charge_units, rewrite_means, runs_are_read, runs_join, values_are_read,
     walks_agree, written_is_read, written_messages_are_read,
 };
-pub use crate::guide::{
+pub use crate::in_bytes::{
     entries_are_their_fields, enums_are_read_so, fields_are_their_records,
     message_fields_are_their_records, messages_are_read_so, other_values_are_written_so,
     pairs_are_lists, rewrites_are_their_fields, runs_are_their_entries, scalars_are_read_so,

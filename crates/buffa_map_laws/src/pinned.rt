@@ -1,8 +1,8 @@
 //! What the contracts leave out: any two answers that one of them allows for one input are one, but for what is
 //! said beside each law.
 
-ghost use Rattle.buffa_map_laws.specs.Pinned.{EntriesArePinned, RunsArePinned, ValueIsPinned};
-ghost use Rattle.buffa_map_laws.specs.PinnedEncodings.{MapFieldIsPinned, MessagesArePinned, PutIsPinned, RewritesArePinned};
+ghost use Rattle.buffa_map_laws.specs.LeftOpen.{EntriesArePinned, RunsArePinned, ValueIsPinned};
+ghost use Rattle.buffa_map_laws.specs.LeftOpenEncodings.{MapFieldIsPinned, MessagesArePinned, PutIsPinned, RewritesArePinned};
 
 use buffa_map::map_codec::{MapCodec, MapStorage, MapValueDecode};
 use buffa_wire::MessageSpec;

@@ -11,9 +11,9 @@ use Rattle.buffa_wire.specs.Message.{IsFieldMerged}
 use Rattle.buffa_wire.specs.Takes.{IsTaken, merged_of}
 use Rattle.buffa_fields.specs.Schema.{Schema}
 use Rattle.buffa_fields.specs.facts.SchemaFacts.{full_of, refused_of}
-use Rattle.buffa_fields.specs.facts.PairFacts.{part_taken}
+use Rattle.buffa_fields.specs.facts.FieldAndOthersFacts.{part_taken}
 use Rattle.buffa_fields.specs.RefusedMessage.{IsMemberRefused}
-use Rattle.buffa_recursive.specs.facts.TakenThroughFacts.{is_taken_through}
+use Rattle.buffa_recursive.specs.facts.TakenByAnotherFacts.{is_taken_through}
 use Rattle.buffa_recursive.specs.RecursiveSchema.{RecursiveSchema, whole_takes}
 use Rattle.buffa_recursive.specs.RefusedFields.{IsSelfRefused}
 use Rattle.buffa_recursive.specs.Layers.{IsSound}

@@ -10,7 +10,7 @@ use Rattle.buffa_fields.specs.Schema.{Took, AsksAsSaid, RefusesAsSaid, TakesAsSa
 use Rattle.buffa_fields.specs.Submessages.{message_merged, taken_there}
 use Rattle.buffa_fields.specs.Refusals.{RefusesBoxed, RefusesPair}
 use Rattle.buffa_fields.specs.RepeatedMessages.{MessagesTakeMemory, messages_cost, messages_taken}
-use Rattle.buffa_recursive.specs.facts.TakenThroughFacts.{is_taken_through}
+use Rattle.buffa_recursive.specs.facts.TakenByAnotherFacts.{is_taken_through}
 use Rattle.std.specs.BTreeMap.{insert_entry}
 use Rattle.buffa_map.specs.Message.{message_reading}
 use Rattle.buffa_recursive.specs.MapKeys.{Keys}

@@ -21,7 +21,7 @@ use Rattle.buffa_fields.specs.Submessages.{FitsInside, message_levels, message_s
 use Rattle.buffa_fields.specs.Refusals.{RefusesBoxed}
 use Rattle.buffa_fields.specs.RepeatedMessages.{MessagesTakeMemory, messages_levels, messages_slots}
 use Rattle.buffa_fields.specs.Values.{IfThere}
-use Rattle.buffa_recursive.specs.TakenThrough.{taken_through}
+use Rattle.buffa_recursive.specs.TakenByAnother.{taken_through}
 
 -- How they are merged and written, at every depth, and that normal ones have valid records and read back.
 pub record Semantics (X : Type 0) : Type 1 where

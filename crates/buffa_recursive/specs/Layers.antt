@@ -10,7 +10,7 @@ use Rattle.buffa_wire.specs.Records.{records_of}
 use Rattle.buffa_wire.specs.Takes.{cost_of, merged_of}
 use Rattle.buffa_wire.proofs.TakesLemmas.{merged_of_fields}
 use Rattle.buffa_fields.specs.facts.SchemaFacts.{reads_back}
-use Rattle.buffa_recursive.specs.facts.TakenThroughFacts.{merged_through}
+use Rattle.buffa_recursive.specs.facts.TakenByAnotherFacts.{merged_through}
 use Rattle.buffa_recursive.specs.RecursiveSchema.{RecursiveSchema, whole_takes}
 use Rattle.buffa_recursive.specs.InnerMessages.{Semantics}
 

@@ -1,5 +1,5 @@
 -- The words that this crate hands out.
-pub mod TakenThrough
+pub mod TakenByAnother
 pub mod MapKeys
 pub mod MessageTree
 pub mod InnerMessages
@@ -8,7 +8,7 @@ pub mod Layers
 pub mod Fixpoint
 pub mod MemberKinds
 pub mod OneOfMeaning
-pub mod PartsByMeaning
+pub mod PlainParts
 pub mod MemberList
 pub mod RefusedFields
 pub mod MapShape

@@ -2,15 +2,15 @@
 use Rattle.std.specs.Prelude.{◌≡◌, ◌≤◌, ℕ, List, [], ◌++◌, Option, refl}
 use Rattle.std.proofs.Common.{◌∙◌, sym}
 use Rattle.buffa_wire.specs.Records.{FieldData}
-use Rattle.buffa_fields.specs.Unknowns.{Unknowns}
+use Rattle.buffa_fields.specs.UnknownsOfMembers.{Unknowns}
 use Rattle.buffa_fields.specs.Schema.{Schema, Shape}
-use Rattle.buffa_fields.specs.Members.{field, keep_unknown, part, skip_unknown}
+use Rattle.buffa_fields.specs.MemberList.{field, keep_unknown, part, skip_unknown}
 use Rattle.buffa_recursive.specs.MemberKinds.{AlikeTo, Kind, list_kind, one_kind, map_kind}
 use Rattle.buffa_recursive.specs.MessageTree.{MessageTree, Rest, tree_of, rest_of, head_many, head_many_low, head_one, head_one_low, tree_low, children_height, tree_height, children_list, list_of-of_list, many, maybe_height, TreeList, Maybe, no_inner, of_list, of_option, one, option_of, option_of-of_option, inner_height, tail_low, tail_inner}
 use Rattle.buffa_recursive.specs.RecursiveSchema.{CostAlike, SchemasAlike, RecursiveSchema, MergeAlike}
 use Rattle.buffa_recursive.specs.facts.MemberListFacts.{added_say_alike, tree_lower, members_charge_alike, out_again, part_charged_alike, part_say_alike, part_taken_alike, rest_low, same_low, members_taken_alike}
 use Rattle.buffa_fields.specs.OneOfParts.{OneOf}
-use Rattle.buffa_recursive.specs.PartsByMeaning.{PartBy, member_with_unknowns_by, member_by, one_of_by}
+use Rattle.buffa_recursive.specs.PlainParts.{PartBy, member_with_unknowns_by, member_by, one_of_by}
 use Rattle.buffa_recursive.specs.MapTree.{pair_low, pairs_again, pairs_in, child_pairs}
 use Rattle.buffa_recursive.specs.InnerMessages.{AreExactBy, Semantics}
 use Rattle.buffa_recursive.specs.MapKeys.{Keys}

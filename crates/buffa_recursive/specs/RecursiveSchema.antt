@@ -6,7 +6,7 @@ use Rattle.std.specs.List.{Contains}
 use Rattle.std.specs.Map.{values_of}
 use Rattle.buffa_wire.specs.Takes.{Taker}
 use Rattle.buffa_fields.specs.Schema.{Schema, Shape}
-use Rattle.buffa_recursive.specs.TakenThrough.{taken_through}
+use Rattle.buffa_recursive.specs.TakenByAnother.{taken_through}
 use Rattle.buffa_recursive.specs.InnerMessages.{AreExactBy, Semantics, as_other, list_shape, lossless, child_shape}
 use Rattle.buffa_recursive.specs.MapShape.{pairs_shape}
 use Rattle.buffa_recursive.specs.MapKeys.{Keys}

@@ -9,26 +9,26 @@
 #![tactic(auto)]
 
 pub mod inner_merger;
-pub mod keyed;
+pub mod map_keys;
 pub mod maps;
 mod merge;
 pub mod message;
 pub mod one_of;
-mod pairs;
+mod ordered_maps;
 pub mod recursive_fields;
 pub mod recursive_meaning;
 pub mod recursive_type;
 pub mod required;
 pub mod required_meaning;
+mod size_inner;
 mod sizer;
-mod sizes;
 pub mod takes;
 pub mod visitor;
+mod write_inner;
 mod writer;
-mod writes;
 
 pub use crate::inner_merger::InnerMerger;
-pub use crate::keyed::{ByKey, Keyed};
+pub use crate::map_keys::{ByKey, Keyed};
 pub use crate::maps::take_map;
 pub use crate::one_of::take_one_of;
 pub use crate::recursive_fields::RecursiveFields;

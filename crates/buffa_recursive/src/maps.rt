@@ -13,8 +13,8 @@ ghost use Rattle.buffa_recursive.specs.Fixpoint.{semantics};
 ghost use Rattle.buffa_recursive.specs.InnerMessages.{encoding_by};
 
 use crate::inner_merger::InnerMerger;
-use crate::keyed::{ByKey, Keyed};
-use crate::pairs::{pairs_len_by, take_pair_by, write_pairs_by};
+use crate::map_keys::{ByKey, Keyed};
+use crate::ordered_maps::{pairs_len_by, take_pair_by, write_pairs_by};
 use crate::recursive_meaning::RecursiveMeaning;
 use buffa_fields::members::ordered_key::OrderedKey;
 use buffa_map::map_codec::MapCodec;

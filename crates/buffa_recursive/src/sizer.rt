@@ -17,7 +17,7 @@ use crate::one_of::case_counted;
 use crate::recursive_fields::RecursiveFields;
 use crate::recursive_meaning::RecursiveMeaning;
 use crate::recursive_type::RecursiveType;
-use crate::sizes::{list_len, one_len};
+use crate::size_inner::{list_len, one_len};
 use crate::visitor::RecursiveVisitor;
 use buffa_fields::members::member::Member;
 use buffa_fields::members::ordered_key::OrderedKey;

@@ -3,16 +3,16 @@
 ghost use Rattle.std.specs.Prelude.{◌≡◌, ◌++◌, ◌<◌, [], ℕ, List};
 ghost use Rattle.std.specs.Option.{option_map};
 ghost use Rattle.buffa_bytes.specs.Number.{IsNumber};
-ghost use Rattle.buffa_fields.specs.Unknowns.{ReadsBackWithUnknowns};
+ghost use Rattle.buffa_fields.specs.UnknownsOfMembers.{ReadsBackWithUnknowns};
 ghost use Rattle.buffa_fields.specs.Schema.{Comes, ReadsBackTo, Seen, more, visited};
 ghost use Rattle.buffa_map.specs.Pairs.{means};
 ghost use Rattle.buffa_recursive.specs.MapKeys.{KeysReadBack};
 ghost use Rattle.buffa_recursive.specs.RecursiveSchema.{children_shape, map_shape, maybe_shape};
 ghost use Rattle.buffa_fields.specs.OneOfParts.{case_means, case_seen, case_slots};
-ghost use Rattle.buffa_recursive.specs.PartsByMeaning.{enum_by_meaning};
+ghost use Rattle.buffa_recursive.specs.PlainParts.{enum_by_meaning};
 ghost use Rattle.buffa_recursive.specs.Fixpoint.{semantics};
 
-use crate::keyed::{ByKey, Keyed};
+use crate::map_keys::{ByKey, Keyed};
 use crate::recursive_meaning::RecursiveMeaning;
 use buffa_fields::members::keeps_unknowns::KeepsUnknowns;
 use buffa_fields::members::member::Member;

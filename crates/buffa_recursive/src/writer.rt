@@ -17,7 +17,7 @@ use crate::recursive_fields::RecursiveFields;
 use crate::recursive_meaning::RecursiveMeaning;
 use crate::recursive_type::RecursiveType;
 use crate::visitor::RecursiveVisitor;
-use crate::writes::{write_list, write_one};
+use crate::write_inner::{write_list, write_one};
 use buffa_fields::members::member::Member;
 use buffa_fields::members::ordered_key::OrderedKey;
 use buffa_fields::oneofs::one_of::OneOf;

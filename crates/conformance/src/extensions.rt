@@ -2,7 +2,7 @@
 
 use crate::back::{Back, Kept};
 use buffa_ext::codecs::EnumCodec;
-use buffa_ext::record::{Delimited, Grouped};
+use buffa_ext::message_record::{Delimited, Grouped};
 use buffa_wire::EnumValue;
 use conformance_extensions::{message as of_message, packable};
 use conformance_rows::case::Case;

@@ -1,7 +1,7 @@
 // Steps: sets and clears of any numbers, one after the other.
 
 use crate::told::{are_same, got_told, stand_told};
-use buffa_ext::stage::replace;
+use buffa_ext::change_records::replace;
 use buffa_ext::{ReplayFault, Step, replay};
 use buffa_wire::{UnknownField, UnknownFieldData, UnknownFields};
 use conformance_rows::case::Case;

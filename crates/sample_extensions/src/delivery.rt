@@ -1,7 +1,7 @@
 //! How a shipment is delivered, as its extensions say.
 
 ghost use Rattle.std.specs.Prelude.{◌≡◌, IsOk, OnErr, OnOk};
-ghost use Rattle.buffa_ext.specs.Steps.{IsSet};
+ghost use Rattle.buffa_ext.specs.SetsAndClears.{IsSet};
 
 use crate::messages::extensions::{handling, insurance_of_shipment, tries, tries_or_default};
 use crate::messages::{Handling, Insurance, Shipment};

@@ -11,14 +11,14 @@ use Rattle.buffa_wire.specs.Records.{FieldData, records_of}
 use Rattle.buffa_map.specs.Encoding.{AllHold}
 use Rattle.buffa_map.specs.Enums.{ClosedFits, closed_writing}
 use Rattle.buffa_map.specs.Scalars.{IsText, int32_reading, int32_writing, text_writing}
-use Rattle.buffa_fields.specs.Unknowns.{AllUnknowns}
+use Rattle.buffa_fields.specs.UnknownsOfMembers.{AllUnknowns}
 use Rattle.buffa_fields.specs.UndeclaredFields.{AllNumbers}
 use Rattle.buffa_fields.specs.ClosedEnumMaps.{IsUnknownEntry}
 use Rattle.buffa_recursive.specs.MessageTree.{TreeList, first_tree, message_tree, no_trees}
 use Rattle.buffa_fields.specs.Schema.{Choice}
 use Rattle.buffa_fields.specs.MapFields.{map_records}
 use Rattle.buffa_fields.specs.Submessages.{FitsInside}
-use Rattle.buffa_fields.specs.facts.PairFacts.{fits_both}
+use Rattle.buffa_fields.specs.facts.FieldAndOthersFacts.{fits_both}
 use Rattle.buffa_recursive.specs.MapTree.{child_pairs, keys_in, pairs_in, values_in}
 use Rattle.buffa_recursive.specs.facts.FixpointFacts.{is_normal, normal_is}
 use Rattle.sample_node.proofs.NodeSchemaLemmas.{AreNormalScores, AreNormalShades, members, members_owe, members_sound, node_keys, node_words}

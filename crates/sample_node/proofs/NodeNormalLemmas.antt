@@ -46,7 +46,7 @@ use Rattle.buffa_map.specs.Message.{merged_value}
 use Rattle.buffa_map.specs.Run.{undeclared_record}
 use Rattle.buffa_map.specs.Scalars.{IsText, int32_reading, text_reading}
 use Rattle.buffa_map.specs.declared.map_entry.MapEntry.{MapEntry}
-use Rattle.buffa_fields.specs.Entries.{entry_taken}
+use Rattle.buffa_fields.specs.EntriesTaken.{entry_taken}
 use Rattle.buffa_fields.specs.facts.EntryDepthFacts.{undeclared_among_unknowns}
 use Rattle.buffa_fields.specs.UndeclaredFields.{keep_takes}
 use Rattle.buffa_fields.specs.facts.UndeclaredFieldFacts.{kept_record}

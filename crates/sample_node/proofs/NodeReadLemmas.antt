@@ -9,7 +9,7 @@ use Rattle.buffa_wire.specs.Takes.{cost_of, merged_of}
 use Rattle.buffa_map.specs.Scalars.{int32_reading}
 use Rattle.buffa_wire.specs.BudgetLeft.{BudgetLeft, nothing}
 use Rattle.buffa_wire.specs.KeptField.{keep_charge}
-use Rattle.buffa_fields.specs.Unknowns.{kept_among, kept_behind}
+use Rattle.buffa_fields.specs.UnknownsOfMembers.{kept_among, kept_behind}
 use Rattle.buffa_fields.specs.facts.ClosedEnumMapFacts.{kept_pair_behind}
 use Rattle.buffa_fields.specs.UndeclaredFields.{keep_takes}
 use Rattle.buffa_recursive.specs.MessageTree.{TreeList, head_many, message_tree}

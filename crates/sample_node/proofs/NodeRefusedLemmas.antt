@@ -9,7 +9,7 @@ use Rattle.buffa_wire.specs.Pinned.{refusal}
 use Rattle.buffa_wire.specs.RecordReading.{field_at}
 use Rattle.buffa_map.specs.Message.{message_reading}
 use Rattle.buffa_map.specs.Scalars.{int32_reading, text_reading}
-use Rattle.buffa_fields.specs.Unknowns.{Unknowns, TookWithUnknowns}
+use Rattle.buffa_fields.specs.UnknownsOfMembers.{Unknowns, TookWithUnknowns}
 use Rattle.buffa_recursive.specs.MessageTree.{TreeList, head_many, message_tree}
 use Rattle.buffa_fields.specs.Schema.{Choice, IsFieldKept, Shape, Took, RefusesAsSaid}
 use Rattle.buffa_recursive.specs.MapTree.{child_pairs, pairs_again}

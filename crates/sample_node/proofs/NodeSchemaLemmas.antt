@@ -29,7 +29,7 @@ use Rattle.buffa_fields.specs.facts.OrderedFacts.{ascending_put}
 use Rattle.buffa_fields.specs.OrderedMaps.{KeysAscend}
 use Rattle.buffa_recursive.specs.Layers.{IsSound}
 use Rattle.buffa_recursive.specs.Fixpoint.{semantics}
-use Rattle.buffa_fields.specs.facts.ValidFacts.{entry_valid}
+use Rattle.buffa_fields.specs.facts.ValidRecordFacts.{entry_valid}
 use Rattle.buffa_recursive.specs.InnerMessages.{Semantics}
 use Rattle.sample_node.specs.Branch.{Branch, Scores, Shades, shade_numbers}
 use Rattle.sample_node.specs.NodeMeaning.{scores_take, shade_reading, shades_take, text_cmp}

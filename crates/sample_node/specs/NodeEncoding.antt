@@ -16,7 +16,7 @@ use Rattle.buffa_wire.specs.Encoding.{records_encoding}
 use Rattle.buffa_map.specs.Enums.{ClosedFits, closed_writing}
 use Rattle.buffa_map.specs.Scalars.{IsText, delimited_writing, int32_reading, int32_writing, text_writing}
 use Rattle.buffa_map.specs.Encoding.{AllHold, entry_encoding, field_encoding, record_encoding}
-use Rattle.buffa_fields.specs.Unknowns.{unknowns_levels}
+use Rattle.buffa_fields.specs.UnknownsOfMembers.{unknowns_levels}
 use Rattle.buffa_fields.specs.ClosedEnumMaps.{IsUnknownEntry, unknown_entry_levels}
 use Rattle.buffa_fields.specs.MapFields.{map_records}
 use Rattle.buffa_recursive.specs.MessageTree.{TreeList, InnerMembers, head_many, first_tree, message_tree, many, no_trees}

@@ -35,7 +35,7 @@ ghost use Rattle.buffa_map.specs.Enums.{ClosedFits, closed_reading, closed_writi
 ghost use Rattle.buffa_map.specs.Message.{message_reading};
 ghost use Rattle.buffa_map.specs.Pairs.{means};
 ghost use Rattle.buffa_map.specs.Scalars.{IsText, delimited_writing, int32_reading, int32_writing, text_reading, text_writing};
-ghost use Rattle.buffa_fields.specs.Unknowns.{unknowns_levels};
+ghost use Rattle.buffa_fields.specs.UnknownsOfMembers.{unknowns_levels};
 ghost use Rattle.buffa_fields.specs.UndeclaredFields.{keep_takes};
 ghost use Rattle.buffa_fields.specs.ClosedEnumMaps.{IsUnknownEntry, unknown_entry_levels, kept_pair_cost, kept_pair_taken};
 ghost use Rattle.buffa_recursive.specs.MessageTree.{TreeList, Maybe, InnerMembers, head_many, first_tree, message_tree, many, no_trees, no_inner, one};

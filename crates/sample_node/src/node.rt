@@ -18,7 +18,7 @@ use buffa_fields::members::ordered_map_field::OrderedMapField;
 use buffa_fields::unknown;
 use buffa_map::map_codec::{ClosedEnum, Int32, Str};
 use buffa_recursive::inner_merger::InnerMerger;
-use buffa_recursive::keyed::{ByKey, Keyed};
+use buffa_recursive::map_keys::{ByKey, Keyed};
 use buffa_recursive::maps::take_map;
 use buffa_recursive::recursive_fields::RecursiveFields;
 use buffa_recursive::recursive_meaning::{RecursiveFieldByField, RecursiveMeaning};

@@ -22,7 +22,7 @@ use Rattle.buffa_map.specs.Message.{message_reading}
 use Rattle.buffa_map.specs.Pairs.{means}
 use Rattle.buffa_map.specs.Scalars.{int32_reading, int32_writing}
 use Rattle.buffa_map.specs.declared.map_entry.MapEntry.{MapEntry}
-use Rattle.buffa_fields.specs.Entries.{entry_cost, entry_taken, whole_entry_in}
+use Rattle.buffa_fields.specs.EntriesTaken.{entry_cost, entry_taken, whole_entry_in}
 use Rattle.buffa_recursive.specs.MessageTree.{TreeList, first_tree, message_tree, many, no_inner}
 use Rattle.buffa_recursive.specs.RecursiveSchema.{RecursiveSchema, whole_takes}
 use Rattle.buffa_fields.specs.MapFields.{pair_taken, stepped}

@@ -33,9 +33,9 @@ use Rattle.buffa_map.specs.Scalars.{int32_reading}
 use Rattle.buffa_fields.proofs.EntriesLemmas.{entry_wire_err}
 use Rattle.buffa_fields.proofs.InsideLemmas.{alone_is, no_payload}
 use Rattle.buffa_fields.proofs.ValueLemmas.{value_err, wire_err}
-use Rattle.buffa_recursive.specs.TakenThrough.{taken_through}
-use Rattle.buffa_recursive.specs.facts.TakenThroughFacts.{is_taken_through}
-use Rattle.buffa_fields.specs.Entries.{entry_cost, entry_taken}
+use Rattle.buffa_recursive.specs.TakenByAnother.{taken_through}
+use Rattle.buffa_recursive.specs.facts.TakenByAnotherFacts.{is_taken_through}
+use Rattle.buffa_fields.specs.EntriesTaken.{entry_cost, entry_taken}
 use Rattle.buffa_recursive.specs.MessageTree.{TreeList}
 use Rattle.buffa_fields.specs.Schema.{Choice, Schema, Passed, AsksAsSaid, RefusesAsSaid, TakesAsSaid, TellsWrongType}
 use Rattle.buffa_fields.specs.facts.SchemaFacts.{choose}

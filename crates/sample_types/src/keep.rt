@@ -1,7 +1,7 @@
 //! `BudgetMsg`, a message that declares no field and keeps each.
 
 ghost use Rattle.std.proofs.Common.{lit<, refl};
-ghost use Rattle.buffa_fields.specs.Members.{keep_unknown};
+ghost use Rattle.buffa_fields.specs.MemberList.{keep_unknown};
 
 use buffa_fields::meaning::Unknowns;
 use buffa_fields::messages::message::{FieldByField, FieldsMeaning};

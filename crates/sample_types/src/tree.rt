@@ -13,7 +13,7 @@ use buffa_fields::members::member::Member;
 use buffa_fields::unknown;
 use buffa_map::map_codec::Int32;
 use buffa_recursive::inner_merger::InnerMerger;
-use buffa_recursive::keyed::{ByKey, Keyed};
+use buffa_recursive::map_keys::{ByKey, Keyed};
 use buffa_recursive::maps::take_map;
 use buffa_recursive::recursive_fields::RecursiveFields;
 use buffa_recursive::recursive_meaning::{RecursiveFieldByField, RecursiveMeaning};

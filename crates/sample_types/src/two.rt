@@ -1,7 +1,7 @@
 //! A message of two int32.
 
 ghost use Rattle.std.proofs.Common.{lit<, refl};
-ghost use Rattle.buffa_fields.specs.Members.{field, skip_unknown};
+ghost use Rattle.buffa_fields.specs.MemberList.{field, skip_unknown};
 
 use buffa_fields::meaning::And3;
 use buffa_fields::members::implicit_field::ImplicitField;

@@ -2,7 +2,7 @@
 
 ghost use Rattle.std.proofs.Common.{lit<};
 ghost use Rattle.std.specs.Prelude.{codes, refl};
-ghost use Rattle.buffa_fields.specs.Members.{keep_unknown};
+ghost use Rattle.buffa_fields.specs.MemberList.{keep_unknown};
 
 use buffa_ext::ExtensionSet;
 use buffa_fields::meaning::Unknowns;

@@ -4,7 +4,7 @@ ghost use Rattle.std.specs.Prelude.{◌≡◌, ◌≢◌, [], codes, refl, pos, 
 ghost use Rattle.std.proofs.Common.{lit<};
 ghost use Rattle.std.specs.Prelude.{IfErr, IfOk, IsOk, OnErr, OnOk, option_map, string_bytes};
 ghost use Rattle.buffa_codec.specs.Decoded.{HasByte};
-ghost use Rattle.buffa_fields.specs.Members.{field, keep_unknown};
+ghost use Rattle.buffa_fields.specs.MemberList.{field, keep_unknown};
 ghost use Rattle.sample_validator.specs.Options.{IsMalformed, IsReadWhole, bool_option, int32_list};
 ghost use Rattle.sample_validator.specs.Options.{int32_option, string_option};
 

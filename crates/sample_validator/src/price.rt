@@ -5,7 +5,7 @@ ghost use Rattle.buffa_bytes.specs.Scalars.{zigzag};
 ghost use Rattle.buffa_bytes.specs.declared.error.EncodeError.TheVariants.{OutOfMemory};
 ghost use Rattle.buffa_bytes.proofs.ScalarLemmas.{sint64_means, zigzag_fits64};
 ghost use Rattle.buffa_wire.specs.Records.{varint};
-ghost use Rattle.buffa_ext.specs.Steps.{IsSet};
+ghost use Rattle.buffa_ext.specs.SetsAndClears.{IsSet};
 
 use crate::options::FieldOptions;
 use buffa_codec::Numbered;

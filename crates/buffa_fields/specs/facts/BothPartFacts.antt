@@ -11,8 +11,8 @@ use Rattle.buffa_wire.specs.Encoding.{payload_encoding, records_encoding, wire_o
 use Rattle.buffa_wire.specs.ReadableFacts.{valid_joined}
 use Rattle.buffa_wire.specs.Records.{FieldData}
 use Rattle.buffa_wire.specs.Takes.{IsTaken, Leads, Piece, ReadsBack}
-use Rattle.buffa_fields.specs.Unknowns.{Kept}
-use Rattle.buffa_fields.specs.BothParts.{adds_with_unknowns, no_unknowns_part, both_part, inward, none_given, outward, part_within, second_put}
+use Rattle.buffa_fields.specs.UnknownsOfMembers.{Kept}
+use Rattle.buffa_fields.specs.TwoPartsAreOne.{adds_with_unknowns, no_unknowns_part, both_part, inward, none_given, outward, part_within, second_put}
 use Rattle.buffa_fields.specs.facts.BlankFacts.{same_false_only}
 use Rattle.buffa_fields.specs.UndeclaredFields.{AllNumbers}
 use Rattle.buffa_fields.specs.Schema.{Choice, IsPutBehind}
@@ -20,7 +20,7 @@ use Rattle.buffa_fields.specs.facts.SchemaFacts.{part_seen}
 use Rattle.buffa_fields.specs.facts.LevelFacts.{all_turn, back_holds, both_numbers, front_holds, some_mapped}
 use Rattle.buffa_fields.specs.Levels.{IsTakenWritten}
 use Rattle.buffa_fields.specs.facts.MemberPartFacts.{none_mine}
-use Rattle.buffa_fields.specs.facts.PairFacts.{either_stays, joined_back, part_taken, readable_both}
+use Rattle.buffa_fields.specs.facts.FieldAndOthersFacts.{either_stays, joined_back, part_taken, readable_both}
 use Rattle.buffa_fields.specs.MessageParts.{Part, PartLaws}
 
 abbrev answer : Type 0

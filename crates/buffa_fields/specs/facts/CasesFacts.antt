@@ -12,13 +12,13 @@ use Rattle.buffa_wire.specs.Parse.{AreValid}
 use Rattle.buffa_wire.specs.ReadableFacts.{Readable}
 use Rattle.buffa_wire.specs.Records.{records_of}
 use Rattle.buffa_wire.specs.Takes.{IsTaken, Leads, Piece, ReadsBack}
-use Rattle.buffa_fields.specs.Unknowns.{Kept}
+use Rattle.buffa_fields.specs.UnknownsOfMembers.{Kept}
 use Rattle.buffa_fields.specs.Cases.{Cases, CasesLaws, CaseWords, IsCasePut, IsPutNew, IsPutOver, either, or_cases, if_there, none_of, single_case, other_of, this_of}
 use Rattle.buffa_fields.specs.UndeclaredFields.{AllNumbers}
 use Rattle.buffa_fields.specs.Schema.{AsksAsSaid, Choice, Seen, Shape, TakesAsSaid, Took, more}
 use Rattle.buffa_fields.specs.facts.LevelFacts.{some_mapped}
 use Rattle.buffa_fields.specs.Levels.{IsTakenWritten}
-use Rattle.buffa_fields.specs.facts.PairFacts.{either_stays, not_declared, part_taken, sound_parts}
+use Rattle.buffa_fields.specs.facts.FieldAndOthersFacts.{either_stays, not_declared, part_taken, sound_parts}
 use Rattle.buffa_fields.specs.declared.meaning.Or.{Or}
 use Rattle.buffa_fields.specs.declared.meaning.Or.TheVariants.{This, Other}
 

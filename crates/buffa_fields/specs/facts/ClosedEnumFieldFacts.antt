@@ -16,7 +16,7 @@ use Rattle.buffa_wire.specs.Records.{FieldData, bytes, fixed32, fixed64, group, 
 use Rattle.buffa_wire.specs.Encoding.{records_encoding, wire_of}
 use Rattle.buffa_wire.specs.Takes.{ReadsBack, Stays}
 use Rattle.buffa_map.specs.Enums.{ClosedFits}
-use Rattle.buffa_fields.specs.Unknowns.{Kept, kept_behind}
+use Rattle.buffa_fields.specs.UnknownsOfMembers.{Kept, kept_behind}
 use Rattle.buffa_fields.specs.facts.ReadBackFacts.{no_pieces, one_back}
 use Rattle.buffa_fields.specs.ClosedEnumFields.{IsUnknownNumber, kept_number_cost, kept_number_taken, number_put, one_number}
 use Rattle.buffa_fields.specs.Values.{IfThere, some_records}

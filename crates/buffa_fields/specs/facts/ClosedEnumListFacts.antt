@@ -25,7 +25,7 @@ use Rattle.buffa_wire.specs.Parse.{IsPayload}
 use Rattle.buffa_wire.specs.ReadableFacts.{Readable}
 use Rattle.buffa_wire.specs.Records.{FieldData, bytes, fixed32, fixed64, group, records_of, varint}
 use Rattle.buffa_wire.specs.Takes.{ReadsBack, Stays, Taker, answer}
-use Rattle.buffa_fields.specs.Unknowns.{Kept, kept_behind}
+use Rattle.buffa_fields.specs.UnknownsOfMembers.{Kept, kept_behind}
 use Rattle.buffa_fields.specs.facts.ReadBackFacts.{all_back, no_pieces, one_back}
 use Rattle.buffa_fields.specs.ClosedEnumLists.{declared_of, kept_numbers_cost, kept_numbers_taken, numbers_cost, numbers_put, sifted, sifted_cost, undeclared_of, varints}
 use Rattle.buffa_fields.specs.ClosedEnumFields.{IsUnknownNumber}

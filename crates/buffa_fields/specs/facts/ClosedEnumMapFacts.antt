@@ -21,10 +21,10 @@ use Rattle.buffa_map.proofs.EntryLemmas.{entry_complete}
 use Rattle.buffa_map.specs.Codec.{Reading, Writing}
 use Rattle.buffa_map.specs.Encoding.{AllHold, HasEncoding, entry_encoding, record_encoding}
 use Rattle.buffa_map.specs.Run.{pair_entry}
-use Rattle.buffa_fields.specs.Unknowns.{Kept}
+use Rattle.buffa_fields.specs.UnknownsOfMembers.{Kept}
 use Rattle.buffa_fields.specs.facts.ReadBackFacts.{all_lead, pieces_of}
 use Rattle.buffa_fields.specs.facts.ValueFacts.{delimited_payload}
-use Rattle.buffa_fields.specs.Entries.{entry_taken, whole_entry_in}
+use Rattle.buffa_fields.specs.EntriesTaken.{entry_taken, whole_entry_in}
 use Rattle.buffa_fields.specs.facts.EntriesFacts.{entry_stays, read_entry}
 use Rattle.buffa_fields.specs.ClosedEnumMaps.{IsUnknownEntry, IsUndeclaredAt, unknown_entry_levels, kept_pair_cost, kept_pair_taken, put_or_keep, put_or_keep_cost}
 use Rattle.buffa_fields.specs.MapFields.{map_records, put_all}

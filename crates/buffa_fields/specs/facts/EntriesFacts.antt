@@ -8,7 +8,7 @@ use Rattle.buffa_map.proofs.EntryLemmas.{entry_complete}
 use Rattle.buffa_map.specs.Codec.{Reading}
 use Rattle.buffa_map.specs.Entry.{IsEntry}
 use Rattle.buffa_map.specs.declared.map_entry.MapEntry.{MapEntry}
-use Rattle.buffa_fields.specs.Entries.{entry_cost, entry_taken}
+use Rattle.buffa_fields.specs.EntriesTaken.{entry_cost, entry_taken}
 use Rattle.buffa_fields.specs.facts.InsideFacts.{delimited_stays}
 use Rattle.buffa_fields.specs.facts.ValueFacts.{delimited_whole}
 

@@ -28,7 +28,7 @@ use Rattle.buffa_fields.specs.MemberRecords.{explicit_records}
 use Rattle.buffa_fields.specs.Submessages.{FitsInside, inside, message_levels, message_merged, taken_behind, taken_there}
 use Rattle.buffa_fields.specs.facts.SubmessageFacts.{message_again}
 use Rattle.buffa_fields.specs.RepeatedMessages.{messages_levels}
-use Rattle.buffa_fields.specs.facts.ValidFacts.{element_valid, explicit_valid}
+use Rattle.buffa_fields.specs.facts.ValidRecordFacts.{element_valid, explicit_valid}
 use Rattle.buffa_fields.specs.Values.{IfThere}
 
 module _ (f : Frame) (holds : HoldsMessages f) where

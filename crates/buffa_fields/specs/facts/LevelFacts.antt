@@ -7,7 +7,7 @@ use Rattle.buffa_bytes.specs.declared.wire_type.WireType.{WireType}
 use Rattle.buffa_wire.specs.Encoding.{payload_encoding, wire_of}
 use Rattle.buffa_wire.specs.Records.{FieldData, height}
 use Rattle.buffa_wire.specs.Takes.{Taker}
-use Rattle.buffa_fields.specs.Unknowns.{AllUnknowns, Unknowns, IsExactWithUnknowns, Kept, unknowns_levels}
+use Rattle.buffa_fields.specs.UnknownsOfMembers.{AllUnknowns, Unknowns, IsExactWithUnknowns, Kept, unknowns_levels}
 use Rattle.buffa_fields.specs.UndeclaredFields.{AllNumbers}
 use Rattle.buffa_fields.specs.Schema.{Choice, Schema, Shape}
 use Rattle.buffa_fields.specs.Levels.{IsTakenWritten}

@@ -32,8 +32,8 @@ use Rattle.buffa_map.specs.EntryReading.{entry_of}
 use Rattle.buffa_map.specs.Message.{merged_value, message_reading}
 use Rattle.buffa_map.specs.Scalars.{delimited_writing}
 use Rattle.buffa_map.specs.declared.map_entry.MapEntry.{MapEntry}
-use Rattle.buffa_fields.specs.Unknowns.{Unknowns, IsExactWithUnknowns}
-use Rattle.buffa_fields.specs.Entries.{entry_taken}
+use Rattle.buffa_fields.specs.UnknownsOfMembers.{Unknowns, IsExactWithUnknowns}
+use Rattle.buffa_fields.specs.EntriesTaken.{entry_taken}
 use Rattle.buffa_fields.specs.facts.GroupFacts.{body_is}
 use Rattle.buffa_fields.specs.Groups.{group_field_data, group_merged}
 use Rattle.buffa_fields.specs.UndeclaredFields.{AllNumbers}

@@ -10,7 +10,7 @@ use Rattle.buffa_wire.specs.BudgetLeft.{BudgetLeft}
 use Rattle.buffa_wire.specs.Encoding.{payload_encoding, wire_of}
 use Rattle.buffa_wire.specs.Records.{FieldData}
 use Rattle.buffa_wire.specs.Takes.{IsTaken, Leads, Piece, ReadsBack, Taker}
-use Rattle.buffa_fields.specs.Unknowns.{Unknowns, Kept}
+use Rattle.buffa_fields.specs.UnknownsOfMembers.{Unknowns, Kept}
 use Rattle.buffa_fields.specs.facts.UnknownsFacts.{all_alone, again_with_unknowns, asks_with_unknowns, back_with_unknowns, is_taken_with_unknowns, stays_with_unknowns, taken_with_unknowns, kept_alone}
 use Rattle.buffa_fields.specs.facts.BlankFacts.{same_false_only}
 use Rattle.buffa_fields.specs.UndeclaredFields.{AllNumbers}
@@ -18,7 +18,7 @@ use Rattle.buffa_fields.specs.Schema.{Shape, Took, AsksAsSaid, TakesAsSaid}
 use Rattle.buffa_fields.specs.facts.LevelFacts.{unknowns_low, some_mapped}
 use Rattle.buffa_fields.specs.Levels.{IsTakenWritten}
 use Rattle.buffa_fields.specs.MemberParts.{part_with_unknowns, member_part}
-use Rattle.buffa_fields.specs.facts.PairFacts.{not_declared, part_taken, sound_parts}
+use Rattle.buffa_fields.specs.facts.FieldAndOthersFacts.{not_declared, part_taken, sound_parts}
 use Rattle.buffa_fields.specs.MessageParts.{PartLaws}
 
 abbrev answer : Type 0

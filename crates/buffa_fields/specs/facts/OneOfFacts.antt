@@ -15,7 +15,7 @@ use Rattle.buffa_fields.specs.facts.SchemaFacts.{more_none}
 use Rattle.buffa_fields.specs.Levels.{IsTakenWritten}
 use Rattle.buffa_fields.specs.facts.MemberPartFacts.{first_alone, first_back, first_of, none_mine}
 use Rattle.buffa_fields.specs.OneOfParts.{OneOf, one_of_part}
-use Rattle.buffa_fields.specs.facts.PairFacts.{part_taken}
+use Rattle.buffa_fields.specs.facts.FieldAndOthersFacts.{part_taken}
 use Rattle.buffa_fields.specs.MessageParts.{PartLaws}
 use Rattle.buffa_fields.specs.Values.{IfThere}
 

@@ -9,12 +9,12 @@ use Rattle.buffa_wire.specs.BudgetLeft.{BudgetLeft, Lacks, Pays, PaysAtMost}
 use Rattle.buffa_wire.specs.Encoding.{payload_encoding, records_encoding, wire_of}
 use Rattle.buffa_wire.specs.Records.{FieldData}
 use Rattle.buffa_wire.specs.Takes.{IsTaken, Leads, Charge, Piece, ReadsBack, Taker}
-use Rattle.buffa_fields.specs.Unknowns.{Kept}
+use Rattle.buffa_fields.specs.UnknownsOfMembers.{Kept}
 use Rattle.buffa_fields.specs.Schema.{Choice, IsPutBehind, Schema}
 use Rattle.buffa_fields.specs.facts.LevelFacts.{all_turn, front_holds}
 use Rattle.buffa_fields.specs.UndeclaredFields.{AllNumbers}
 use Rattle.buffa_fields.specs.Levels.{IsTakenWritten}
-use Rattle.buffa_fields.specs.facts.PairFacts.{joined_back, others_lead, part_taken}
+use Rattle.buffa_fields.specs.facts.FieldAndOthersFacts.{joined_back, others_lead, part_taken}
 use Rattle.buffa_fields.specs.MessageParts.{Part, PartLaws, part_charge, part_take}
 
 abbrev answer : Type 0

@@ -25,7 +25,7 @@ use Rattle.buffa_wire.specs.KeptField.{keep_charge}
 use Rattle.buffa_fields.specs.UndeclaredFields.{KeepTakesMemory, keep_takes}
 use Rattle.buffa_fields.specs.RefusedMessage.{IsMemberRefused}
 use Rattle.buffa_fields.specs.facts.UndeclaredFieldFacts.{records_lead}
-use Rattle.buffa_fields.specs.facts.PairFacts.{readable_both, joined_back}
+use Rattle.buffa_fields.specs.facts.FieldAndOthersFacts.{readable_both, joined_back}
 use Rattle.buffa_wire.specs.Takes.{IsTaken, Leads, Piece, ReadsBack, cost_of, costs_nothing, joined_fields, merged_of}
 use Rattle.buffa_wire.proofs.TakesLemmas.{back as leads_back, skipped, skipped_full, taken_full, taken_merges}
 use Rattle.buffa_wire.proofs.EncodingLemmas.{records_encoding-append}

@@ -9,7 +9,7 @@ use Rattle.buffa_wire.specs.BudgetLeft.{BudgetLeft}
 use Rattle.buffa_wire.specs.Encoding.{payload_encoding, wire_of}
 use Rattle.buffa_wire.specs.Records.{FieldData}
 use Rattle.buffa_wire.specs.Takes.{IsTaken, Leads, Piece, ReadsBack, Taker}
-use Rattle.buffa_fields.specs.Unknowns.{AllUnknowns, Unknowns, Kept, ReadsBackWithUnknowns, TookWithUnknowns, unknowns_levels, kept_among, kept_behind}
+use Rattle.buffa_fields.specs.UnknownsOfMembers.{AllUnknowns, Unknowns, Kept, ReadsBackWithUnknowns, TookWithUnknowns, unknowns_levels, kept_among, kept_behind}
 use Rattle.buffa_fields.specs.Schema.{Choice, IsPutBehind, Shape}
 use Rattle.buffa_fields.specs.facts.LevelFacts.{some_mapped}
 use Rattle.buffa_fields.specs.Levels.{IsTakenWritten}

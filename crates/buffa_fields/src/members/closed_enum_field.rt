@@ -9,7 +9,7 @@ ghost use Rattle.buffa_fields.specs.ClosedEnumFields.{IsUnknownNumber, KeptNumbe
 ghost use Rattle.buffa_fields.specs.facts.ClosedEnumFieldFacts.{kept_number_again, kept_number_back, kept_number_behind, kept_number_stays};
 ghost use Rattle.buffa_fields.specs.MemberRecords.{explicit_records};
 ghost use Rattle.buffa_fields.specs.facts.LevelKindFacts.{exact_numbers, explicit_numbers};
-ghost use Rattle.buffa_fields.specs.facts.ValidFacts.{number_valid, explicit_valid};
+ghost use Rattle.buffa_fields.specs.facts.ValidRecordFacts.{number_valid, explicit_valid};
 
 use crate::members::explicit_field::ExplicitField;
 use crate::members::keeps_unknowns::KeepsUnknowns;
@@ -65,7 +65,7 @@ impl<E: Enumeration> KeepsUnknowns for ExplicitField<ClosedEnum<E>> {
       behind = kept_number_behind (numbers E.of_number E.blank_is);
     } };
 
-    #[tactic(auto, unfolding(crate::specs::Unknowns::TookWithUnknowns))]
+    #[tactic(auto, unfolding(crate::specs::UnknownsOfMembers::TookWithUnknowns))]
     fn merge_with_unknowns(
         part: &mut Option<E>,
         kept: &mut UnknownFields,

@@ -11,7 +11,7 @@ ghost use Rattle.buffa_fields.specs.ClosedEnumFields.{IsUnknownNumber};
 ghost use Rattle.buffa_fields.specs.Lists.{ElementsTakeMemory, check_list_wire};
 ghost use Rattle.buffa_map.specs.Enums.{closed_writing};
 ghost use Rattle.buffa_fields.specs.facts.LevelKindFacts.{element_numbers, exact_numbers, packed_numbers};
-ghost use Rattle.buffa_fields.specs.facts.ValidFacts.{element_valid, number_valid, packed_valid};
+ghost use Rattle.buffa_fields.specs.facts.ValidRecordFacts.{element_valid, number_valid, packed_valid};
 
 use crate::members::keeps_unknowns::KeepsUnknowns;
 use crate::members::list::take_elements;
@@ -170,7 +170,7 @@ impl<E: Enumeration> KeepsUnknowns for RepeatedField<ClosedEnum<E>> {
       behind = kept_numbers_behind (numbers E.of_number E.blank_is);
     } };
 
-    #[tactic(auto, unfolding(crate::specs::Unknowns::TookWithUnknowns))]
+    #[tactic(auto, unfolding(crate::specs::UnknownsOfMembers::TookWithUnknowns))]
     fn merge_with_unknowns(
         part: &mut Vec<E>,
         kept: &mut UnknownFields,
@@ -202,7 +202,7 @@ impl<E: Enumeration> KeepsUnknowns for PackedField<ClosedEnum<E>> {
       behind = kept_numbers_behind (numbers E.of_number E.blank_is);
     } };
 
-    #[tactic(auto, unfolding(crate::specs::Unknowns::TookWithUnknowns))]
+    #[tactic(auto, unfolding(crate::specs::UnknownsOfMembers::TookWithUnknowns))]
     fn merge_with_unknowns(
         part: &mut Vec<E>,
         kept: &mut UnknownFields,

@@ -11,7 +11,7 @@ ghost use Rattle.buffa_fields.specs.facts.ClosedEnumMapFacts.{kept_map_back, kep
 ghost use Rattle.buffa_fields.specs.facts.MapFacts.{distinct_put};
 ghost use Rattle.buffa_fields.specs.MapFields.{entry_records};
 ghost use Rattle.buffa_fields.specs.facts.LevelKindFacts.{exact_flat_unknowns, kept_pair_low, entry_numbers};
-ghost use Rattle.buffa_fields.specs.facts.ValidFacts.{entry_valid};
+ghost use Rattle.buffa_fields.specs.facts.ValidRecordFacts.{entry_valid};
 
 use crate::members::keeps_unknowns::KeepsUnknowns;
 use crate::members::map_field::MapField;
@@ -26,7 +26,7 @@ use std::hash::Hash;
 
 // Merges the entry of the field whose tag was read, or puts it aside where its value is undeclared. A refused one takes no
 // unknown field.
-#[tactic(auto, unfolding(crate::specs::Entries::entry_taken, crate::specs::Entries::entry_cost))]
+#[tactic(auto, unfolding(crate::specs::EntriesTaken::entry_taken, crate::specs::EntriesTaken::entry_cost))]
 fn take_kept_entry<KC: MapCodec, VC: MapCodec>(
     alloc: Global,
     map: &mut Map<KC::Value, VC::Value>,
@@ -87,7 +87,7 @@ where
       behind = kept_pair_behind KC.reading VC.reading (put KC.Value.same);
     } };
 
-    #[tactic(auto, unfolding(crate::specs::Unknowns::TookWithUnknowns))]
+    #[tactic(auto, unfolding(crate::specs::UnknownsOfMembers::TookWithUnknowns))]
     fn merge_with_unknowns(
         part: &mut Map<KC::Value, VC::Value>,
         kept: &mut UnknownFields,

@@ -8,7 +8,7 @@ ghost use Rattle.buffa_fields.specs.Values.{IfThere, RefusesAlone, ValueTakesMem
 ghost use Rattle.buffa_fields.specs.facts.ValueFacts.{some_back};
 ghost use Rattle.buffa_fields.specs.MemberRecords.{explicit_records};
 ghost use Rattle.buffa_fields.specs.facts.LevelKindFacts.{exact_flat, explicit_numbers};
-ghost use Rattle.buffa_fields.specs.facts.ValidFacts.{explicit_valid};
+ghost use Rattle.buffa_fields.specs.facts.ValidRecordFacts.{explicit_valid};
 
 use crate::members::member::Member;
 use crate::members::proto_type::ProtoType;

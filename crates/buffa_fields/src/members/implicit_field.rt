@@ -7,7 +7,7 @@ ghost use Rattle.buffa_fields.specs.Values.{RefusesAlone, ValueTakesMemory, free
 ghost use Rattle.buffa_fields.specs.facts.ValueFacts.{implicit_back};
 ghost use Rattle.buffa_fields.specs.MemberRecords.{implicit_records};
 ghost use Rattle.buffa_fields.specs.facts.LevelKindFacts.{exact_flat, implicit_numbers};
-ghost use Rattle.buffa_fields.specs.facts.ValidFacts.{implicit_valid};
+ghost use Rattle.buffa_fields.specs.facts.ValidRecordFacts.{implicit_valid};
 
 use crate::members::member::Member;
 use crate::members::proto_type::ProtoType;

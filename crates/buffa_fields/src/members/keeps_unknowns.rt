@@ -1,7 +1,7 @@
 //! Member types that put aside what they don't understand.
 
 ghost use Rattle.buffa_wire.specs.BudgetLeft.{budget_left};
-ghost use Rattle.buffa_fields.specs.Unknowns.{Unknowns, ReadsBackWithUnknowns, TookWithUnknowns};
+ghost use Rattle.buffa_fields.specs.UnknownsOfMembers.{Unknowns, ReadsBackWithUnknowns, TookWithUnknowns};
 
 use crate::members::member::Member;
 use buffa_wire::{DecodeContext, DecodeError, Tag, UnknownFields};
@@ -14,7 +14,7 @@ use std::alloc::Global;
 /// visitor.visit_with_unknowns::<MapField<Int32, ClosedEnum<Shade>>>(3, &self.shades);
 /// ```
 pub trait KeepsUnknowns: Member {
-    /// What it puts aside, by the words of `Unknowns` in `specs/Unknowns.antt`.
+    /// What it puts aside, by the words of `Unknowns` in `specs/UnknownsOfMembers.antt`.
     ghost unknowns: { Unknowns Self.Meaning };
 
     /// Merges the field whose tag was read, and puts aside what the value doesn't hold.

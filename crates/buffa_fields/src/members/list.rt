@@ -7,7 +7,7 @@ ghost use Rattle.buffa_bytes.specs.Number.{IsNumber};
 ghost use Rattle.buffa_wire.specs.Passes.{cap};
 ghost use Rattle.buffa_wire.specs.Encoding.{records_encoding};
 ghost use Rattle.buffa_bytes.specs.Written.{Writes};
-ghost use Rattle.buffa_fields.specs.MemberCalls.{ChecksListWire, TakesElements};
+ghost use Rattle.buffa_fields.specs.ListAndMapCalls.{ChecksListWire, TakesElements};
 ghost use Rattle.buffa_fields.specs.Lists.{ElementsTakeMemory, PackedTakeMemory, TakesPacked, element_at, element_records, elements_in};
 ghost use Rattle.buffa_fields.specs.Refusals.{RefusesElements, RefusesTaggedField, RefusesPacked, StopsAtElement};
 

@@ -7,7 +7,7 @@ ghost use Rattle.buffa_wire.specs.Passes.{cap};
 ghost use Rattle.buffa_wire.specs.Encoding.{records_encoding};
 ghost use Rattle.buffa_map.specs.Pairs.{means, put};
 ghost use Rattle.buffa_fields.specs.Calls.{ChecksWire};
-ghost use Rattle.buffa_fields.specs.MemberCalls.{TakesEntry};
+ghost use Rattle.buffa_fields.specs.ListAndMapCalls.{TakesEntry};
 ghost use Rattle.buffa_fields.specs.MapFields.{PairTakesMemory, WritesMap, map_records};
 ghost use Rattle.buffa_fields.specs.Refusals.{RefusesPairIn};
 
@@ -42,7 +42,7 @@ where
 }
 
 // Merges the entry of the field whose tag was read.
-#[tactic(auto, unfolding(crate::specs::Entries::entry_taken, crate::specs::Entries::entry_cost))]
+#[tactic(auto, unfolding(crate::specs::EntriesTaken::entry_taken, crate::specs::EntriesTaken::entry_cost))]
 pub(crate) fn take_entry<KC: MapCodec, VC: MapValueDecode>(
     alloc: Global,
     map: &mut Map<KC::Value, VC::Value>,

@@ -13,7 +13,7 @@ ghost use Rattle.buffa_fields.specs.MapFields.{PairTakesMemory, pair_cost, pair_
 ghost use Rattle.buffa_fields.specs.facts.MapFacts.{distinct_put, map_back, map_stays};
 ghost use Rattle.buffa_fields.specs.Refusals.{RefusesPair};
 ghost use Rattle.buffa_fields.specs.facts.LevelKindFacts.{exact_flat, entry_numbers};
-ghost use Rattle.buffa_fields.specs.facts.ValidFacts.{entry_valid};
+ghost use Rattle.buffa_fields.specs.facts.ValidRecordFacts.{entry_valid};
 
 use crate::meaning::And;
 use crate::members::map::{map_len, take_entry, write_map};

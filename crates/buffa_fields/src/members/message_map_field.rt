@@ -12,7 +12,7 @@ ghost use Rattle.buffa_map.proofs.BackLemmas.{implicit_back};
 ghost use Rattle.buffa_map.specs.Message.{message_reading};
 ghost use Rattle.buffa_map.specs.Pairs.{means, put};
 ghost use Rattle.buffa_map.specs.Encoding.{AllHold};
-ghost use Rattle.buffa_fields.specs.MemberCalls.{SizesPairs, WritesPairs};
+ghost use Rattle.buffa_fields.specs.ListAndMapCalls.{SizesPairs, WritesPairs};
 ghost use Rattle.buffa_fields.specs.MapFields.{PairTakesMemory, pair_cost, pair_taken};
 ghost use Rattle.buffa_fields.specs.facts.MapFacts.{distinct_put, map_stays};
 ghost use Rattle.buffa_fields.specs.Submessages.{FitsInside};
@@ -21,7 +21,7 @@ ghost use Rattle.buffa_fields.specs.MapsOfMessages.{pair_levels, pair_records, p
 ghost use Rattle.buffa_fields.specs.Refusals.{RefusesPair};
 ghost use Rattle.buffa_fields.specs.facts.LevelKindFacts.{pairs_low, pair_numbers};
 ghost use Rattle.buffa_fields.specs.Levels.{AreExactLevels};
-ghost use Rattle.buffa_fields.specs.facts.ValidFacts.{pair_valid};
+ghost use Rattle.buffa_fields.specs.facts.ValidRecordFacts.{pair_valid};
 
 use crate::meaning::And;
 use crate::members::map::take_entry;

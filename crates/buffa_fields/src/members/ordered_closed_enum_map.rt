@@ -12,7 +12,7 @@ ghost use Rattle.buffa_fields.specs.facts.ClosedEnumMapFacts.{kept_map_back, kep
 ghost use Rattle.buffa_fields.specs.MapFields.{entry_records};
 ghost use Rattle.buffa_fields.specs.facts.OrderedFacts.{ascending_put};
 ghost use Rattle.buffa_fields.specs.facts.LevelKindFacts.{exact_flat_unknowns, kept_pair_low, entry_numbers};
-ghost use Rattle.buffa_fields.specs.facts.ValidFacts.{entry_valid};
+ghost use Rattle.buffa_fields.specs.facts.ValidRecordFacts.{entry_valid};
 
 use crate::members::keeps_unknowns::KeepsUnknowns;
 use crate::members::ordered_key::OrderedKey;
@@ -28,7 +28,7 @@ use std::collections::BTreeMap;
 // Merges the entry of the field whose tag was read, or puts it aside where its value is undeclared. A refused one takes no
 // unknown field. `map.len()` is called before and after only for its contract, by which the checker knows that the keys
 // ascend.
-#[tactic(auto, unfolding(crate::specs::Entries::entry_taken, crate::specs::Entries::entry_cost))]
+#[tactic(auto, unfolding(crate::specs::EntriesTaken::entry_taken, crate::specs::EntriesTaken::entry_cost))]
 fn take_kept_ordered<KC: MapCodec, VC: MapCodec>(
     alloc: Global,
     map: &mut BTreeMap<KC::Value, VC::Value>,
@@ -91,7 +91,7 @@ where
       behind = kept_pair_behind KC.reading VC.reading (insert_entry KC.Value.order);
     } };
 
-    #[tactic(auto, unfolding(crate::specs::Unknowns::TookWithUnknowns))]
+    #[tactic(auto, unfolding(crate::specs::UnknownsOfMembers::TookWithUnknowns))]
     fn merge_with_unknowns(
         part: &mut BTreeMap<KC::Value, VC::Value>,
         kept: &mut UnknownFields,

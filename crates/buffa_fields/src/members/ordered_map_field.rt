@@ -9,14 +9,14 @@ ghost use Rattle.buffa_map.proofs.BackLemmas.{implicit_back};
 ghost use Rattle.buffa_map.specs.Encoding.{AllHold};
 ghost use Rattle.buffa_map.specs.Pairs.{means};
 ghost use Rattle.buffa_fields.specs.Calls.{ChecksWire};
-ghost use Rattle.buffa_fields.specs.MemberCalls.{TakesOrderedEntry};
+ghost use Rattle.buffa_fields.specs.ListAndMapCalls.{TakesOrderedEntry};
 ghost use Rattle.buffa_fields.specs.MapFields.{PairTakesMemory, pair_cost, pair_taken, entry_records};
 ghost use Rattle.buffa_fields.specs.facts.MapFacts.{map_back, map_stays};
 ghost use Rattle.buffa_fields.specs.facts.OrderedFacts.{ascending_put};
 ghost use Rattle.buffa_fields.specs.OrderedMaps.{KeysAscend};
 ghost use Rattle.buffa_fields.specs.Refusals.{RefusesPair, RefusesPairIn};
 ghost use Rattle.buffa_fields.specs.facts.LevelKindFacts.{exact_flat, entry_numbers};
-ghost use Rattle.buffa_fields.specs.facts.ValidFacts.{entry_valid};
+ghost use Rattle.buffa_fields.specs.facts.ValidRecordFacts.{entry_valid};
 
 use crate::meaning::And;
 use crate::members::map::{map_len, write_map};
@@ -34,7 +34,7 @@ use std::marker::PhantomData;
 
 // Merges the entry of the field whose tag was read. `map.len()` is called before and after only for its contract, by which
 // the checker knows that the keys ascend.
-#[tactic(auto, unfolding(crate::specs::Entries::entry_taken, crate::specs::Entries::entry_cost))]
+#[tactic(auto, unfolding(crate::specs::EntriesTaken::entry_taken, crate::specs::EntriesTaken::entry_cost))]
 pub(crate) fn take_ordered<KC: MapCodec, VC: MapValueDecode>(
     alloc: Global,
     map: &mut BTreeMap<KC::Value, VC::Value>,

@@ -19,7 +19,7 @@ ghost use Rattle.buffa_fields.specs.OrderedMaps.{KeysAscend};
 ghost use Rattle.buffa_fields.specs.Refusals.{RefusesPair};
 ghost use Rattle.buffa_fields.specs.facts.LevelKindFacts.{pairs_low, pair_numbers};
 ghost use Rattle.buffa_fields.specs.Levels.{AreExactLevels};
-ghost use Rattle.buffa_fields.specs.facts.ValidFacts.{pair_valid};
+ghost use Rattle.buffa_fields.specs.facts.ValidRecordFacts.{pair_valid};
 
 use crate::meaning::And;
 use crate::members::member::Member;

@@ -14,7 +14,7 @@ ghost use Rattle.buffa_fields.specs.facts.ListFacts.{packed_field_back};
 ghost use Rattle.buffa_fields.specs.Refusals.{RefusesElements, UnderAny};
 ghost use Rattle.buffa_fields.specs.Values.{free};
 ghost use Rattle.buffa_fields.specs.facts.LevelKindFacts.{exact_flat, packed_numbers};
-ghost use Rattle.buffa_fields.specs.facts.ValidFacts.{packed_valid};
+ghost use Rattle.buffa_fields.specs.facts.ValidRecordFacts.{packed_valid};
 
 use crate::members::list::take_elements;
 use crate::members::member::Member;

@@ -7,7 +7,7 @@ ghost use Rattle.buffa_fields.specs.facts.ListFacts.{elements_back};
 ghost use Rattle.buffa_fields.specs.Refusals.{RefusesElements, UnderAny};
 ghost use Rattle.buffa_fields.specs.Values.{free};
 ghost use Rattle.buffa_fields.specs.facts.LevelKindFacts.{element_numbers, exact_flat};
-ghost use Rattle.buffa_fields.specs.facts.ValidFacts.{element_valid};
+ghost use Rattle.buffa_fields.specs.facts.ValidRecordFacts.{element_valid};
 
 use crate::members::list::{elements_len, take_elements, write_elements};
 use crate::members::member::Member;

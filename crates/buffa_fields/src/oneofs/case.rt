@@ -7,7 +7,7 @@ ghost use Rattle.buffa_wire.specs.Encoding.{records_encoding};
 ghost use Rattle.buffa_wire.specs.Passes.{IsNext, IsSized, IsWritten};
 ghost use Rattle.buffa_fields.specs.Cases.{CaseWords};
 ghost use Rattle.buffa_fields.specs.Schema.{ReadsBackTo, Shape, Took};
-ghost use Rattle.buffa_fields.specs.Pinned.{meaning_so};
+ghost use Rattle.buffa_fields.specs.TakenClauses.{meaning_so};
 
 use crate::members::member::Member;
 use buffa_wire::{DecodeContext, DecodeError, EncodeError, EncodeSink, SizeCache, Tag};

@@ -2,7 +2,7 @@
 
 ghost use Rattle.std.specs.Prelude.{◌++◌, [], ℕ, List};
 ghost use Rattle.buffa_bytes.specs.Number.{IsNumber};
-ghost use Rattle.buffa_fields.specs.Unknowns.{ReadsBackWithUnknowns};
+ghost use Rattle.buffa_fields.specs.UnknownsOfMembers.{ReadsBackWithUnknowns};
 ghost use Rattle.buffa_fields.specs.Schema.{Comes, ReadsBackTo, Seen, more, visited};
 
 use crate::members::keeps_unknowns::KeepsUnknowns;

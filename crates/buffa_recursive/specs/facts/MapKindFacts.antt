@@ -16,7 +16,7 @@ use Rattle.buffa_wire.specs.Parse.{Fits}
 use Rattle.buffa_wire.specs.Passes.{cap}
 use Rattle.buffa_wire.specs.Records.{bytes, records_of}
 use Rattle.buffa_wire.specs.Takes.{ReadsBack}
-use Rattle.buffa_fields.specs.Entries.{entry_cost, entry_taken, whole_entry_in}
+use Rattle.buffa_fields.specs.EntriesTaken.{entry_cost, entry_taken, whole_entry_in}
 use Rattle.buffa_recursive.specs.MapKeys.{Keys, KeysReadBack}
 use Rattle.buffa_fields.specs.Schema.{ReadsBackTo}
 use Rattle.buffa_fields.specs.facts.LevelKindFacts.{pair_numbers, pairs_low}
@@ -25,9 +25,9 @@ use Rattle.buffa_fields.specs.Submessages.{FitsInside}
 use Rattle.buffa_fields.specs.facts.MapOfMessagesFacts.{pairs_back}
 use Rattle.buffa_fields.specs.MapsOfMessages.{pair_levels, pair_records, pair_slots}
 use Rattle.buffa_fields.specs.facts.OrderedFacts.{ascending_put}
-use Rattle.buffa_fields.specs.facts.ValidFacts.{pair_valid}
-use Rattle.buffa_recursive.specs.TakenThrough.{taken_through}
-use Rattle.buffa_recursive.specs.facts.TakenThroughFacts.{back_through, written_through}
+use Rattle.buffa_fields.specs.facts.ValidRecordFacts.{pair_valid}
+use Rattle.buffa_recursive.specs.TakenByAnother.{taken_through}
+use Rattle.buffa_recursive.specs.facts.TakenByAnotherFacts.{back_through, written_through}
 use Rattle.buffa_recursive.specs.MessageTree.{TreeList, MessageTree, first_tree, children_height, tree_height, no_trees}
 use Rattle.buffa_recursive.specs.RecursiveSchema.{CostAlike, MergeAlike, SayAlike}
 use Rattle.buffa_recursive.specs.MapShape.{pairs_shape, reading_by}

@@ -22,11 +22,11 @@ use Rattle.buffa_fields.specs.MemberRecords.{explicit_records}
 use Rattle.buffa_fields.specs.Submessages.{FitsInside, inside, message_levels, message_slots, taken_there}
 use Rattle.buffa_fields.specs.RepeatedMessages.{messages_levels, messages_slots}
 use Rattle.buffa_fields.specs.Values.{IfThere}
-use Rattle.buffa_recursive.specs.facts.TakenThroughFacts.{back_through, written_through}
+use Rattle.buffa_recursive.specs.facts.TakenByAnotherFacts.{back_through, written_through}
 use Rattle.buffa_recursive.specs.MessageTree.{TreeList, MessageTree, Maybe, first_tree, children_height, tree_height, children_list, list_of-of_list, maybe_height, no_trees, no_tree, of_list, of_list-list_of, of_option, of_option-option_of, option_of, option_of-of_option, some_tree}
 use Rattle.buffa_recursive.specs.RecursiveSchema.{CostAlike, MergeAlike, SayAlike}
 use Rattle.buffa_recursive.specs.InnerMessages.{Semantics, as_other, encoding_by, list_shape, messages_by, child_shape}
-use Rattle.buffa_recursive.specs.TakenThrough.{taken_through}
+use Rattle.buffa_recursive.specs.TakenByAnother.{taken_through}
 
 -- ---- a level down
 paid_alike : (c k : ℕ → List ℕ → BudgetLeft) (d : ℕ) → ((e : ℕ) → suc e ≡ d → c e ≡ k e) → (r : Result (List ℕ × List ℕ) DecodeError) → cost_of_payload c d r ≡ cost_of_payload k d r

@@ -3,7 +3,7 @@ use Rattle.std.proofs.Common.{◌<◌, arith, ◌≡◌, ℕ, ◌≤◌, ◌==�
 use Rattle.std.specs.Option.{option_map}
 use Rattle.buffa_fields.specs.UndeclaredFields.{AllNumbers}
 use Rattle.buffa_fields.specs.Schema.{Schema, Shape}
-use Rattle.buffa_fields.specs.Members.{field, part}
+use Rattle.buffa_fields.specs.MemberList.{field, part}
 use Rattle.buffa_recursive.specs.MessageTree.{MessageTree, message_tree, tree_height, rest_of, inner_height}
 use Rattle.buffa_recursive.specs.RecursiveSchema.{SchemasAlike}
 use Rattle.buffa_fields.specs.MessageParts.{Part, PartLaws}

@@ -2,7 +2,7 @@
 use Rattle.std.proofs.Common.{◌≡◌, [], Option, Some, None, refl, sym, ap, subst, ◌∙◌}
 use Rattle.std.specs.Option.{option_map}
 use Rattle.buffa_wire.specs.Takes.{IsTaken}
-use Rattle.buffa_fields.specs.Unknowns.{Unknowns, IsExactWithUnknowns, ReadsBackWithUnknowns}
+use Rattle.buffa_fields.specs.UnknownsOfMembers.{Unknowns, IsExactWithUnknowns, ReadsBackWithUnknowns}
 use Rattle.buffa_fields.specs.Cases.{CasesLaws, if_there}
 use Rattle.buffa_fields.specs.Schema.{IsExactMember, ReadsBackTo, Seen, Shape, more}
 use Rattle.buffa_fields.specs.facts.SchemaFacts.{more_none}

@@ -1,8 +1,8 @@
 use Rattle.std.proofs.Common.{◌≡◌, ◌↔◌, true}
-use Rattle.buffa_ext.specs.Steps.{step_of}
+use Rattle.buffa_ext.specs.SetsAndClears.{step_of}
 use Rattle.buffa_ext.specs.contracts.steps.StepPartialEq.TheImpl.{ghosts}
-use Rattle.buffa_ext.specs.declared.steps.Step.{Step}
-use Rattle.buffa_ext.specs.declared.steps.Step.TheVariants.{Set, Clear}
+use Rattle.buffa_ext.specs.declared.sets_and_clears.Step.{Step}
+use Rattle.buffa_ext.specs.declared.sets_and_clears.Step.TheVariants.{Set, Clear}
 use Rattle.buffa_ext_laws.proofs.EqualStepLemmas.{steps_are, steps_reported}
 use Rattle.buffa_ext_laws.proofs.extensions.equal_steps_are_one.Goals as goal
 

@@ -1,5 +1,5 @@
 use Rattle.buffa_fields_laws.proofs.BlockLemmas.{both_are}
-use Rattle.buffa_fields_laws.specs.BlockSchemas.{as_with_unknowns}
+use Rattle.buffa_fields_laws.specs.SameSchema.{as_with_unknowns}
 use Rattle.buffa_fields_laws.proofs.blocks.blocks_are_their_members.Goals as goal
 
 pub returns : goal.returns

@@ -1,10 +1,10 @@
 use Rattle.std.proofs.Common.{◌≡◌, ◌==◌, ℕ, Bool, true, false, refl}
 use Rattle.std.proofs.lemmas.Bool.{eq-eqb}
 use Rattle.buffa_fields_laws.proofs.KeptLemmas.{goes_to_unknowns}
-use Rattle.buffa_fields.specs.Unknowns.{Unknowns, TookWithUnknowns}
+use Rattle.buffa_fields.specs.UnknownsOfMembers.{Unknowns, TookWithUnknowns}
 use Rattle.buffa_fields.specs.Schema.{Choice, Schema, Shape}
-use Rattle.buffa_fields.specs.Members.{field, field_with_unknowns}
-use Rattle.buffa_fields.specs.Pinned.{LeavesAlone}
+use Rattle.buffa_fields.specs.MemberList.{field, field_with_unknowns}
+use Rattle.buffa_fields.specs.TakenClauses.{LeavesAlone}
 use Rattle.buffa_fields_laws.proofs.members.members_with_unknowns_are_these.Goals as goal
 
 pub returns-clause-behind : goal.returns-clause-behind

@@ -1,4 +1,4 @@
-use Rattle.buffa_recursive.specs.facts.ExactFacts.{semantics_exact}
+use Rattle.buffa_recursive.specs.facts.LevelFacts.{semantics_exact}
 use Rattle.buffa_fields_laws.proofs.recursive_members.levels_of_messages_that_hold_themselves_are_exact.Goals as goal
 
 pub returns : goal.returns

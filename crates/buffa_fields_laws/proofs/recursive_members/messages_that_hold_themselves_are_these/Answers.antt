@@ -1,6 +1,6 @@
 use Rattle.std.proofs.Common.{◌∙◌, ap, sym}
 use Rattle.buffa_wire.specs.Takes.{merged_of}
-use Rattle.buffa_recursive.specs.facts.TakenThroughFacts.{merged_through}
+use Rattle.buffa_recursive.specs.facts.TakenByAnotherFacts.{merged_through}
 use Rattle.buffa_recursive.specs.RecursiveSchema.{whole_takes}
 use Rattle.buffa_recursive.specs.Fixpoint.{semantics, message_schema}
 use Rattle.buffa_recursive.specs.facts.FixpointFacts.{cost_by_is, is_normal, levels_are, merged_by_is, normal_is, records_are, slots_are}

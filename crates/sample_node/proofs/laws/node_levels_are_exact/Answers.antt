@@ -1,4 +1,4 @@
-use Rattle.buffa_recursive.specs.facts.ExactFacts.{semantics_exact}
+use Rattle.buffa_recursive.specs.facts.LevelFacts.{semantics_exact}
 use Rattle.sample_node.proofs.NodeSchemaLemmas.{members, members_exact, members_sound}
 use Rattle.sample_node.proofs.laws.node_levels_are_exact.Goals as goal
 

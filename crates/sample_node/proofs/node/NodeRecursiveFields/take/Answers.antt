@@ -1,5 +1,5 @@
 use Rattle.std.proofs.Common.{◌∙◌, refl, sym}
-use Rattle.buffa_fields.specs.Unknowns.{TookWithUnknowns}
+use Rattle.buffa_fields.specs.UnknownsOfMembers.{TookWithUnknowns}
 use Rattle.buffa_fields.specs.Schema.{AsksAsSaid, RefusesAsSaid, TakesAsSaid, TellsWrongType}
 use Rattle.buffa_fields.specs.facts.SchemaFacts.{chosen, not_chosen}
 use Rattle.sample_node.proofs.node.NodeRecursiveFields.take.Goals as goal

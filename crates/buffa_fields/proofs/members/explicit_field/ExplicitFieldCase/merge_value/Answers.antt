@@ -2,7 +2,7 @@ use Rattle.std.proofs.Common.{Ok, Err, Some, refl, sym, ap, ◌∙◌}
 use Rattle.std.specs.Option.{option_map}
 use Rattle.std.proofs.lemmas.Result.{err_from_is_err_and}
 use Rattle.buffa_fields.specs.Schema.{AsksAsSaid, RefusesAsSaid, TakesAsSaid, TellsWrongType}
-use Rattle.buffa_fields.specs.facts.PairFacts.{part_taken}
+use Rattle.buffa_fields.specs.facts.FieldAndOthersFacts.{part_taken}
 use Rattle.buffa_fields.specs.Values.{field_value_at, free, some_taken, value_taken}
 use Rattle.buffa_fields.proofs.members.explicit_field.ExplicitFieldCase.merge_value.Goals as goal
 

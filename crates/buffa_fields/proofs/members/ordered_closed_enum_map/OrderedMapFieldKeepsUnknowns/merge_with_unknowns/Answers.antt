@@ -1,5 +1,5 @@
 use Rattle.buffa_fields.proofs.ClosedEnumMapLemmas.{when_refused}
-use Rattle.buffa_fields.specs.Unknowns.{TookWithUnknowns}
+use Rattle.buffa_fields.specs.UnknownsOfMembers.{TookWithUnknowns}
 use Rattle.buffa_fields.proofs.members.ordered_closed_enum_map.OrderedMapFieldKeepsUnknowns.merge_with_unknowns.Goals as goal
 
 pub returns : goal.returns

@@ -1,0 +1,14 @@
+use Rattle.std.proofs.Common.{take}
+use Rattle.buffa_wire.specs.Passes.{IsWritten}
+use Rattle.buffa_wire.specs.Encoding.{records_encoding}
+use Rattle.buffa_wire.specs.Pinned.{done}
+use Rattle.buffa_recursive.specs.Fixpoint.{semantics}
+use Rattle.buffa_recursive.specs.InnerMessages.{list_shape}
+use Rattle.buffa_recursive.proofs.write_inner.write_list.Given as goal
+
+-- the messages so far were written
+abbrev pub invariant-loop-child : goal.invariant-loop-child
+invariant-loop-child g l =
+    let s = list_shape (semantics g.M.RecursiveType.COST g.M.RecursiveType.schema g.M.RecursiveType.sound) in
+    let vs = take l.child-index l.inner_messages in
+    IsWritten (records_encoding (s.records l.number vs)) (s.slots vs) l.fn.cache (g.S.EncodeSink.written l.fn.sink) done l.cache (g.S.EncodeSink.written l.sink)
