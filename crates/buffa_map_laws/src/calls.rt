@@ -19,7 +19,7 @@ ghost use Rattle.buffa_map.specs.Codec.{is_known};
 ghost use Rattle.buffa_map.specs.declared.codec.MapValueDecodeStatus.TheVariants as status;
 ghost use Rattle.buffa_map.specs.declared.rewrite.RewriteError.TheVariants as rewrite;
 ghost use Rattle.buffa_map.specs.Encoding.{AllHold, UsesRoomOf, WritesField, field_encoding};
-ghost use Rattle.buffa_map.specs.Merge.{capacity_after, capacity_before, records_after, records_before};
+ghost use Rattle.buffa_map.specs.PassedList.{capacity_after, capacity_before, records_after, records_before};
 ghost use Rattle.buffa_map.specs.MessageField.{IsSmallField, KeepsMessageRoom, UsesFieldRoom};
 ghost use Rattle.buffa_map.specs.Pairs.{ListsOnce, SamePairs};
 ghost use Rattle.buffa_map.specs.Rewrite.{IfNotDecoded, IfNotEncoded, WhereDecoded};
