@@ -64,7 +64,7 @@ module _ {K V : Type 0} (key : Reading K) (val : Reading V) (same : K → K → 
         IsTaken (pair_taken key val puts) (pair_cost key val cost) d old n w bs s.left (let r : Result (Unit {0}) DecodeError = Err f in r) new t.left rest
     map_err old new limits f k =
         entry_err (dropping key val same keeps d 0 cost) (λ m e s. stepped puts m s) (λ d e. charge_of key val d cost e) (is_cost key val cost d)
-        n w old new bs rest s t checked limits f t.left k refl k.spent.most (omega (arith, k.spent.least))
+        n w old new bs rest s t checked limits f t.left k refl k.spent.fields.0 (omega (arith, k.spent.fields.1))
 
     -- nor where it is refused, and tells its fault
     pub map_refused : (f e : DecodeError) → f ≡ e → RefusesEntry (dropping key val same keeps d 0 cost) s bs t rest f → RefusesPair key val cost d s.pairs n w bs s.left e t.pairs

@@ -25,7 +25,8 @@ pub use Rattle.buffa_wire.specs.Encoding.{records_encoding, wire_of}
 pub use Rattle.buffa_wire.specs.RecordsOfValues.{AnswersRecords, CalledAtRecord, field_data_of, record_of, records_in}
 pub use Rattle.buffa_map.specs.Calls.{MergesMessages, SizesMessages, WritesMapField, WritesMessages}
 pub use Rattle.buffa_map.specs.Codec.{AlwaysDeclared, HoldsNothing, IsWhole, Reading, RefusesValue, Spends, ReadingTakesMemory, Writing, is_known, level, value_at}
-pub use Rattle.buffa_map.specs.Merge.{MergesEntry, ReadsRun, RefusesEntry, Rules, State, RefusesRun, rules, state, records_before, records_after, capacity_before, capacity_after}
+pub use Rattle.buffa_map.specs.Merge.{MergesEntry, ReadsRun, RefusesEntry, Rules, State, RefusesRun, rules, state}
+pub use Rattle.buffa_map.specs.PassedList.{records_before, records_after, capacity_before, capacity_after}
 pub use Rattle.buffa_map.specs.MessageField.{IsFieldSized, IsFieldWritten, KeepsMessageRoom, UsesFieldRoom, field_slots}
 pub use Rattle.buffa_map.specs.Pairs.{InOrder, ListsOnce, SamePairs, mean, means, put}
 pub use Rattle.buffa_map.specs.Encoding.{AllHold, HasEncoding, entry_encoding, field_size, field_encoding, record_encoding, saturated}

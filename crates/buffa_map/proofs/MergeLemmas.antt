@@ -45,9 +45,8 @@ module _ {K V : Type 0} (r : Rules K V) (pairs : List (K × V)) (records : List 
       units = inl refl;
       charged = λ e rest t room. no_length r.key r.val r.depth bs f h e rest t;
       unspent = λ no. refl;
-      most = omega arith;
-      least = omega arith;
-      no_keeping = λ ne. omega arith;
+      fields = (omega arith, omega arith);
+      not_kept = λ ne. (omega arith, omega arith);
     };
   }
 
@@ -76,9 +75,8 @@ module _ {K V : Type 0} (r : Rules K V) (pairs : List (K × V)) (records : List 
         units = inr (omega (arith, charged), omega (arith, charged));
         charged = λ x after t room. omega (arith, charged);
         unspent = λ none. absurd (none e rest there);
-        most = omega (arith, slots);
-        least = omega (arith, slots);
-        no_keeping = λ ne. omega (arith, slots);
+        fields = (omega (arith, slots), omega (arith, slots));
+        not_kept = λ ne. (omega (arith, slots), omega (arith, slots));
       };
     }
 
@@ -115,9 +113,8 @@ module _ {K V : Type 0} (r : Rules K V) (pairs : List (K × V)) (records : List 
             units = parts_units over.memory h.units;
             charged = λ e rest t room. h.charged room;
             unspent = λ none. absurd (none e rest there);
-            most = h.most;
-            least = omega (arith, h.least, taken);
-            no_keeping = λ ne. omega (arith, h.least, taken);
+            fields = (h.most, omega (arith, h.least, taken));
+            not_kept = λ ne. (h.most, omega (arith, h.least, taken));
           };
         }
 
@@ -179,9 +176,8 @@ module _ {K V : Type 0} (r : Rules K V) (pairs : List (K × V)) (records : List 
               units = inr (omega (arith, h.pays, unit), omega (arith, h.pays, unit, units));
               charged = λ e rest t room. omega (arith, h.pays, unit);
               unspent = λ none. absurd (none e rest there);
-              most = omega (arith, h.pays, most);
-              least = omega (arith, h.pays, least, taken);
-              no_keeping = λ ne. omega (arith, h.pays, (which ne).3, taken);
+              fields = (omega (arith, h.pays, most), omega (arith, h.pays, least, taken));
+              not_kept = λ ne. (omega (arith, h.pays, most), omega (arith, h.pays, (which ne).3, taken));
             };
           }
 

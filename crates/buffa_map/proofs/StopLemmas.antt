@@ -121,8 +121,8 @@ module _ {K V : Type 0} (r : Rules K V) (now new : State K V) (rest tail : List 
         units = elim k.spent.units [ inl e ↦ inl e | inr e ↦ inr (e.0, omega (arith, e.1, units)) ];
         charged = λ m e after is t room. k.spent.charged e after (subst (λ z. TakesDelimited z e after) (one_after rest m mid r.number r.number LengthDelimited LengthDelimited is found) t) room;
         unspent = λ no. k.spent.unspent (λ e after t. no (mid, found, rw (delimited_taken mid e after t) cc));
-        most = k.spent.most;
-        no_keeping = λ ne. omega (arith, k.spent.no_keeping ne, taken);
+        most = k.spent.fields.0;
+        no_keeping = λ ne. omega (arith, (k.spent.not_kept ne).1, taken);
       }
 
   pairs_by : IsRefused → new.pairs ≡ now.pairs

@@ -8,6 +8,7 @@ pub mod EntryReading
 pub mod Run
 pub mod RunReading
 pub mod Merge
+pub mod PassedList
 pub mod EntryFieldsSpent
 pub mod Encoding
 pub mod Message

@@ -1,21 +1,19 @@
 -- What reading entries does to a map, to the records that are kept beside it, and to a budget: first a run of them, then the
--- entry that is refused, and at the end the list that may be passed, and one entry alone.
+-- entry that is refused, and at the end one entry alone.
 --
 -- Read `p × q` as "p and q", `p ⊎ q` as "p or q", `p → ⊥` as "not p", `(x : A) × p` as "there is an x such that p", and `(x : A) → p`
 -- as "for every x, p". A record holds where all its parts do. `OnOk r P` says that P, if r is `Ok`; `IfErr r P` says `P f`, if r is
 -- `Err f`; and `lookup_entry` finds the pair of a key. In a clause, `x.old` and `x.new` are what x holds at the call and at the
 -- return, and `x.entry` and `x.exit` the same of a parameter that holds a `&mut`, or may be one. `B.unread` is the bytes that a
 -- buffer has left, `B.beyond` those behind the limits of the buffers that were lent, and `C.pairs` what a map holds, in some order.
-use Rattle.std.specs.Prelude.{ℕ, ◌+◌, length, List, [], Option, None, Some, ◌≡◌, ◌≢◌, ◌<◌, ◌≤◌, Bool, ◌++◌, ◌⊎◌, if◌then◌else◌, true}
-use Rattle.std.proofs.Common.{inl, inr}
-use Rattle.buffa_wire.specs.Records.{FieldData, Held}
-use denote.Ref.{MutBor}
+use Rattle.std.specs.Prelude.{ℕ, ◌+◌, List, [], ◌≡◌, ◌≢◌, ◌<◌, ◌≤◌, Bool, ◌++◌, ◌⊎◌, if◌then◌else◌, true}
+use Rattle.buffa_wire.specs.Records.{FieldData}
 use Rattle.buffa_bytes.specs.declared.error.DecodeError.{DecodeError}
 use Rattle.buffa_bytes.specs.declared.error.DecodeError.TheVariants.{OutOfMemory, UnexpectedField, WireTypeMismatch}
 use Rattle.buffa_bytes.specs.Unread.{past_no_tag, past_no_delimited, IsTailOf}
 use Rattle.buffa_bytes.specs.declared.wire_type.WireType.{WireType}
 use Rattle.buffa_bytes.specs.Field.{TagFault, TakesDelimited, TakesTag}
-use Rattle.buffa_wire.specs.BudgetLeft.{BudgetLeft, Pays, plus, unknown_fields}
+use Rattle.buffa_wire.specs.BudgetLeft.{BudgetLeft, Pays, UnknownsSpent, plus, unknown_fields}
 use Rattle.buffa_bytes.specs.declared.wire_type.WireType.TheVariants.{LengthDelimited}
 use Rattle.buffa_map.specs.Codec.{Reading}
 use Rattle.buffa_map.specs.Entry.{EntryFault, EntryOf, IsEntry, EntryFieldsTakeMemory}
@@ -108,22 +106,22 @@ pub record LeavesEntry (bytes : List ℕ) (f : DecodeError) (unread : List ℕ) 
   -- where no length and so many bytes were there, what follows the length, or what follows the first ten bytes where no length was
   pub nothing_there : ((e rest : List ℕ) → TakesDelimited bytes e rest → ⊥) → unread ≡ past_no_delimited bytes
 
--- what a refused entry spends of a budget
+-- Of so much element memory nothing was spent; or the cost of an entry, and of what the messages in it need (`inner`) at most all.
+abbrev pub SpendsUnits : ℕ → ℕ → ℕ → ℕ → Type 0
+SpendsUnits cost inner left left_after = (left_after ≡ left) ⊎ ((left_after + cost ≤ left) × (left ≤ left_after + (cost + inner)))
+
+-- What a refused entry spends of a budget. The messages in it need `inner_charge`.
 pub record SpendsOnEntry {K V : Type 0} (r : Rules K V) (left : BudgetLeft) (bytes : List ℕ) (f : DecodeError) (left_after : BudgetLeft) : Type 0 where
-  -- of element memory nothing, or the entry's units and at most what the messages in it cost
-  pub units : (left_after.memory ≡ left.memory)
-      ⊎ ((left_after.memory + r.cost ≤ left.memory)
-      × (left.memory ≤ left_after.memory + (r.cost + (inner_charge r.key r.val r.depth bytes).memory)))
-  -- the units at least, where the entry was there and they were left, whatever it was refused for
+  -- of element memory nothing, or its units and at most what the messages in it need
+  pub units : SpendsUnits r.cost (inner_charge r.key r.val r.depth bytes).memory left.memory left_after.memory
+  -- the units, where it was there and they were left: they stay spent, whatever it was refused for
   pub charged : (e rest : List ℕ) → TakesDelimited bytes e rest → r.cost ≤ left.memory → left_after.memory + r.cost ≤ left.memory
+  -- of the unknown fields at most what the messages in it need, and the one that keeps it
+  pub fields : UnknownsSpent (unknown_cost r + (inner_charge r.key r.val r.depth bytes).unknown) left.unknown left_after.unknown
+  -- and not that one, unless memory ran out
+  pub not_kept : f ≢ OutOfMemory → UnknownsSpent (inner_charge r.key r.val r.depth bytes).unknown left.unknown left_after.unknown
   -- nothing, where no length and so many bytes were there
   pub unspent : ((e rest : List ℕ) → TakesDelimited bytes e rest → ⊥) → left_after ≡ left
-  -- of the unknown fields at most those are left that were
-  pub most : left_after.unknown ≤ left.unknown
-  -- and at least those without the one that keeps the entry, and without what the messages in it cost
-  pub least : left.unknown ≤ left_after.unknown + (unknown_cost r + (inner_charge r.key r.val r.depth bytes).unknown)
-  -- the one that keeps the entry is gone only where memory ran out
-  pub no_keeping : f ≢ OutOfMemory → left.unknown ≤ left_after.unknown + (inner_charge r.key r.val r.depth bytes).unknown
 
 -- The entry at the front was refused, and f is why. A fault inside a message may be told as any error but the two of a budget,
 -- `UnknownFieldLimitExceeded` and `ElementMemoryLimitExceeded`. Where the entry's units are left, but not what its messages need besides,
@@ -162,34 +160,6 @@ pub record RefusesRun {K V : Type 0} (r : Rules K V) (old : State K V) (bytes : 
   -- no tag of the field begins the second, and the state stands; or one does, and the entry behind it was refused
   pub refused : (RefusesTag r.number rest tail f × (new ≡ between))
       ⊎ ((mid : List ℕ) × TakesTag rest r.number LengthDelimited mid × RefusesEntry r between mid new tail f)
-
--- ---- a list that may be passed, before a call and after it
-
--- The records of the list at the return, none where no list was passed. The raw form of what an `Option` held is at the
--- return: `inl` of nothing; or `inr (inl s)`, where s.0 is what was lent.
-abbrev pub records_after : Unit {0} ⊎ ((MutBor Held × Unit {0}) ⊎ ⊥) → List (ℕ × FieldData)
-records_after (inl u) = []
-records_after (inr (inl s)) = s.0.now.records
-records_after (inr (inr s)) = []
-
--- the records of the list at the call, none where no list was passed
-abbrev pub records_before : Option (MutBor Held) → List (ℕ × FieldData)
-records_before None = []
-records_before (Some list) = list.now.records
-
--- how many records a list can hold: those that it has, and its room
-abbrev pub capacity_of : Held → ℕ
-capacity_of list = length list.records + list.spare
-
--- the same of a list that may be passed, at the call, and at the return
-abbrev pub capacity_before : Option (MutBor Held) → ℕ
-capacity_before None = 0
-capacity_before (Some list) = capacity_of list.now
-
-abbrev pub capacity_after : Unit {0} ⊎ ((MutBor Held × Unit {0}) ⊎ ⊥) → ℕ
-capacity_after (inl u) = 0
-capacity_after (inr (inl s)) = capacity_of s.0.now
-capacity_after (inr (inr s)) = 0
 
 -- ---- one entry, and what takes an entry without its length
 

@@ -5,7 +5,8 @@ ghost use Rattle.buffa_bytes.specs.declared.error.DecodeError.TheVariants.{Eleme
 ghost use Rattle.buffa_bytes.specs.Readings.{varint_at};
 ghost use Rattle.buffa_wire.specs.BudgetLeft.{budget_left, plus, units};
 ghost use Rattle.buffa_map.specs.Entry.{entry_meaning};
-ghost use Rattle.buffa_map.specs.Merge.{MergesEntry, MergesWhole, RefusesEntry, RefusesWhole, rules, state, records_before, records_after, capacity_before, capacity_after};
+ghost use Rattle.buffa_map.specs.Merge.{MergesEntry, MergesWhole, RefusesEntry, RefusesWhole, rules, state};
+ghost use Rattle.buffa_map.specs.PassedList.{records_before, records_after, capacity_before, capacity_after};
 ghost use Rattle.buffa_map.specs.Pairs.{InOrder, SamePairs, put};
 ghost use Rattle.buffa_map.specs.EntryFieldsSpent.{ReadsCut, ReadsParts, RefusesCut, RefusesParts};
 

@@ -4,7 +4,7 @@ ghost use Rattle.std.specs.Prelude.{◌≡◌, ◌≢◌, ◌+◌, ◌<◌, ◌�
 ghost use Rattle.std.specs.Prelude.{IfErr, OnErr, OnOk, if◌then◌else◌};
 ghost use Rattle.buffa_bytes.specs.declared.error.DecodeError.TheVariants.{OutOfMemory, UnknownFieldLimitExceeded};
 ghost use Rattle.buffa_wire.specs.Records.{FieldData, bytes};
-ghost use Rattle.buffa_map.specs.Merge.{capacity_of};
+ghost use Rattle.buffa_map.specs.PassedList.{capacity_of};
 
 use buffa_wire::{Budget, DecodeError, UnknownField, UnknownFieldData, UnknownFields};
 use std::alloc::Global;

@@ -2,7 +2,8 @@
 
 ghost use Rattle.std.specs.Prelude.{◌≡◌, ◌+◌, ◌≤◌, IfErr, OnOk, is_some};
 ghost use Rattle.buffa_wire.specs.BudgetLeft.{budget_left};
-ghost use Rattle.buffa_map.specs.Merge.{ReadsRun, RefusesRun, rules, state, records_before, records_after, capacity_before, capacity_after};
+ghost use Rattle.buffa_map.specs.Merge.{ReadsRun, RefusesRun, rules, state};
+ghost use Rattle.buffa_map.specs.PassedList.{records_before, records_after, capacity_before, capacity_after};
 
 use crate::codec::{MapCodec, MapValueDecode};
 use crate::entry::merge_entry_by;

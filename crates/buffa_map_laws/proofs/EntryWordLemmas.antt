@@ -251,7 +251,7 @@ module _ {K V : Type 0} (r : Rules K V) where
     records = λ old new bs tail f h. h.records;
     charged = λ old new bs e rest tail f h is room. let t = agree_ok (delimited_at bs) (e, rest) (delimited_sound bs) is in h.spent.charged e rest (t.0, t.1, t.2) room;
     unread = λ old new bs e rest tail f h ne is. let t = agree_ok (delimited_at bs) (e, rest) (delimited_sound bs) is in h.unread.past ne e rest (t.0, t.1, t.2);
-    most = λ old new bs tail f h. elim h.spent.units [ inl same ↦ (omega (arith, same), h.spent.most) | inr paid ↦ (omega (arith, paid.0), h.spent.most) ];
+    most = λ old new bs tail f h. elim h.spent.units [ inl same ↦ (omega (arith, same), h.spent.fields.0) | inr paid ↦ (omega (arith, paid.0), h.spent.fields.0) ];
     memory = λ old new bs tail h. let k = h.memory refl in (k.0, k.1, delimited_taken bs k.0 k.1 k.2);
     put = λ old new bs tail h key val drops. put_only old.left bs key val drops (h.memory refl);
     units = λ old new bs e rest tail f h is.
@@ -259,7 +259,7 @@ module _ {K V : Type 0} (r : Rules K V) where
         elim h.spent.units [ inl stays ↦ omega (arith, stays) | inr paid ↦ omega (arith, same, paid.1) ];
     fields = λ old new bs e rest tail f h is.
         let same = ap (λ z. z.unknown) (inner bs e rest is) in
-        (omega (arith, same, h.spent.least), λ ne. omega (arith, same, h.spent.no_keeping ne));
+        (omega (arith, same, h.spent.fields.1), λ ne. omega (arith, same, (h.spent.not_kept ne).1));
     unspent = λ old new bs tail f g h is. (h.spent.unspent (not_delimited bs g is), h.unread.nothing_there (not_delimited bs g is));
     end = λ old new bs tail f h. h.unread.tail;
     all_units = λ old new bs tail f h. elim h.spent.units [ inl same ↦ inl same | inr paid ↦ inr paid.0 ];

@@ -158,7 +158,7 @@ module _ {K V : Type 0} (r : Rules K V)
         let none = inner_none r.key r.val r.depth r.number r.cost (unknown_cost r) key_free val_free plain bs in
         let unit = ap (λ (z : BudgetLeft). z.memory) none in
         let taken = ap (λ (z : BudgetLeft). z.unknown) none in
-        same_left a.left b.left (omega (arith, h.spent.most, k.spent.most, h.spent.no_keeping ne, k.spent.no_keeping nf, taken))
+        same_left a.left b.left (omega (arith, h.spent.fields.0, k.spent.fields.0, (h.spent.not_kept ne).1, (k.spent.not_kept nf).1, taken))
         (one_memory old.left.memory r.cost (inner_charge r.key r.val r.depth bs).memory a.left.memory b.left.memory unit h.spent.units k.spent.units (h.spent.charged p.0 p.1 t) (k.spent.charged p.0 p.1 t))
     refused_left (Err z) is = h.spent.unspent (not_delimited bs z is) ∙ sym (k.spent.unspent (not_delimited bs z is))
 

@@ -36,7 +36,7 @@ module _ {K V : Type 0} (r : Rules K V) (charge : (e : List ℕ) → charge_of r
         which = λ ne. fault_of_plain old.left f (h.fault ne);
         units = either old.left.memory new.left.memory r.cost _ h.spent.units unit;
         charged = λ e rest t room. exact old.left.memory new.left.memory r.cost _ h.spent.units unit (h.spent.charged e rest t room);
-        most = h.spent.most;
-        least = omega (arith, h.spent.least, extra);
-        no_keeping = λ ne. omega (arith, h.spent.most, h.spent.no_keeping ne, extra);
+        most = h.spent.fields.0;
+        least = omega (arith, h.spent.fields.1, extra);
+        no_keeping = λ ne. omega (arith, h.spent.fields.0, (h.spent.not_kept ne).1, extra);
       }

@@ -19,9 +19,10 @@ ghost use Rattle.buffa_map.specs.Codec.{is_known};
 ghost use Rattle.buffa_map.specs.declared.codec.MapValueDecodeStatus.TheVariants as status;
 ghost use Rattle.buffa_map.specs.declared.rewrite.RewriteError.TheVariants as rewrite;
 ghost use Rattle.buffa_map.specs.Encoding.{AllHold, UsesRoomOf, WritesField, field_encoding};
-ghost use Rattle.buffa_map.specs.Merge.{capacity_after, capacity_before, records_after, records_before};
+ghost use Rattle.buffa_map.specs.PassedList.{capacity_after, capacity_before, records_after, records_before};
 ghost use Rattle.buffa_map.specs.MessageField.{IsSmallField, KeepsMessageRoom, UsesFieldRoom};
 ghost use Rattle.buffa_map.specs.Pairs.{ListsOnce, SamePairs};
+ghost use Rattle.buffa_map.specs.Rewrite.{IfNotDecoded, IfNotEncoded, WhereDecoded};
 ghost use Rattle.buffa_map.specs.Rewrite.{IsOrderedClass, KeepsMeaning, MatchRefusal, Ordered, SeenByTwo, first, last, seen};
 ghost use Rattle.buffa_map.specs.Run.{EntryRecord, fold_entries, undeclared};
 ghost use Rattle.buffa_map.specs.Scalars.{delimited_writing};
@@ -38,6 +39,20 @@ pub fn answers_are_these()
         ↔ (f ≡ g) }
     ensures encoding_refused { (g : DecodeError) (d e : EncodeError) →
         MatchRefusal (rewrite.Encode d) (λ x. x ≡ g) (λ y. y ≡ e) ↔ (d ≡ e) }
+{}
+
+/// What is said of a rewrite where its bytes were read, where they were refused, and where the encoding was.
+pub fn rewrites_end_so()
+    ensures done { (a b c : ℕ) (f : DecodeError) (e : EncodeError) → (WhereDecoded {T = ℕ} (Ok a) (b ≡ c) ↔ (b ≡ c))
+        × IfNotDecoded {T = ℕ} (Ok a) (λ x. x ≡ f) × IfNotEncoded {T = ℕ} (Ok a) (λ x. x ≡ e) }
+    ensures not_decoded { (b c : ℕ) (f g : DecodeError) (e : EncodeError) →
+        WhereDecoded {T = ℕ} (Err (rewrite.Decode f)) (b ≡ c)
+        × (IfNotDecoded {T = ℕ} (Err (rewrite.Decode f)) (λ x. x ≡ g) ↔ (f ≡ g))
+        × IfNotEncoded {T = ℕ} (Err (rewrite.Decode f)) (λ x. x ≡ e) }
+    ensures not_encoded { (b c : ℕ) (f : DecodeError) (d e : EncodeError) →
+        (WhereDecoded {T = ℕ} (Err (rewrite.Encode d)) (b ≡ c) ↔ (b ≡ c))
+        × IfNotDecoded {T = ℕ} (Err (rewrite.Encode d)) (λ x. x ≡ f)
+        × (IfNotEncoded {T = ℕ} (Err (rewrite.Encode d)) (λ x. x ≡ e) ↔ (d ≡ e)) }
 {}
 
 /// The records of a list that may be passed to a call, and how many it can hold, at the call and at its return.

@@ -242,11 +242,18 @@ pub fn fields_of_messages_are_written_so<KC: MapCodec, M: MessageSpec>()
 
 /// What the clauses of [`rewrite_map_field`](buffa_map::map_codec::rewrite_map_field) say together of a call that left its map as `storage` is:
 /// the run was read and rewritten (`RewritesRun`), or its encoding was refused (`RefusesEncoding`). The laws of rewrites speak of these two.
+/// Besides, which entries the clauses mean, and which encoding.
 pub fn rewrites_are_whole<
     KC: MapCodec,
     VC: MapCodec,
     C: MapStorage<Key = KC::Value, Value = VC::Value>,
 >()
+    ensures entries { (a b d n : ℕ) (bs : List ℕ) (fs : List (EntryRecord KC.Value.Meaning VC.Value.Meaning)) →
+        ForEntriesOf (rules (KC.reading, a) (VC.reading, b) (C.equal, C.keeps_order) d n true) bs (λ es. es ≡ fs)
+        ↔ ((es : List (EntryRecord KC.Value.Meaning VC.Value.Meaning)) → Run KC.reading VC.reading d n bs es → es ≡ fs) }
+    ensures encoding { (n : ℕ) (l : List (KC.Value.Meaning × VC.Value.Meaning)) (es : List (EntryRecord KC.Value.Meaning VC.Value.Meaning)) →
+        rewrite_encoding (field_writing KC.writing VC.writing n) l es
+        ≡ field_encoding KC.writing VC.writing n l ++ records_encoding (map (λ e. (n, bytes e)) (undeclared es)) }
     ensures written { (a b d n before after : ℕ) (storage : C) (left over : BudgetLeft) (bs rest old written : List ℕ) →
         ((kept : List (ℕ × FieldData)) × ReadsRun (rules (KC.reading, a) (VC.reading, b) (C.equal, C.keeps_order) d n true)
         (state [] [] left) bs (state (C.pairs storage) kept over) rest) →

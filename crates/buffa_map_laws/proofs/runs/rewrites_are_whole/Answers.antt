@@ -1,7 +1,13 @@
-use Rattle.std.proofs.Common.{true}
+use Rattle.std.proofs.Common.{refl, true}
 use Rattle.buffa_map.specs.Merge.{rules}
 use Rattle.buffa_map.proofs.RewriteWholeLemmas.{unencoded, whole}
 use Rattle.buffa_map_laws.proofs.runs.rewrites_are_whole.Goals as goal
+
+pub returns-clause-entries : goal.returns-clause-entries
+returns-clause-entries g c = λ a b d n bs fs. (λ h. h, λ h. h)
+
+pub returns-clause-encoding : goal.returns-clause-encoding
+returns-clause-encoding g c = λ n l es. refl
 
 pub returns-clause-written : goal.returns-clause-written
 returns-clause-written g c = λ a b d n before after storage left over bs rest old written.
