@@ -77,10 +77,14 @@ pub trait Member {
         buf: &mut &[u8],
         ctx: DecodeContext<'_>,
     ) -> Result<(), DecodeError>
+        // Accepted, its payload makes the value what `shape.takes` says, and `shape.charge` is spent; refused, at most that.
         ensures taken { TakesAsSaid shape (tagged_field tag ctx.entry buf.old) part.old result part.new
             (budget_left ctx.exit) buf.new.now }
+        // Memory runs out only where `shape.asks` says that some may be asked for.
         ensures memory { AsksAsSaid shape (tagged_field tag ctx.entry buf.old) result }
+        // A fault that `shape.checks` finds is told; then nothing has changed, and the field is unread.
         ensures wrong_type { TellsWrongType shape (tagged_field tag ctx.entry buf.old) part.old result part.new buf.new.now }
+        // Of the error, and of what stands then, `shape.refuses` says what it may be.
         ensures refused { RefusesAsSaid shape (tagged_field tag ctx.entry buf.old) part.old result part.new };
 
     /// The encoding reads back, and the value nests exactly as deep as it says, where the messages in it do.
