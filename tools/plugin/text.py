@@ -5,6 +5,7 @@ import blocks
 import getters
 import knots
 import labels
+import limits
 import oneof
 import required
 from derived import derives
@@ -89,7 +90,8 @@ def message_docs(message):
     made += ["", "It has no `==`, since it holds itself, or a message in it does."] * (bool(message.world.equal) and not message.is_compared)
     made += ["", "Its extensions are those of its `unknown_fields`."] * bool(message.rest)
     made += ["", "A MessageSet: its Items are among the fields that aren't declared, each a group of number 1."] * message.is_set
-    return docs(made + [] if message.is_keeping else made + ["", "The fields that aren't declared are passed over."])
+    made += limits.remarks(message)
+    return docs(made if message.is_keeping else made + ["", "The fields that aren't declared are passed over."])
 
 
 def lines_of(declared):
