@@ -5,9 +5,6 @@ its struct is."""
 # each counted wherever it stands. A meaning that is deeper than this, or has more messages in it, gets a name.
 DEEPEST = 40
 MOST_MESSAGES = 24
-# It takes a oneof of messages only where these have some 60 members together, those of messages in them too. Of more, the largest
-# messages get a name for what they mean.
-MOST_IN_CASES = 40
 
 # The checker takes structs, enums and references one in the other so deep. What is in a Box, a Vec or a map is behind a pointer, and
 # doesn't count. What isn't named is a number, or a closed enum, which is 1 deep.
@@ -80,48 +77,25 @@ def see_structs(world, messages):
         see(message)
 
 
-class Meanings:
-    """How deep and how large what messages mean is, and which of them get a name for that."""
-
-    def __init__(self, messages):
-        self.messages, self.depths, self.counts, self.sizes = messages, {}, {}, {}
-
-    def inside(self, fields):
-        """The messages in some fields, each as often as it stands there."""
-        return [self.messages[it] for k in fields for it in k.inside if it in self.messages]
-
-    def see(self, message):
-        """Sees those inside, and then the message: a name is given to one that is too deep, or has too many messages in it."""
-        full = message.name.full
-        if full in self.depths:
-            return
-        self.depths[full], self.counts[full], self.sizes[full] = 0, 1, 1
-        inside = self.inside(message.members)
-        for inner in inside:
-            self.see(inner)
-        for one in message.oneofs:
-            self.see_cases(self.inside(one.cases))
-        count = 1 + sum(self.counts[it.name.full] for it in inside)
-        deep = depth(message, self.depths)
-        self.depths[full], self.counts[full], self.sizes[full] = deep, count, len(message.fields) + sum(self.sizes[it.name.full] for it in inside)
-        if message.holds_itself or deep > DEEPEST or count > MOST_MESSAGES:
-            self.give_name(message)
-
-    def see_cases(self, cases):
-        """Gives a name to the largest messages of a oneof, until what all of them mean isn't too large. Those of another module keep theirs."""
-        made = [it for it in cases if not it.world.is_mapped(it.name.full)]
-        for message in sorted(made, key=lambda it: -self.sizes[it.name.full]):
-            if sum(self.sizes[it.name.full] for it in cases) > MOST_IN_CASES:
-                self.give_name(message)
-
-    def give_name(self, message):
-        """Gives a message a name for what it means: one that holds itself means itself."""
-        message.is_opaque = not message.holds_itself
-        self.depths[message.name.full] = self.counts[message.name.full] = self.sizes[message.name.full] = 1
-
-
 def name_meanings(messages):
-    """Gives those a meaning with a name that are too deep or too large, from the innermost outwards."""
-    meanings = Meanings(messages)
+    """Gives those a meaning with a name that are too deep, from the innermost outwards. A message that holds itself means itself. Counts of
+    each message the members, with those of the messages in it, but for what has a name."""
+    depths, counts = {}, {}
+
+    def see(message):
+        full = message.name.full
+        if full in depths:
+            return
+        depths[full], counts[full], message.size = 0, 1, 1
+        inside = [messages[it] for k in message.members for it in k.inside if it in messages]
+        for inner in inside:
+            see(inner)
+        count = 1 + sum(counts[it.name.full] for it in inside)
+        deep = depth(message, depths)
+        message.is_opaque = not message.holds_itself and (deep > DEEPEST or count > MOST_MESSAGES)
+        has_name = message.holds_itself or message.is_opaque
+        depths[full], counts[full] = (1, 1) if has_name else (deep, count)
+        message.size = 1 if has_name else len(message.fields) + sum(it.size for it in inside)
+
     for message in messages.values():
-        meanings.see(message)
+        see(message)
