@@ -20,7 +20,7 @@ ALL_BELOW = "all_below"
 LACKS = re.compile(r"lacks the line: \w+: *(.*)")
 FUNCTION = re.compile(r"^ *fn (\S+): (proved|not proved|no proof|not stated|could not tell)", re.M)
 # What a check prints beside what it refuses.
-BESIDE = re.compile(r" *(note:|so far:|by-macro:|logic[ =]|only=|statements |incremental |hides |empty contracts:|rt: )|\S+: note: ")
+BESIDE = re.compile(r" *(note:|so far:|by-macro:|logic[ =]|only=|statements |incremental |hides |crate \S+: modules |empty contracts:|rt: )|\S+: note: ")
 # So many lines are printed of what a file is refused for.
 MOST_LINES = 40
 
