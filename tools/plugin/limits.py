@@ -2,9 +2,9 @@
 
 # A message that holds itself was proved with as many members. Of one of 18 `take` wasn't, since the checker stopped at its limit of steps.
 MOST_INSIDE_ITSELF = 10
-# Where the messages of a oneof have more members together, with those of the messages in them, its `visit` may not be proved: of 150 the
-# checker didn't cover it, since it is generic over types that are too large.
-MOST_IN_CASES = 81
+# The messages of a oneof had as many members together, with those of the messages in them, where the checker covered `visit` of the message.
+# Of 96 it didn't, since that is generic over types that are too large.
+MOST_IN_CASES = 76
 
 
 def passed(message, messages):
@@ -18,7 +18,7 @@ def passed(message, messages):
         size = sum(it.size for _, it in held)
         if size > MOST_IN_CASES:
             largest = [max(held, key=lambda it: it[1].size)[0]]
-            why = f"the messages in its oneof {one.it.name} have {size} members together, and such of 150 weren't proved"
+            why = f"the messages in its oneof {one.it.name} have {size} members together: the checker took {MOST_IN_CASES}, and not 96"
             yield why, f"hold the largest as encodings, as by {parameters('encoded', largest)}, or leave members out by leave=NAME"
 
 
