@@ -78,14 +78,15 @@ def see_structs(world, messages):
 
 
 def name_meanings(messages):
-    """Gives those a meaning with a name that are too deep, from the innermost outwards. A message that holds itself means itself."""
+    """Gives those a meaning with a name that are too deep, from the innermost outwards. A message that holds itself means itself. Counts of
+    each message the members, with those of the messages in it, but for what has a name."""
     depths, counts = {}, {}
 
     def see(message):
         full = message.name.full
         if full in depths:
             return
-        depths[full], counts[full] = 0, 1
+        depths[full], counts[full], message.size = 0, 1, 1
         inside = [messages[it] for k in message.members for it in k.inside if it in messages]
         for inner in inside:
             see(inner)
@@ -94,6 +95,7 @@ def name_meanings(messages):
         message.is_opaque = not message.holds_itself and (deep > DEEPEST or count > MOST_MESSAGES)
         has_name = message.holds_itself or message.is_opaque
         depths[full], counts[full] = (1, 1) if has_name else (deep, count)
+        message.size = 1 if has_name else len(message.fields) + sum(it.size for it in inside)
 
     for message in messages.values():
         see(message)

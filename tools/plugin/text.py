@@ -5,6 +5,7 @@ import blocks
 import getters
 import knots
 import labels
+import limits
 import oneof
 import required
 from derived import derives, says_what_is_missing
@@ -85,7 +86,7 @@ def docs(lines, indent=""):
     return [f"{indent}/// {it}".rstrip() for it in lines]
 
 
-def message_docs(message):
+def message_docs(message, messages):
     made = list(message.name.said) + ([""] if message.name.said else [])
     made += [f"message {message.it.name} {{"] + [f"    {line}" for k in message.members for line in lines_of(k.declared())]
     made += ["    option message_set_wire_format = true;"] * message.is_set
@@ -96,7 +97,8 @@ def message_docs(message):
     made += says_what_is_missing(message)
     made += ["", "Its extensions are those of its `unknown_fields`."] * bool(message.rest)
     made += ["", "A MessageSet: its Items are among the fields that aren't declared, each a group of number 1."] * message.is_set
-    return docs(made + [] if message.is_keeping else made + ["", "The fields that aren't declared are passed over."])
+    made += limits.remarks(message, messages)
+    return docs(made if message.is_keeping else made + ["", "The fields that aren't declared are passed over."])
 
 
 def lines_of(declared):
@@ -284,9 +286,9 @@ def layers(message, fields):
     return [f"ghost use {TERMS}.{{{', '.join(found)}}};"] + [f"ghost use {TERMS_INSIDE}.{{{', '.join(asked)}}};"] * bool(asked)
 
 
-def struct(message):
+def struct(message, messages):
     """The struct of the members."""
-    made, parts = message_docs(message), []
+    made, parts = message_docs(message, messages), []
     for member in message.members:
         parts += docs(member.field.said, "    ") + [f"    pub {member.name}: {member.rust},"]
     rest = message.rest or "UnknownFields"
@@ -425,7 +427,7 @@ def takes_its_cost(message):
 
 
 def write_message(world, message, messages, enums):
-    made = head_of_message(world, message, enums) + [""] + struct(message) + [""]
+    made = head_of_message(world, message, enums) + [""] + struct(message, messages) + [""]
     if message.holds_itself:
         made += knots.form(message, message.cost(messages), blank(message), called)
     else:
