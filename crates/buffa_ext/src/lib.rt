@@ -33,6 +33,6 @@ pub use buffa_codec::{
 };
 pub use descriptor::{Declared, Extension, Make, NoDefault};
 pub use message::{GroupCodec, MessageCodec, MessageIn};
-pub use record::MessageRecord;
+pub use message_record::MessageRecord;
 pub use set::ExtensionSet;
-pub use steps::{ReplayFault, Step, replay};
+pub use sets_and_clears::{ReplayFault, Step, replay};
