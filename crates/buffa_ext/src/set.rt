@@ -1,4 +1,4 @@
-//! The trait of messages that keep extensions; its calls change records by [`stage`](crate::stage).
+//! The trait of messages that keep extensions; its calls change records by [`change_records`](crate::change_records).
 
 ghost use Rattle.std.specs.Prelude.{◌≡◌, ◌≢◌, ◌↔◌, ◌≤◌, ◌+◌, IsTrue, ℕ, List, [], length, Option, None};
 ghost use Rattle.std.specs.Prelude.{OnOk, OnErr, IfErr, IfOk, IsOk};
