@@ -16,7 +16,7 @@ ENDS = ["\n", "\r", "\r\n", "\v", "\f", "\t", "\0", "\x85", "\u2028", "\u2029", 
 
 
 def request():
-    """A message with an enum, a number, a text, bytes and a bool, each with a default, and a oneof; a service; and two extensions."""
+    """A message with an enum, a number, a text, bytes and a bool, each with a default, and a oneof; a service; and three extensions."""
     it = plugin_pb2.CodeGeneratorRequest(file_to_generate=["x.proto"], parameter="crate=cases")
     file = it.proto_file.add(name="x.proto", package="cases", syntax="proto2")
     message = file.message_type.add(name="Host")
@@ -33,9 +33,10 @@ def request():
     enum.value.add(name="KIND_OLD", number=0)
     enum.value.add(name="KIND_NEW", number=1)
     file.service.add(name="Reader").method.add(name="Read", input_type=".cases.Host", output_type=".cases.Host")
-    for at, (name, kind, default) in enumerate(kinds[:2]):
+    for at, (name, kind, default) in enumerate([kinds[0], kinds[1], kinds[4]]):
         more = file.extension.add(name=f"more_{name}", number=at + 100, type=kind, label=Field.LABEL_OPTIONAL, extendee=".cases.Host")
         more.default_value = default
+    file.extension[2].type_name = ".cases.Kind"
     return it
 
 
@@ -72,6 +73,8 @@ WAYS = {
     "the name of a value": put(lambda f: f.enum_type[0].value[0], "name"),
     "the name of a service": put(lambda f: f.service[0], "name"),
     "the name of an extension": put(lambda f: f.extension[0], "name"),
+    "the type of an extension": put(lambda f: f.extension[2], "type_name"),
+    "the default of an extension that is of an enum": put(lambda f: f.extension[2], "default_value"),
     "the extendee of an extension": put(lambda f: f.extension[0], "extendee"),
     "the default of an extension that is a number": put(lambda f: f.extension[0], "default_value"),
     "the default of an extension that is a text": put(lambda f: f.extension[1], "default_value"),

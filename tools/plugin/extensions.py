@@ -12,7 +12,7 @@ WIDTH = 100
 # The file that has the functions, and what it is called where a type's file has the name.
 FILE, OTHER_FILE = "extensions", "declared_extensions"
 # Words of the clauses, which no function of the file can be called, and words of a function that reads an extension.
-WORDS = set("codes negsuc option_map pos string_bytes".split())
+WORDS = set("IfOk IsDefaulted IsOk ReadsNumber codes negsuc option_map pos string_bytes".split())
 READING = set("alloc message value".split())
 TEXTS = {Field.TYPE_STRING: "StringCodec", Field.TYPE_BYTES: "BytesCodec"}
 # The codecs of types, beside those of scalars, and what the functions call.
@@ -41,6 +41,8 @@ class Extension(Declaration):
         if self.extendee not in world.found:
             field.refuse(f"it extends {clean(self.extendee)}, which no file has")
         self.target = self.it.type_name.lstrip(".")
+        if self.target not in world.found and (self.it.type_name or self.it.type in (*MESSAGES, Field.TYPE_ENUM)):
+            field.refuse(f"its type is {clean(self.target)}, which no file has")
         self.why = f"its type {self.target} is left out" if self.it.type_name and self.target not in world.types else ""
         if not self.why:
             self.codec = self.codec_of_all()
@@ -49,7 +51,7 @@ class Extension(Declaration):
     def see_default(self):
         """Refuses a declared default that no function can say."""
         self.has_default = self.it.HasField("default_value")
-        if self.has_default and not self.is_default(self.it.default_value):
+        if self.has_default and (self.it.label == Field.LABEL_REPEATED or not self.is_default(self.it.default_value)):
             self.field.refuse(f"its default is none of its type ({clean(self.it.default_value)})")
 
     def codec_of_all(self):
@@ -129,8 +131,11 @@ def found(world):
 
 
 def file_of(texts):
-    """The name of the file, where these are there."""
-    return OTHER_FILE if FILE in texts else FILE
+    """The name of the file: one that none of these has."""
+    name = FILE
+    while name in texts:
+        name = OTHER_FILE if name == FILE else f"{name}_"
+    return name
 
 
 def write(world, listed, enums):
