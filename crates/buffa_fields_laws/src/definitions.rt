@@ -14,6 +14,7 @@ ghost use Rattle.buffa_bytes.specs.Unread.{past_no_payload};
 ghost use Rattle.buffa_bytes.specs.Values.{int32_of};
 ghost use Rattle.buffa_bytes.specs.declared.error.DecodeError.{DecodeError};
 ghost use Rattle.buffa_bytes.specs.declared.error.DecodeError.TheVariants.{OutOfMemory};
+ghost use Rattle.buffa_bytes.specs.declared.tag.Tag.{Tag};
 ghost use Rattle.buffa_bytes.specs.declared.wire_type.WireType.{WireType};
 ghost use Rattle.buffa_bytes.specs.declared.wire_type.WireType.TheVariants as wire;
 ghost use Rattle.buffa_wire.specs.BudgetLeft.{BudgetLeft, plus, unknown_fields};
@@ -21,13 +22,16 @@ ghost use Rattle.buffa_wire.specs.Enums.{numbers};
 ghost use Rattle.buffa_wire.specs.Parse.{Fits};
 ghost use Rattle.buffa_wire.specs.RecordReading.{field_at};
 ghost use Rattle.buffa_wire.specs.Records.{FieldData, records_of, varint};
+ghost use Rattle.buffa_wire.specs.declared.context.DecodeContext.{DecodeContext};
+ghost use denote.Ref.{Bor};
 ghost use Rattle.buffa_wire.specs.Takes.{IsTaken, Charge, Taker, merged_of};
 ghost use Rattle.buffa_map.specs.declared.map_entry.MapEntry.{MapEntry};
 ghost use Rattle.buffa_fields.specs.UnknownsOfMembers.{AllUnknowns, TookWithUnknowns, unknowns_levels};
 ghost use Rattle.buffa_fields.specs.UndeclaredFields.{AllNumbers};
 ghost use Rattle.buffa_fields.specs.ClosedEnumLists.{declared_of, undeclared_of, varints};
 ghost use Rattle.buffa_fields.specs.ClosedEnumFields.{undeclared_number};
-ghost use Rattle.buffa_fields.specs.Schema.{Choice, IsFieldKept, Passed, Took};
+ghost use Rattle.buffa_fields.specs.Schema.{AsksAsSaid, Choice, IsFieldKept, Passed, RefusesAsSaid, TakesAsSaid, TellsWrongType, Took};
+ghost use Rattle.buffa_fields.specs.TaggedField.{TaggedField, tagged_field};
 ghost use Rattle.buffa_fields.specs.MapFields.{stepped};
 ghost use Rattle.buffa_fields.specs.MemberList.{field_with_unknowns, keep_unknown};
 ghost use Rattle.buffa_fields.specs.Submessages.{FitsInside};
@@ -73,7 +77,23 @@ pub fn maps_and_messages_fit_so<X, Y, N: Message>()
 /// and what the member says of refused fields.
 #[tactic(auto, unfolding(buffa_fields::specs::Schema::AsksAsSaid, buffa_fields::specs::Schema::RefusesAsSaid, buffa_fields::specs::Schema::TakesAsSaid, buffa_fields::specs::Schema::TellsWrongType))]
 pub fn members_take_so<N: Member>()
-    ensures { (d : ℕ) (old : N.Part) (n : ℕ) (w : WireType) (bs : List ℕ) (before : BudgetLeft)
+    ensures taken { (f : TaggedField) (old new : N.Part) (r : Result (Unit {0}) DecodeError) (after : BudgetLeft) (rest : List ℕ) →
+        TakesAsSaid N.shape f old r new after rest
+        ↔ IsTaken N.shape.takes N.shape.charge f.depth (N.shape.meaning old) f.number f.wire_type f.bytes f.budget r
+        (N.shape.meaning new) after rest }
+    ensures memory { (f : TaggedField) (r : Result (Unit {0}) DecodeError) →
+        AsksAsSaid N.shape f r ↔ FullOnlyIf r (N.shape.asks f.depth f.number f.wire_type f.bytes) }
+    ensures wrong_type { (f : TaggedField) (old new : N.Part) (r : Result (Unit {0}) DecodeError) (rest : List ℕ) →
+        TellsWrongType N.shape f old r new rest
+        ↔ ((e : DecodeError) → N.shape.checks f.number f.wire_type ≡ Err e →
+        (r ≡ Err e) × (N.shape.meaning old ≡ N.shape.meaning new) × (f.bytes ≡ rest)) }
+    ensures refused { (f : TaggedField) (old new : N.Part) (r : Result (Unit {0}) DecodeError) →
+        RefusesAsSaid N.shape f old r new
+        ↔ ((e : DecodeError) → r ≡ Err e →
+        N.shape.refuses f.depth (N.shape.meaning old) f.number f.wire_type f.bytes f.budget e (N.shape.meaning new)) }
+    ensures field { (tag : Tag) (ctx : DecodeContext) (b : Bor (List ℕ)) →
+        tagged_field tag ctx b ≡ record { depth = ctx.depth; number = tag.number; wire_type = tag.wire_type; bytes = b.now; budget = ctx.budget.now } }
+    ensures all { (d : ℕ) (old : N.Part) (n : ℕ) (w : WireType) (bs : List ℕ) (before : BudgetLeft)
         (r : Result (Unit {0}) DecodeError) (new : N.Part) (after : BudgetLeft) (rest : List ℕ) →
         Took N.shape d old n w bs before r new after rest
         ↔ (IsTaken N.shape.takes N.shape.charge d (N.shape.meaning old) n w bs before r (N.shape.meaning new) after rest
