@@ -1,10 +1,9 @@
 """What is written though the checker may not prove it: the messages that pass a limit that was measured, and the parameter that helps."""
 
+from depths import MOST_IN_CASES
+
 # A message that holds itself was proved with as many members. Of one of 18 `take` wasn't, since the checker stopped at its limit of steps.
 MOST_INSIDE_ITSELF = 10
-# Where the messages of a oneof have more members together, with those of the messages in them, its `visit` may not be proved: of 150 the
-# checker didn't cover it, since it is generic over types that are too large.
-MOST_IN_CASES = 81
 
 
 def passed(message, messages):
