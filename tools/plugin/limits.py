@@ -17,7 +17,7 @@ def passed(message, messages):
         size = sum(it.size for _, it in held)
         if size > MOST_IN_CASES:
             largest = [max(held, key=lambda it: it[1].size)[0]]
-            why = f"the messages in its oneof {one.it.name} have {size} members together, and such of 150 weren't proved"
+            why = f"the messages in its oneof {one.it.name} have {size} members together: the checker took {MOST_IN_CASES}, and not 96"
             yield why, f"hold the largest as encodings, as by {parameters('encoded', largest)}, or leave members out by leave=NAME"
 
 
