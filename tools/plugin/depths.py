@@ -5,9 +5,10 @@ its struct is."""
 # each counted wherever it stands. A meaning that is deeper than this, or has more messages in it, gets a name.
 DEEPEST = 40
 MOST_MESSAGES = 24
-# The messages of a oneof may have so many members together, with those of the messages in them: of 76 the checker covered `visit` of the
-# message, and of 96 not, since it is generic over types that are too large. Of more, the largest get a name.
+# The messages of a oneof had as many members together, with those of the messages in them, where the checker covered `visit` of the message.
+# Of 96 it didn't, since that is generic over types that are too large. Of more, the largest get a name, until so many are left.
 MOST_IN_CASES = 76
+LEFT_IN_CASES = 40
 
 # The checker takes structs, enums and references one in the other so deep. What is in a Box, a Vec or a map is behind a pointer, and
 # doesn't count. What isn't named is a number, or a closed enum, which is 1 deep.
@@ -103,10 +104,11 @@ def name_meanings(messages):
             depths[full] = counts[full] = message.size = 1
 
     def see_cases(cases):
-        """Gives a name to the largest messages of a oneof, until they have few members together. Those of another module keep theirs."""
+        """Gives a name to the largest messages of a oneof that have too many members together. Those of another module keep theirs."""
+        is_large = sum(it.size for it in cases) > MOST_IN_CASES
         for message in sorted(cases, key=lambda it: -it.size):
-            if sum(it.size for it in cases) > MOST_IN_CASES and not message.world.is_mapped(message.name.full) and not message.holds_itself:
-                message.is_opaque = True
+            if is_large and sum(it.size for it in cases) > LEFT_IN_CASES and not message.world.is_mapped(message.name.full):
+                message.is_opaque = not message.holds_itself
                 depths[message.name.full] = counts[message.name.full] = message.size = 1
 
     for message in messages.values():
