@@ -5,6 +5,10 @@ its struct is."""
 # each counted wherever it stands. A meaning that is deeper than this, or has more messages in it, gets a name.
 DEEPEST = 40
 MOST_MESSAGES = 24
+# The messages of a oneof had as many members together, with those of the messages in them, where the checker covered `visit` of the message.
+# Of 96 it didn't, since that is generic over types that are too large. Of more, the largest get a name, until so many are left.
+MOST_IN_CASES = 76
+LEFT_IN_CASES = 40
 
 # The checker takes structs, enums and references one in the other so deep. What is in a Box, a Vec or a map is behind a pointer, and
 # doesn't count. What isn't named is a number, or a closed enum, which is 1 deep.
@@ -90,12 +94,22 @@ def name_meanings(messages):
         inside = [messages[it] for k in message.members for it in k.inside if it in messages]
         for inner in inside:
             see(inner)
+        for one in message.oneofs:
+            see_cases([messages[it] for k in one.cases for it in k.inside if it in messages])
         count = 1 + sum(counts[it.name.full] for it in inside)
         deep = depth(message, depths)
         message.is_opaque = not message.holds_itself and (deep > DEEPEST or count > MOST_MESSAGES)
-        has_name = message.holds_itself or message.is_opaque
-        depths[full], counts[full] = (1, 1) if has_name else (deep, count)
-        message.size = 1 if has_name else len(message.fields) + sum(it.size for it in inside)
+        depths[full], counts[full], message.size = deep, count, len(message.fields) + sum(it.size for it in inside)
+        if message.holds_itself or message.is_opaque:
+            depths[full] = counts[full] = message.size = 1
+
+    def see_cases(cases):
+        """Gives a name to the largest messages of a oneof that have too many members together. Those of another module keep theirs."""
+        is_large = sum(it.size for it in cases) > MOST_IN_CASES
+        for message in sorted(cases, key=lambda it: -it.size):
+            if is_large and sum(it.size for it in cases) > LEFT_IN_CASES and not message.world.is_mapped(message.name.full):
+                message.is_opaque = not message.holds_itself
+                depths[message.name.full] = counts[message.name.full] = message.size = 1
 
     for message in messages.values():
         see(message)

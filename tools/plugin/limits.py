@@ -1,10 +1,9 @@
 """What is written though the checker may not prove it: the messages that pass a limit that was measured, and the parameter that helps."""
 
+from depths import MOST_IN_CASES
+
 # A message that holds itself was proved with as many members. Of one of 18 `take` wasn't, since the checker stopped at its limit of steps.
 MOST_INSIDE_ITSELF = 10
-# The messages of a oneof had as many members together, with those of the messages in them, where the checker covered `visit` of the message.
-# Of 96 it didn't, since that is generic over types that are too large.
-MOST_IN_CASES = 76
 
 
 def passed(message, messages):
