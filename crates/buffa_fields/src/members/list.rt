@@ -20,7 +20,8 @@ use buffa_wire::{
 };
 use std::alloc::Global;
 
-// Reads the element at the front, and puts it behind the others. Nothing is spent.
+// Reads the element at the front, and puts it behind the others. Nothing is spent. Of a packed list this is the loop.
+#[inline(always)]
 #[tactic(auto, using(crate::specs::facts::ListFacts::element_pushed, crate::specs::facts::ListFacts::payload_value_there))]
 fn take_element<C: MapCodec>(
     alloc: Global,

@@ -1,6 +1,6 @@
 use Rattle.std.proofs.Common.{◌≡◌, ◌↔◌, true}
 use Rattle.buffa_ext.specs.SetsAndClears.{step_of}
-use Rattle.buffa_ext.specs.contracts.steps.StepPartialEq.TheImpl.{ghosts}
+use Rattle.buffa_ext.specs.contracts.sets_and_clears.StepPartialEq.TheImpl.{ghosts}
 use Rattle.buffa_ext.specs.declared.sets_and_clears.Step.{Step}
 use Rattle.buffa_ext.specs.declared.sets_and_clears.Step.TheVariants.{Set, Clear}
 use Rattle.buffa_ext_laws.proofs.EqualStepLemmas.{steps_are, steps_reported}
