@@ -17,7 +17,7 @@ use std::string::String;
 ///     string type_url = 1;
 ///     bytes value = 2;
 /// }
-#[derive(Clone, Debug, Drop)]
+#[derive(Clone, Debug, Drop, PartialEq, Eq)]
 pub struct Any {
     /// Which type it is: the full name of the message, such as `google.protobuf.Duration`, behind the last `/`. What stands
     /// before the `/` is as a rule `type.googleapis.com`.

@@ -15,7 +15,7 @@ use std::alloc::Global;
 /// message BoolValue {
 ///     bool value = 1;
 /// }
-#[derive(Clone, Debug, Drop)]
+#[derive(Clone, Debug, Drop, PartialEq, Eq)]
 pub struct BoolValue {
     /// The value.
     pub value: bool,

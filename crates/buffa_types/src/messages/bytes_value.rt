@@ -15,7 +15,7 @@ use std::alloc::Global;
 /// message BytesValue {
 ///     bytes value = 1;
 /// }
-#[derive(Clone, Debug, Drop)]
+#[derive(Clone, Debug, Drop, PartialEq, Eq)]
 pub struct BytesValue {
     /// The value.
     pub value: Vec<u8>,

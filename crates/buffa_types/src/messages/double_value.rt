@@ -15,7 +15,7 @@ use std::alloc::Global;
 /// message DoubleValue {
 ///     double value = 1;
 /// }
-#[derive(Clone, Debug, Drop)]
+#[derive(Clone, Debug, Drop, PartialEq, Eq)]
 pub struct DoubleValue {
     /// The value.
     pub value: DoubleBits,

@@ -16,7 +16,7 @@ use std::alloc::Global;
 ///     int64 seconds = 1;
 ///     int32 nanos = 2;
 /// }
-#[derive(Clone, Debug, Drop)]
+#[derive(Clone, Debug, Drop, PartialEq, Eq)]
 pub struct Duration {
     /// The whole seconds, -315,576,000,000 to 315,576,000,000.
     pub seconds: i64,

@@ -13,7 +13,7 @@ use std::alloc::Global;
 ///
 /// message Empty {
 /// }
-#[derive(Clone, Debug, Drop)]
+#[derive(Clone, Debug, Drop, PartialEq, Eq)]
 pub struct Empty {
     /// The fields that aren't declared, in order.
     pub unknown_fields: UnknownFields,

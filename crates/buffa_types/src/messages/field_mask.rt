@@ -16,7 +16,7 @@ use std::string::String;
 /// message FieldMask {
 ///     repeated string paths = 1;
 /// }
-#[derive(Clone, Debug, Drop)]
+#[derive(Clone, Debug, Drop, PartialEq, Eq)]
 pub struct FieldMask {
     /// A path for each: the names of fields from the outermost one on, with a dot between them, such as `author.name`.
     pub paths: Vec<String>,

@@ -15,7 +15,7 @@ use std::alloc::Global;
 /// message FloatValue {
 ///     float value = 1;
 /// }
-#[derive(Clone, Debug, Drop)]
+#[derive(Clone, Debug, Drop, PartialEq, Eq)]
 pub struct FloatValue {
     /// The value.
     pub value: FloatBits,

@@ -15,7 +15,7 @@ use std::alloc::Global;
 /// message Int32Value {
 ///     int32 value = 1;
 /// }
-#[derive(Clone, Debug, Drop)]
+#[derive(Clone, Debug, Drop, PartialEq, Eq)]
 pub struct Int32Value {
     /// The value.
     pub value: i32,

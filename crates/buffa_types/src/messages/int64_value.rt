@@ -15,7 +15,7 @@ use std::alloc::Global;
 /// message Int64Value {
 ///     int64 value = 1;
 /// }
-#[derive(Clone, Debug, Drop)]
+#[derive(Clone, Debug, Drop, PartialEq, Eq)]
 pub struct Int64Value {
     /// The value.
     pub value: i64,

@@ -16,7 +16,7 @@ use std::string::String;
 /// message SourceContext {
 ///     string file_name = 1;
 /// }
-#[derive(Clone, Debug, Drop)]
+#[derive(Clone, Debug, Drop, PartialEq, Eq)]
 pub struct SourceContext {
     /// The name of the .proto file, from the folder in which protoc looks for imports.
     pub file_name: String,

@@ -16,7 +16,7 @@ use std::string::String;
 /// message StringValue {
 ///     string value = 1;
 /// }
-#[derive(Clone, Debug, Drop)]
+#[derive(Clone, Debug, Drop, PartialEq, Eq)]
 pub struct StringValue {
     /// The value.
     pub value: String,

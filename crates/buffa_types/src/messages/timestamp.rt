@@ -17,7 +17,7 @@ use std::alloc::Global;
 ///     int64 seconds = 1;
 ///     int32 nanos = 2;
 /// }
-#[derive(Clone, Debug, Drop)]
+#[derive(Clone, Debug, Drop, PartialEq, Eq)]
 pub struct Timestamp {
     /// The whole seconds since 1970-01-01T00:00:00Z, -62,135,596,800 to 253,402,300,799: less than 0 before it.
     pub seconds: i64,

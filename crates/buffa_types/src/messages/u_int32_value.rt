@@ -15,7 +15,7 @@ use std::alloc::Global;
 /// message UInt32Value {
 ///     uint32 value = 1;
 /// }
-#[derive(Clone, Debug, Drop)]
+#[derive(Clone, Debug, Drop, PartialEq, Eq)]
 pub struct UInt32Value {
     /// The value.
     pub value: u32,

@@ -15,7 +15,7 @@ use std::alloc::Global;
 /// message UInt64Value {
 ///     uint64 value = 1;
 /// }
-#[derive(Clone, Debug, Drop)]
+#[derive(Clone, Debug, Drop, PartialEq, Eq)]
 pub struct UInt64Value {
     /// The value.
     pub value: u64,
