@@ -1,0 +1,29 @@
+use Rattle.std.proofs.Common.{arith, refl, sym, ap, ◌∙◌}
+use Rattle.std.proofs.lemmas.Result.{err_from_is_err_and}
+use Rattle.buffa_wire.proofs.ByPayloadLemmas.{by_payload}
+use Rattle.buffa_wire.proofs.MergeLoopLemmas.{begins, goes_on, reached, shorter}
+use Rattle.buffa_locate.proofs.PlaceLemmas.{all_read, same_left, stops_refused, stops_untagged}
+use Rattle.buffa_locate.proofs.refused.first_refused.Goals as goal
+
+pub fields-init : goal.fields-init
+fields-init g c =
+    let by = by_payload g.M.MessageSpec.stays g.M.MessageSpec.merged_is g.M.MessageSpec.cost_is in
+    rw c.blank-message.ensures (begins by c.args.depth g.M.Blank.blank_is c.args.bytes.now c.args.budget)
+
+pub fields-smaller : goal.fields-smaller
+fields-smaller g c =
+    let by = by_payload g.M.MessageSpec.stays g.M.MessageSpec.merged_is g.M.MessageSpec.cost_is in
+    shorter by c.fields.invariant _ _ _ c.in-Ok.ensures.reads _ _ _ c.in-Ok-merge_field.ensures.merged
+
+pub fields-preserved : goal.fields-preserved
+fields-preserved g c =
+    let by = by_payload g.M.MessageSpec.stays g.M.MessageSpec.merged_is g.M.MessageSpec.cost_is in
+    goes_on by c.fields.invariant _ _ _ c.in-Ok.ensures.reads _ _ _ c.in-Ok-merge_field.ensures.merged
+
+pub returns-in-Err-clause-told : goal.returns-in-Err-clause-told
+returns-in-Err-clause-told g c = ?
+
+pub returns-clause-told : goal.returns-clause-told
+returns-clause-told g c =
+    let by = by_payload g.M.MessageSpec.stays g.M.MessageSpec.merged_is g.M.MessageSpec.cost_is in
+    all_read by c.fields.invariant (omega (arith, c.remaining.ensures, c.fields-test.false))

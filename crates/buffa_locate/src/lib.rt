@@ -1,0 +1,26 @@
+//! Where bytes were refused: a second pass over them tells the first record that is refused, by the numbers of the fields
+//! around it and by its offset.
+//!
+//! Reading that succeeds doesn't call this crate, and costs nothing more.
+//!
+//! ```ignore
+//! match Order::decode_from_slice(alloc, bytes) {
+//!     Ok(order) => ..
+//!     Err(_) => locate::<Order>(alloc, bytes, RECURSION_LIMIT, Budget::new(1_000))?, // 3[2].1 at byte 117: InvalidUtf8
+//! }
+//! ```
+#![tactic(auto)]
+
+pub mod cuts;
+
+pub mod inside;
+pub mod place;
+pub mod refused;
+pub mod search;
+pub mod second_pass;
+
+pub use crate::second_pass::{find, locate};
+pub use crate::inside::{Holds, Inside, Locate};
+pub use crate::place::{Place, Step};
+pub use crate::refused::{Refused, first_refused};
+pub use crate::search::Search;

@@ -1,0 +1,111 @@
+//! The second pass.
+
+ghost use Rattle.std.specs.Prelude.{◌≡◌, ◌+◌, ◌-◌, ◌<◌, ◌≤◌, IfOk, IfSome, MatchOption, length};
+ghost use Rattle.buffa_locate.specs.Places.{AreRead, Extends, IsPlace, Leads};
+
+use crate::inside::Locate;
+use crate::place::{Place, Step};
+use crate::refused::{Refused, first_refused};
+use crate::search::Search;
+use buffa_wire::Budget;
+use std::alloc::{AllocError, Global};
+
+// Goes into the record that is refused, as deep as a record is refused for the same fault.
+fn follow<M: Locate>(
+    alloc: Global,
+    search: Search<'_>,
+    refused: Refused,
+    path: &mut Vec<Step>,
+) -> Result<usize, AllocError>
+    requires at { refused.at < search.end - search.start }
+    requires behind { (refused.at ≤ refused.behind) × (refused.behind ≤ search.end - search.start) }
+    ensures within { IfOk result (λ at. (search.entry.start + refused.at ≤ at) × (at < search.entry.end)) }
+    ensures path { IfOk result (λ at. Leads refused.tag path.old.items path.new.items) }
+{
+    let at = search.start + refused.at;
+    let Some(tag) = refused.tag else {
+        return Ok(at);
+    };
+    let inside = M::inside(tag.field_number());
+    path.push(search.step(tag, refused, inside))?;
+    let Some(inside) = inside else {
+        return Ok(at);
+    };
+    let Some(inner) = search.enter(tag, refused, inside) else {
+        return Ok(at);
+    };
+    if !inside.own {
+        let found = M::find_inside(tag.field_number(), alloc, inner, path)?;
+        return Ok(found.unwrap_or(at));
+    }
+    match inner.refused::<M>(alloc)? {
+        Some(next) => follow::<M>(alloc, inner, next, path),
+        None => Ok(at),
+    }
+}
+
+/// The offset of the first refused record of what is searched, a message of this type, and as deep in it as the same fault
+/// is found, if it is refused for the fault that is looked for; the steps to it go behind the path.
+///
+/// # Errors
+/// Where memory runs out.
+///
+/// ```ignore
+/// 3 => find::<Line>(alloc, search, path),
+/// ```
+pub fn find<M: Locate>(
+    alloc: Global,
+    search: Search<'_>,
+    path: &mut Vec<Step>,
+) -> Result<Option<usize>, AllocError>
+    ensures within { IfOk result (λ found. IfSome found (λ at. (search.entry.start ≤ at) × (at < search.entry.end))) }
+    ensures path { IfOk result (λ found. Extends path.old.items path.new.items) }
+{
+    match search.refused::<M>(alloc)? {
+        Some(refused) => Ok(Some(follow::<M>(alloc, search, refused, path)?)),
+        None => Ok(None),
+    }
+}
+
+/// Where the bytes are refused as a message of this type, at most `depth` levels deep and under this budget; or none where
+/// they are accepted.
+///
+/// The place is that of the first record that is refused. Where this holds a message, the place is in it, as deep as a
+/// record is refused for the same fault. The contract leaves open how deep.
+///
+/// # Errors
+/// Where memory runs out.
+///
+/// ```ignore
+/// locate::<Order>(alloc, bytes, RECURSION_LIMIT, Budget::new(DEFAULT_UNKNOWN_FIELD_LIMIT))?
+/// ```
+pub fn locate<M: Locate>(
+    alloc: Global,
+    bytes: &[u8],
+    depth: u32,
+    budget: Budget,
+) -> Result<Option<Place>, AllocError>
+    ensures { IfOk result (λ found. MatchOption found
+        (AreRead (M.merged depth M.blank_is bytes.now) (M.cost depth bytes.now) budget)
+        (IsPlace M.merged M.cost depth M.blank_is bytes.now budget)) }
+{
+    let Some(refused) = first_refused::<M>(alloc, bytes, depth, budget)? else {
+        return Ok(None);
+    };
+    let search = Search {
+        all: bytes,
+        start: 0,
+        end: bytes.len(),
+        depth,
+        unknown: refused.unknown,
+        memory: refused.memory,
+        fault: refused.fault,
+    };
+    let mut path = Vec::new(alloc);
+    let offset = follow::<M>(alloc, search, refused, &mut path)?;
+    Ok(Some(Place {
+        path,
+        offset,
+        fault: refused.fault,
+    }))
+}
