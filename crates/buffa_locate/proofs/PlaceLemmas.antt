@@ -75,7 +75,7 @@ module _ {X : Type 0} {takes : Taker X} {charge : Charge} {merged : ℕ → X �
             omega (arith, at_is, goes, falls, fits),
             omega (arith, goes),
             λ t p tagged judged. subst (λ l. MergeFault (merged d now (t ++ p)) (cost d (t ++ p)) l found.fault) (sym left_is)
-            ((why t p tagged (subst (λ z. IsJudged d tag.number tag.wire_type z p) past judged)).1 tells),
+                ((why t p tagged (subst (λ z. IsJudged d tag.number tag.wire_type z p) past judged)).1 tells),
           );
           tells = tells;
           why = (refused_next by came tag.number tag.wire_type bs is found.fault new x over why).1 tells;

@@ -12,15 +12,14 @@
 #![tactic(auto)]
 
 pub mod cuts;
-
 pub mod inside;
 pub mod place;
 pub mod refused;
 pub mod search;
 pub mod second_pass;
 
-pub use crate::second_pass::{find, locate};
 pub use crate::inside::{Holds, Inside, Locate};
 pub use crate::place::{Place, Step};
 pub use crate::refused::{Refused, first_refused};
 pub use crate::search::Search;
+pub use crate::second_pass::{find, locate, nothing_inside};

@@ -67,6 +67,24 @@ pub fn find<M: Locate>(
     }
 }
 
+/// What [`Locate::find_inside`] answers for a field that holds no message of another type: nothing, and the path stays.
+///
+/// # Errors
+/// None.
+///
+/// ```ignore
+/// _ => nothing_inside(search, path),
+/// ```
+pub fn nothing_inside(
+    _search: Search<'_>,
+    path: &mut Vec<Step>,
+) -> Result<Option<usize>, AllocError>
+    ensures within { IfOk result (λ found. IfSome found (λ at. (_search.entry.start ≤ at) × (at < _search.entry.end))) }
+    ensures path { IfOk result (λ found. Extends path.old.items path.new.items) }
+{
+    Ok(None)
+}
+
 /// Where the bytes are refused as a message of this type, at most `depth` levels deep and under this budget; or none where
 /// they are accepted.
 ///
