@@ -16,7 +16,7 @@ use Rattle.buffa_wire.specs.BudgetLeft.{BudgetLeft, Lacks, Pays}
 use Rattle.buffa_wire.specs.Message.{IsFieldMerged, IsJudged, MergeFault}
 use Rattle.buffa_wire.specs.Takes.{Charge, Taker}
 use Rattle.buffa_wire.specs.Pinned.{refusal}
-use Rattle.buffa_locate.specs.Places.{AreRead, IsFirstRefused, RefusesAt}
+use Rattle.buffa_locate.specs.Places.{AreAllMerged, IsFirstRefused, RefusesAt}
 use Rattle.buffa_locate.specs.declared.refused.Refused.{Refused}
 
 -- ---- a seam in bytes, by what is behind it
@@ -37,7 +37,7 @@ paid first charge left pays (inr little) = omega (arith, pays.1)
 module _ {X : Type 0} {takes : Taker X} {charge : Charge} {merged : ℕ → X → List ℕ → Option X} {cost : ℕ → List ℕ → BudgetLeft} (by : ByPayload takes charge merged cost)
     {d : ℕ} {old : X} {all : List ℕ} {first : BudgetLeft} {now : X} {rest : List ℕ} {left : BudgetLeft} (came : CameTo merged cost d old all first now rest left) where
   -- nothing is left
-  pub all_read : length rest ≤ 0 → AreRead (merged d old all) (cost d all) first
+  pub all_read : length rest ≤ 0 → AreAllMerged (merged d old all) (cost d all) first
   all_read empty = let k = ended by came empty in (subst IsSome (sym k.0) refl, paid first (cost d all) left k.1)
 
   module _ (found : Refused) (at_is : found.at ≡ length all - length rest) (left_is : record { unknown = found.unknown; memory = found.memory } ≡ left) where
@@ -48,6 +48,8 @@ module _ {X : Type 0} {takes : Taker X} {charge : Charge} {merged : ℕ → X �
     pub stops_untagged : found.tag ≡ None → found.behind ≡ found.at → 0 < length rest → tag_at rest ≡ Err found.fault → IsFirstRefused merged cost d old all first found
     stops_untagged bare same some none_there = record {
       within = omega (arith, at_is, ap length came.split, length-append came.front rest);
+      from = omega (arith, same);
+      to = omega (arith, same, at_is);
       mid = now;
       means = ap (merged d old) before ∙ came.means;
       pays = subst (λ f. Pays first (cost d f) (record { unknown = found.unknown; memory = found.memory })) (sym before) (subst (Pays first (cost d came.front)) (sym left_is) came.pays);
@@ -67,6 +69,8 @@ module _ {X : Type 0} {takes : Taker X} {charge : Charge} {merged : ℕ → X �
         let falls : length bs < length rest = tag_falls rest (tag.number, tag.wire_type, bs) is in
         let fits : length rest ≤ length all = omega (arith, ap length came.split, length-append came.front rest) in record {
           within = omega (arith, at_is, falls, fits);
+          from = omega (arith, at_is, goes, falls, fits);
+          to = omega (arith, goes);
           mid = now;
           means = ap (merged d old) before ∙ came.means;
           pays = subst (λ f. Pays first (cost d f) (record { unknown = found.unknown; memory = found.memory })) (sym before) (subst (Pays first (cost d came.front)) (sym left_is) came.pays);

@@ -13,8 +13,8 @@ use Rattle.buffa_locate.specs.declared.place.Step.{Step}
 use Rattle.buffa_locate.specs.declared.refused.Refused.{Refused}
 
 -- bytes mean something, and what they cost is there
-abbrev pub AreRead : {X : Type 0} → Option X → BudgetLeft → BudgetLeft → Type 0
-AreRead meant charge before = IsSome meant × (Lacks before charge → ⊥)
+abbrev pub AreAllMerged : {X : Type 0} → Option X → BudgetLeft → BudgetLeft → Type 0
+AreAllMerged meant charge before = IsSome meant × (Lacks before charge → ⊥)
 
 -- at an offset, behind fields that made this value and left this much, stands no tag, for this reason, and the payload's
 -- offset is the same; or a field, whose payload begins at an offset, and which is refused for it
@@ -28,6 +28,8 @@ RefusesAt merged cost d mid bytes left at (Some tag) behind e =
 -- all of them are
 pub record IsFirstRefused {X : Type 0} (merged : ℕ → X → List ℕ → Option X) (cost : ℕ → List ℕ → BudgetLeft) (d : ℕ) (old : X) (bytes : List ℕ) (before : BudgetLeft) (found : Refused) : Type 0 where
   pub within : found.at < length bytes
+  pub from : found.at ≤ found.behind
+  pub to : found.behind ≤ length bytes
   pub mid : X
   pub means : merged d old (take found.at bytes) ≡ Some mid
   pub pays : Pays before (cost d (take found.at bytes)) (record { unknown = found.unknown; memory = found.memory })
@@ -40,16 +42,16 @@ abbrev pub Extends : List Step → List Step → Type 0
 Extends old new = (more : List Step) × (new ≡ old ++ more)
 
 -- steps to a refused record went behind a path, the field of its tag first
-abbrev pub Leads : Option Tag → List Step → List Step → Type 0
-Leads None old new = new ≡ old
-Leads (Some tag) old new = (index : Option ℕ) × (more : List Step) × (new ≡ old ++ (record { number = tag.number; index = index } ∷ more))
+abbrev pub LeadsTo : Option Tag → List Step → List Step → Type 0
+LeadsTo None old new = new ≡ old
+LeadsTo (Some tag) old new = (index : Option ℕ) × (more : List Step) × (new ≡ old ++ (record { number = tag.number; index = index } ∷ more))
 
 -- the place of the first record of these bytes that is refused: its path begins with the record's field, its offset is in the record
 -- or behind it, and its fault is the record's
 pub record IsPlace {X : Type 0} (merged : ℕ → X → List ℕ → Option X) (cost : ℕ → List ℕ → BudgetLeft) (d : ℕ) (old : X) (bytes : List ℕ) (before : BudgetLeft) (place : Place) : Type 0 where
   pub found : Refused
   pub first : IsFirstRefused merged cost d old bytes before found
-  pub leads : Leads found.tag [] place.path.items
+  pub leads : LeadsTo found.tag [] place.path.items
   pub from : found.at ≤ place.offset
   pub within : place.offset < length bytes
   pub fault : place.fault ≡ found.fault

@@ -13,11 +13,12 @@ fn delimited(all: &[u8], start: usize, end: usize) -> Option<(usize, usize)>
 {
     let mut rest = &all[start..end];
     let length = decode_varint(&mut rest).ok()?;
-    if length > rest.len() as u64 {
+    let from = start.max(end.saturating_sub(rest.len()));
+    let to = from.checked_add(length as usize)?;
+    if to > end {
         return None;
     }
-    let from = end - rest.len();
-    Some((from, from + length as usize))
+    Some((from, to))
 }
 
 // The value of an entry: what is behind its first tag of number 2.
@@ -27,10 +28,11 @@ fn value_of_entry(all: &[u8], start: usize, end: usize, depth: u32) -> Option<(u
     ensures { IfSome result (λ part. (start ≤ part.0) × (part.0 ≤ part.1) × (part.1 ≤ end)) }
 {
     let mut rest = &all[start..end];
-    'fields: while rest.len() > 0 {
+    // each field takes a byte at least
+    for _ in start..end {
         let tag = Tag::decode(&mut rest).ok()?;
         if tag.field_number() == 2 {
-            return delimited(all, end - rest.len(), end);
+            return delimited(all, start.max(end.saturating_sub(rest.len())), end);
         }
         skip_field_depth(tag, &mut rest, depth).ok()?;
     }
@@ -62,12 +64,11 @@ pub(crate) fn held_by(
 }
 
 // How many of the fields at the front have a number.
-pub(crate) fn count_of(bytes: &[u8], number: u32, depth: u32) -> usize
-    ensures { result ≤ length bytes.now }
-{
+pub(crate) fn count_of(bytes: &[u8], number: u32, depth: u32) -> usize {
     let mut count: usize = 0;
     let mut rest = bytes;
-    'fields: while rest.len() > 0 {
+    // each field takes a byte at least
+    for _ in bytes {
         let Ok(tag) = Tag::decode(&mut rest) else {
             return count;
         };
@@ -75,7 +76,7 @@ pub(crate) fn count_of(bytes: &[u8], number: u32, depth: u32) -> usize
             return count;
         }
         if tag.field_number() == number {
-            count += 1;
+            count = count.saturating_add(1);
         }
     }
     count

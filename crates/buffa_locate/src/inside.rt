@@ -11,7 +11,7 @@ use std::alloc::{AllocError, Global};
 /// How a field holds a message.
 ///
 /// ```ignore
-/// let how = Holds::Value; // map<string, Line>
+/// holds: Holds::Value, // map<string, Line>
 /// ```
 #[derive(Clone, Copy, Debug, PartialEq, Eq)]
 pub enum Holds {
@@ -26,7 +26,12 @@ pub enum Holds {
 /// What is known of the message that a field holds.
 ///
 /// ```ignore
-/// 3 => Some(Inside { holds: Holds::Message, listed: true, own: false, units: Line::COST }),
+/// 3 => Some(Inside {
+///     holds: Holds::Message,
+///     listed: true,
+///     own: false,
+///     units: <Line as MessageSpec>::COST,
+/// }),
 /// ```
 #[derive(Clone, Copy, Debug, PartialEq, Eq)]
 pub struct Inside {
@@ -46,7 +51,12 @@ pub struct Inside {
 /// impl Locate for Order {
 ///     fn inside(number: u32) -> Option<Inside> {
 ///         match number {
-///             3 => Some(Inside { holds: Holds::Message, listed: true, own: false, units: Line::COST }),
+///             3 => Some(Inside {
+///                 holds: Holds::Message,
+///                 listed: true,
+///                 own: false,
+///                 units: <Line as MessageSpec>::COST,
+///             }),
 ///             _ => None,
 ///         }
 ///     }
@@ -58,8 +68,8 @@ pub struct Inside {
 ///         path: &mut Vec<Step>,
 ///     ) -> Result<Option<usize>, AllocError> {
 ///         match number {
-///             3 => find::<Line>(alloc, search, path),
-///             _ => Ok(None),
+///             3 | 4 => find::<Line>(alloc, search, path),
+///             _ => nothing_inside(search, path),
 ///         }
 ///     }
 /// }
@@ -68,7 +78,7 @@ pub trait Locate: Message + Drop {
     /// What is known of the message that the field of a number holds, or none where it holds none.
     ///
     /// ```ignore
-    /// let how = Order::inside(3);
+    /// let inside = M::inside(tag.field_number());
     /// ```
     fn inside(number: u32) -> Option<Inside>;
 
@@ -79,7 +89,7 @@ pub trait Locate: Message + Drop {
     /// Where memory runs out.
     ///
     /// ```ignore
-    /// 3 => find::<Line>(alloc, search, path),
+    /// 3 | 4 => find::<Line>(alloc, search, path),
     /// ```
     fn find_inside(
         number: u32,
@@ -87,6 +97,6 @@ pub trait Locate: Message + Drop {
         search: Search<'_>,
         path: &mut Vec<Step>,
     ) -> Result<Option<usize>, AllocError>
-        ensures within { IfOk result (λ found. IfSome found (λ at. (search.start ≤ at) × (at < search.end))) }
+        ensures within { IfOk result (λ found. IfSome found (λ at. (search.entry.start ≤ at) × (at < search.entry.end))) }
         ensures path { IfOk result (λ found. Extends path.old.items path.new.items) };
 }

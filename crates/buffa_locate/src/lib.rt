@@ -4,10 +4,7 @@
 //! Reading that succeeds doesn't call this crate, and costs nothing more.
 //!
 //! ```ignore
-//! match Order::decode_from_slice(alloc, bytes) {
-//!     Ok(order) => ..
-//!     Err(_) => locate::<Order>(alloc, bytes, RECURSION_LIMIT, Budget::new(1_000))?, // 3[2].1 at byte 117: InvalidUtf8
-//! }
+//! let found = locate::<Order>(alloc, &bytes, 100, Budget::new(9))?; // 3[2].1 at byte 117: InvalidUtf8
 //! ```
 #![tactic(auto)]
 

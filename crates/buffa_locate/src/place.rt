@@ -5,7 +5,7 @@ use buffa_wire::DecodeError;
 /// A field on the way to the record that is refused.
 ///
 /// ```ignore
-/// let third = Step { number: 3, index: Some(2) };
+/// Step { number, index }
 /// ```
 #[derive(Clone, Copy, Debug, PartialEq, Eq)]
 pub struct Step {
@@ -19,7 +19,7 @@ pub struct Step {
 /// Where bytes were refused.
 ///
 /// ```ignore
-/// let Some(place) = locate::<Order>(alloc, bytes, RECURSION_LIMIT, budget)? else { .. };
+/// let found = locate::<Order>(alloc, &bytes, 100, Budget::new(9))?;
 /// ```
 #[derive(Debug, Drop)]
 pub struct Place {

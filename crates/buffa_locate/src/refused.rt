@@ -3,7 +3,7 @@
 ghost use Rattle.std.specs.Prelude.{◌≡◌, ◌≢◌, IfOk, MatchOption, OnErr, length};
 ghost use Rattle.buffa_bytes.specs.declared.error.DecodeError.TheVariants.{OutOfMemory};
 ghost use Rattle.buffa_wire.specs.Message.{BeginsField};
-ghost use Rattle.buffa_locate.specs.Places.{AreRead, IsFirstRefused};
+ghost use Rattle.buffa_locate.specs.Places.{AreAllMerged, IsFirstRefused};
 
 use buffa_wire::{Budget, Buf, DecodeContext, DecodeError, Message, Tag};
 use std::alloc::{AllocError, Global};
@@ -11,7 +11,7 @@ use std::alloc::{AllocError, Global};
 /// The first record that is refused of some bytes, those of a message.
 ///
 /// ```ignore
-/// let Some(refused) = first_refused::<Line>(alloc, bytes, 100, budget)? else { .. };
+/// let found = first_refused::<M>(alloc, bytes, self.depth, budget)?;
 /// ```
 #[derive(Clone, Copy, Debug, PartialEq, Eq)]
 pub struct Refused {
@@ -46,7 +46,7 @@ fn told(fault: DecodeError) -> Result<DecodeError, AllocError>
 /// Where memory runs out, which it does only if a field begins the bytes.
 ///
 /// ```ignore
-/// first_refused::<Line>(alloc, bytes, 100, Budget::new(1_000))?
+/// let found = first_refused::<M>(alloc, bytes, self.depth, budget)?;
 /// ```
 pub fn first_refused<M: Message + Drop>(
     alloc: Global,
@@ -55,7 +55,7 @@ pub fn first_refused<M: Message + Drop>(
     budget: Budget,
 ) -> Result<Option<Refused>, AllocError>
     ensures told { IfOk result (λ found. MatchOption found
-        (AreRead (M.merged depth M.blank_is bytes.now) (M.cost depth bytes.now) budget)
+        (AreAllMerged (M.merged depth M.blank_is bytes.now) (M.cost depth bytes.now) budget)
         (IsFirstRefused M.merged M.cost depth M.blank_is bytes.now budget)) }
     ensures full { OnErr result (BeginsField bytes.now) }
 {

@@ -1,10 +1,9 @@
 //! What is searched.
 
-ghost use Rattle.std.specs.Prelude.{◌≡◌, ◌+◌, ◌-◌, ◌<◌, ◌≤◌, IfOk, IfSome, MatchOption, length};
-ghost use Rattle.buffa_locate.specs.Places.{Extends, Leads};
+ghost use Rattle.std.specs.Prelude.{◌≡◌, ◌+◌, ◌-◌, ◌<◌, ◌≤◌, IfOk, IfSome, length};
 
 use crate::cuts::{count_of, held_by};
-use crate::inside::{Inside, Locate};
+use crate::inside::Inside;
 use crate::place::Step;
 use crate::refused::{Refused, first_refused};
 use buffa_wire::{Budget, DecodeError, Message, Tag};
@@ -14,7 +13,7 @@ use std::alloc::{AllocError, Global};
 /// looked for.
 ///
 /// ```ignore
-/// 3 => find::<Line>(alloc, search, path),
+/// 3 | 4 => find::<Line>(alloc, search, path),
 /// ```
 #[derive(Clone, Copy)]
 pub struct Search<'a> {
@@ -56,13 +55,14 @@ impl<'a> Search<'a> {
 
     // The message that the refused record holds, one level down.
     pub(crate) fn enter(self, tag: Tag, refused: Refused, inside: Inside) -> Option<Search<'a>>
-        requires { refused.behind ≤ self.entry.end - self.entry.start }
+        requires { refused.behind ≤ self.end - self.start }
         ensures { IfSome result (λ inner. (inner.depth + 1 ≡ self.entry.depth) × (self.entry.start + refused.behind ≤ inner.start)
             × (inner.end ≤ self.entry.end)) }
     {
         if self.depth == 0 {
             return None;
         }
+        let memory = refused.memory.checked_sub(inside.units)?;
         let from = self.start + refused.behind;
         let (start, end) = held_by(self.all, from, self.end, tag, inside.holds, self.depth)?;
         Some(Search {
@@ -71,14 +71,14 @@ impl<'a> Search<'a> {
             end,
             depth: self.depth - 1,
             unknown: refused.unknown,
-            memory: refused.memory.checked_sub(inside.units)?,
+            memory,
             fault: self.fault,
         })
     }
 
     // The step to the refused record.
     pub(crate) fn step(self, tag: Tag, refused: Refused, inside: Option<Inside>) -> Step
-        requires { refused.at ≤ self.entry.end - self.entry.start }
+        requires { refused.at ≤ self.end - self.start }
         ensures { result.number ≡ tag.number }
     {
         let number = tag.field_number();

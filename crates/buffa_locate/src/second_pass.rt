@@ -1,16 +1,46 @@
 //! The second pass.
 
-ghost use Rattle.std.specs.Prelude.{◌≡◌, ◌+◌, ◌-◌, ◌<◌, ◌≤◌, IfOk, IfSome, MatchOption, length};
-ghost use Rattle.buffa_locate.specs.Places.{AreRead, Extends, IsPlace, Leads};
+ghost use Rattle.std.specs.Prelude.{◌+◌, ◌-◌, ◌<◌, ◌≤◌, IfOk, IfSome, MatchOption};
+ghost use Rattle.buffa_locate.specs.Places.{AreAllMerged, Extends, IsPlace, LeadsTo};
 
-use crate::inside::Locate;
+use crate::inside::{Inside, Locate};
 use crate::place::{Place, Step};
 use crate::refused::{Refused, first_refused};
 use crate::search::Search;
-use buffa_wire::Budget;
+use buffa_wire::{Budget, Tag};
 use std::alloc::{AllocError, Global};
 
-// Goes into the record that is refused, as deep as a record is refused for the same fault.
+// Looks into the message that a refused field holds, as deep as a record is refused for the same fault.
+#[cycle(deeper)]
+#[tactic(auto, using(crate::proofs::PathLemmas::extends_none, crate::proofs::PathLemmas::leads_extend))]
+fn look_into<M: Locate>(
+    alloc: Global,
+    search: Search<'_>,
+    refused: Refused,
+    tag: Tag,
+    inside: Inside,
+    path: &mut Vec<Step>,
+) -> Result<Option<usize>, AllocError>
+    requires behind { refused.behind ≤ search.end - search.start }
+    ensures within { IfOk result (λ found. IfSome found (λ at. (search.entry.start + refused.behind ≤ at)
+        × (at < search.entry.end))) }
+    ensures path { IfOk result (λ found. Extends path.old.items path.new.items) }
+{
+    let Some(inner) = search.enter(tag, refused, inside) else {
+        return Ok(None);
+    };
+    if !inside.own {
+        return M::find_inside(tag.field_number(), alloc, inner, path);
+    }
+    match inner.refused::<M>(alloc)? {
+        Some(next) => Ok(Some(follow::<M>(alloc, inner, next, path)?)),
+        None => Ok(None),
+    }
+}
+
+// Goes to the record that is refused, and into it.
+#[cycle(deeper)]
+#[tactic(auto, using(crate::proofs::PathLemmas::leads_now, crate::proofs::PathLemmas::leads_on))]
 fn follow<M: Locate>(
     alloc: Global,
     search: Search<'_>,
@@ -20,7 +50,7 @@ fn follow<M: Locate>(
     requires at { refused.at < search.end - search.start }
     requires behind { (refused.at ≤ refused.behind) × (refused.behind ≤ search.end - search.start) }
     ensures within { IfOk result (λ at. (search.entry.start + refused.at ≤ at) × (at < search.entry.end)) }
-    ensures path { IfOk result (λ at. Leads refused.tag path.old.items path.new.items) }
+    ensures path { IfOk result (λ at. LeadsTo refused.tag path.old.items path.new.items) }
 {
     let at = search.start + refused.at;
     let Some(tag) = refused.tag else {
@@ -31,17 +61,8 @@ fn follow<M: Locate>(
     let Some(inside) = inside else {
         return Ok(at);
     };
-    let Some(inner) = search.enter(tag, refused, inside) else {
-        return Ok(at);
-    };
-    if !inside.own {
-        let found = M::find_inside(tag.field_number(), alloc, inner, path)?;
-        return Ok(found.unwrap_or(at));
-    }
-    match inner.refused::<M>(alloc)? {
-        Some(next) => follow::<M>(alloc, inner, next, path),
-        None => Ok(at),
-    }
+    let found = look_into::<M>(alloc, search, refused, tag, inside, path)?;
+    Ok(found.unwrap_or(at))
 }
 
 /// The offset of the first refused record of what is searched, a message of this type, and as deep in it as the same fault
@@ -51,8 +72,9 @@ fn follow<M: Locate>(
 /// Where memory runs out.
 ///
 /// ```ignore
-/// 3 => find::<Line>(alloc, search, path),
+/// 3 | 4 => find::<Line>(alloc, search, path),
 /// ```
+#[tactic(auto, using(crate::proofs::PathLemmas::extends_none, crate::proofs::PathLemmas::leads_extend))]
 pub fn find<M: Locate>(
     alloc: Global,
     search: Search<'_>,
@@ -75,6 +97,7 @@ pub fn find<M: Locate>(
 /// ```ignore
 /// _ => nothing_inside(search, path),
 /// ```
+#[tactic(auto, using(crate::proofs::PathLemmas::extends_none))]
 pub fn nothing_inside(
     _search: Search<'_>,
     path: &mut Vec<Step>,
@@ -104,7 +127,7 @@ pub fn locate<M: Locate>(
     budget: Budget,
 ) -> Result<Option<Place>, AllocError>
     ensures { IfOk result (λ found. MatchOption found
-        (AreRead (M.merged depth M.blank_is bytes.now) (M.cost depth bytes.now) budget)
+        (AreAllMerged (M.merged depth M.blank_is bytes.now) (M.cost depth bytes.now) budget)
         (IsPlace M.merged M.cost depth M.blank_is bytes.now budget)) }
 {
     let Some(refused) = first_refused::<M>(alloc, bytes, depth, budget)? else {

@@ -21,7 +21,9 @@ fields-preserved g c =
     goes_on by c.fields.invariant _ _ _ c.in-Ok.ensures.reads _ _ _ c.in-Ok-merge_field.ensures.merged
 
 pub returns-in-Err-clause-told : goal.returns-in-Err-clause-told
-returns-in-Err-clause-told g c = ?
+returns-in-Err-clause-told g c =
+    let by = by_payload g.M.MessageSpec.stays g.M.MessageSpec.merged_is g.M.MessageSpec.cost_is in
+    stops_untagged by c.fields.invariant _ refl (same_left _ _ c.fields.left c.unknown_left.ensures c.memory_left.ensures) refl refl (omega (arith, c.remaining.ensures, c.fields-test.true)) c.in-Err.ensures.reads
 
 pub returns-clause-told : goal.returns-clause-told
 returns-clause-told g c =
