@@ -85,5 +85,11 @@ module _ {X : Type 0} {takes : Taker X} {charge : Charge} {merged : ℕ → X �
           why = (refused_next by came tag.number tag.wire_type bs is found.fault new x over why).1 tells;
         }
 
+    -- the same, where the fault is told that isn't want of memory
+    pub stops_told : (fault : DecodeError) (tag : Tag) (bs : List ℕ) → found.tag ≡ Some tag → tag_at rest ≡ Ok (tag.number, tag.wire_type, bs) → found.behind ≡ length all - length bs → (new : X) (x : List ℕ) (over : BudgetLeft) →
+        IsFieldMerged merged cost d now tag.number tag.wire_type bs left (refusal fault) new over x → (found.fault ≡ fault) × (found.fault ≢ OutOfMemory) → IsFirstRefused merged cost d old all first found
+    stops_told fault tag bs has is goes new x over why same =
+        stops_refused tag bs has is goes new x over (subst (λ e. IsFieldMerged merged cost d now tag.number tag.wire_type bs left (refusal e) new over x) (sym same.0) why) same.1
+
 pub same_left : (u m : ℕ) (l : BudgetLeft) → u ≡ l.unknown → m ≡ l.memory → record { unknown = u; memory = m } ≡ l
 same_left u m l e f = λ i. record { unknown = e i; memory = f i }

@@ -84,9 +84,12 @@ pub fn first_refused<M: Message + Drop>(
             depth,
             budget: &mut left,
         };
-        if let Err(fault) = message.merge_field(alloc, tag, &mut rest, lent) {
-            found.fault = told(fault)?;
-            return Ok(Some(found));
+        match message.merge_field(alloc, tag, &mut rest, lent) {
+            Ok(()) => {}
+            Err(fault) => {
+                found.fault = told(fault)?;
+                return Ok(Some(found));
+            }
         }
     }
     Ok(None)

@@ -2,7 +2,7 @@ use Rattle.std.proofs.Common.{arith, refl, sym, ap, ◌∙◌}
 use Rattle.std.proofs.lemmas.Result.{err_from_is_err_and}
 use Rattle.buffa_wire.proofs.ByPayloadLemmas.{by_payload}
 use Rattle.buffa_wire.proofs.MergeLoopLemmas.{begins, goes_on, reached, shorter}
-use Rattle.buffa_locate.proofs.PlaceLemmas.{all_read, same_left, stops_refused, stops_untagged}
+use Rattle.buffa_locate.proofs.PlaceLemmas.{all_read, same_left, stops_told, stops_untagged}
 use Rattle.buffa_locate.proofs.refused.first_refused.Goals as goal
 
 pub fields-init : goal.fields-init
@@ -29,3 +29,15 @@ pub returns-clause-told : goal.returns-clause-told
 returns-clause-told g c =
     let by = by_payload g.M.MessageSpec.stays g.M.MessageSpec.merged_is g.M.MessageSpec.cost_is in
     all_read by c.fields.invariant (omega (arith, c.remaining.ensures, c.fields-test.false))
+
+pub returns-in_err-found-in-Err-merge_field-clause-full : goal.returns-in_err-found-in-Err-merge_field-clause-full
+returns-in_err-found-in-Err-merge_field-clause-full g c =
+    let by = by_payload g.M.MessageSpec.stays g.M.MessageSpec.merged_is g.M.MessageSpec.cost_is in
+    let p = err_from_is_err_and c.from_residual.result c.from_residual.ensures.1 in
+    rw p.1 (reached by c.fields.invariant _ _ _ c.in-Ok.ensures.reads (c.in-Err-merge_field.ensures.full c.in_err-found-in-Err-merge_field.ensures.full))
+
+pub returns-in-Err-merge_field-clause-told : goal.returns-in-Err-merge_field-clause-told
+returns-in-Err-merge_field-clause-told g c =
+    let by = by_payload g.M.MessageSpec.stays g.M.MessageSpec.merged_is g.M.MessageSpec.cost_is in
+    stops_told by c.fields.invariant _ refl (same_left _ _ c.fields.left c.unknown_left.ensures c.memory_left.ensures) _ c.in-Ok.tag _ refl c.in-Ok.ensures.reads refl (g.M.Blank.meaning c.merge_field.new.self) c.merge_field.new.buf.now c.merge_field.new.ctx.1.0
+    c.in-Err-merge_field.ensures.merged c.in_ok-found-in-Err-merge_field.ensures.same
