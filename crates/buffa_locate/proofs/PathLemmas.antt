@@ -1,5 +1,5 @@
 -- Paths that grow.
-use Rattle.std.proofs.Common.{◌≡◌, ℕ, List, [], ◌∷◌, ◌++◌, Option, None, Some, refl, sym, ap, subst, ◌∙◌, append_assoc, append-nil}
+use Rattle.std.proofs.Common.{◌≡◌, List, [], ◌∷◌, ◌++◌, Option, None, Some, sym, ap, subst, ◌∙◌, append_assoc, append-nil}
 use Rattle.buffa_bytes.specs.declared.tag.Tag.{Tag}
 use Rattle.buffa_locate.specs.Places.{Extends, LeadsTo}
 use Rattle.buffa_locate.specs.declared.place.Step.{Step}

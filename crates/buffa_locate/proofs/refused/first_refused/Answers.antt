@@ -1,4 +1,4 @@
-use Rattle.std.proofs.Common.{arith, refl, sym, ap, ◌∙◌}
+use Rattle.std.proofs.Common.{arith, refl}
 use Rattle.std.proofs.lemmas.Result.{err_from_is_err_and}
 use Rattle.buffa_wire.proofs.ByPayloadLemmas.{by_payload}
 use Rattle.buffa_wire.proofs.MergeLoopLemmas.{begins, goes_on, reached, shorter}
