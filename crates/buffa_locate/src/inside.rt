@@ -11,7 +11,7 @@ use std::alloc::{AllocError, Global};
 /// How a field holds a message.
 ///
 /// ```ignore
-/// holds: Holds::Value, // map<string, Line>
+/// (Holds::Message, WireType::LengthDelimited) => delimited(all, start, end),
 /// ```
 #[derive(Clone, Copy, Debug, PartialEq, Eq)]
 pub enum Holds {
@@ -26,12 +26,7 @@ pub enum Holds {
 /// What is known of the message that a field holds.
 ///
 /// ```ignore
-/// 3 => Some(Inside {
-///     holds: Holds::Message,
-///     listed: true,
-///     own: false,
-///     units: <Line as MessageSpec>::COST,
-/// }),
+/// let inside = M::inside(tag.field_number());
 /// ```
 #[derive(Clone, Copy, Debug, PartialEq, Eq)]
 pub struct Inside {
@@ -46,34 +41,6 @@ pub struct Inside {
 }
 
 /// A message whose type says which of its fields hold messages, and of which type.
-///
-/// ```ignore
-/// impl Locate for Order {
-///     fn inside(number: u32) -> Option<Inside> {
-///         match number {
-///             3 => Some(Inside {
-///                 holds: Holds::Message,
-///                 listed: true,
-///                 own: false,
-///                 units: <Line as MessageSpec>::COST,
-///             }),
-///             _ => None,
-///         }
-///     }
-///
-///     fn find_inside(
-///         number: u32,
-///         alloc: Global,
-///         search: Search<'_>,
-///         path: &mut Vec<Step>,
-///     ) -> Result<Option<usize>, AllocError> {
-///         match number {
-///             3 | 4 => find::<Line>(alloc, search, path),
-///             _ => nothing_inside(search, path),
-///         }
-///     }
-/// }
-/// ```
 pub trait Locate: Message + Drop {
     /// What is known of the message that the field of a number holds, or none where it holds none.
     ///
@@ -89,7 +56,7 @@ pub trait Locate: Message + Drop {
     /// Where memory runs out.
     ///
     /// ```ignore
-    /// 3 | 4 => find::<Line>(alloc, search, path),
+    /// M::find_inside(tag.field_number(), alloc, inner, path)
     /// ```
     fn find_inside(
         number: u32,

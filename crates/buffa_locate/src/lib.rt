@@ -4,7 +4,7 @@
 //! Reading that succeeds doesn't call this crate, and costs nothing more.
 //!
 //! ```ignore
-//! let found = locate::<Order>(alloc, &bytes, 100, Budget::new(9))?; // 3[2].1 at byte 117: InvalidUtf8
+//! let found = first_refused::<M>(alloc, bytes, depth, budget)?;
 //! ```
 #![tactic(auto)]
 

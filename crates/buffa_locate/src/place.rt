@@ -19,7 +19,7 @@ pub struct Step {
 /// Where bytes were refused.
 ///
 /// ```ignore
-/// let found = locate::<Order>(alloc, &bytes, 100, Budget::new(9))?;
+/// let offset = follow::<M>(alloc, search, refused, &mut path)?;
 /// ```
 #[derive(Debug, Drop)]
 pub struct Place {

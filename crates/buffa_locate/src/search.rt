@@ -13,7 +13,7 @@ use std::alloc::{AllocError, Global};
 /// looked for.
 ///
 /// ```ignore
-/// 3 | 4 => find::<Line>(alloc, search, path),
+/// M::find_inside(tag.field_number(), alloc, inner, path)
 /// ```
 #[derive(Clone, Copy)]
 pub struct Search<'a> {

@@ -72,7 +72,7 @@ fn follow<M: Locate>(
 /// Where memory runs out.
 ///
 /// ```ignore
-/// 3 | 4 => find::<Line>(alloc, search, path),
+/// M::find_inside(tag.field_number(), alloc, inner, path)
 /// ```
 #[tactic(auto, using(crate::proofs::PathLemmas::extends_none, crate::proofs::PathLemmas::leads_extend))]
 pub fn find<M: Locate>(
@@ -95,7 +95,7 @@ pub fn find<M: Locate>(
 /// None.
 ///
 /// ```ignore
-/// _ => nothing_inside(search, path),
+/// Ok(None) // what it answers
 /// ```
 #[tactic(auto, using(crate::proofs::PathLemmas::extends_none))]
 pub fn nothing_inside(
@@ -118,7 +118,7 @@ pub fn nothing_inside(
 /// Where memory runs out.
 ///
 /// ```ignore
-/// locate::<Order>(alloc, bytes, RECURSION_LIMIT, Budget::new(DEFAULT_UNKNOWN_FIELD_LIMIT))?
+/// let Some(refused) = first_refused::<M>(alloc, bytes, depth, budget)? else { .. };
 /// ```
 pub fn locate<M: Locate>(
     alloc: Global,

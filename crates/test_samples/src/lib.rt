@@ -10,8 +10,6 @@ mod frames;
 #[cfg(test)]
 mod held;
 #[cfg(test)]
-mod located;
-#[cfg(test)]
 mod measure;
 #[cfg(test)]
 mod names;
