@@ -41,6 +41,10 @@ pub struct Inside {
 }
 
 /// A message whose type says which of its fields hold messages, and of which type.
+///
+/// ```ignore
+/// fn inside(number: u32) -> Option<Inside>;
+/// ```
 pub trait Locate: Message + Drop {
     /// What is known of the message that the field of a number holds, or none where it holds none.
     ///
