@@ -1,0 +1,23 @@
+-- Paths that grow.
+use Rattle.std.proofs.Common.{◌≡◌, List, [], ◌∷◌, ◌++◌, Option, None, Some, sym, ap, subst, ◌∙◌, append_assoc, append-nil}
+use Rattle.buffa_bytes.specs.declared.tag.Tag.{Tag}
+use Rattle.buffa_locate.specs.Places.{Extends, LeadsTo}
+use Rattle.buffa_locate.specs.declared.place.Step.{Step}
+
+pub extends_none : (path : List Step) → Extends path path
+extends_none path = ([], sym (append-nil path))
+
+-- steps to a record are steps
+pub leads_extend : (t : Option Tag) (old new : List Step) → LeadsTo t old new → Extends old new
+leads_extend None old new same = ([], same ∙ sym (append-nil old))
+leads_extend (Some tag) old new (index, more, is) = (record { number = tag.number; index = index } ∷ more, is)
+
+-- the step to the record is put, and others behind it
+pub leads_on : (t : Option Tag) (tag : Tag) (step : Step) (old mid new : List Step) → t ≡ Some tag → step.number ≡ tag.number → mid ≡ old ++ (step ∷ []) → Extends mid new → LeadsTo t old new
+leads_on t tag step old mid new is same put (more, on) =
+    subst (λ z. LeadsTo z old new) (sym is)
+    (step.index, more, on ∙ ap (λ (z : List Step). z ++ more) put ∙ append_assoc old (step ∷ []) more ∙ (λ i. old ++ (record { number = same i; index = step.index } ∷ more)))
+
+-- the step to the record is put
+pub leads_now : (t : Option Tag) (tag : Tag) (step : Step) (old mid : List Step) → t ≡ Some tag → step.number ≡ tag.number → mid ≡ old ++ (step ∷ []) → LeadsTo t old mid
+leads_now t tag step old mid is same put = leads_on t tag step old mid mid is same put (extends_none mid)

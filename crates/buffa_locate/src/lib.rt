@@ -1,0 +1,22 @@
+//! Where bytes were refused: a second pass over them tells the first record that is refused, by the numbers of the fields
+//! around it and by its offset.
+//!
+//! Reading that succeeds doesn't call this crate, and costs nothing more.
+//!
+//! ```ignore
+//! let found = first_refused::<M>(alloc, bytes, depth, budget)?;
+//! ```
+#![tactic(auto)]
+
+pub mod cuts;
+pub mod inside;
+pub mod place;
+pub mod refused;
+pub mod search;
+pub mod second_pass;
+
+pub use crate::inside::{Holds, Inside, Locate};
+pub use crate::place::{Place, Step};
+pub use crate::refused::{Refused, first_refused};
+pub use crate::search::Search;
+pub use crate::second_pass::{find, locate, nothing_inside};
