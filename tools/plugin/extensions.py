@@ -171,6 +171,7 @@ def said(it):
     where = f" in the message {it.field.outer.full}" if it.field.outer else ""
     made = list(it.field.said) + [""] * bool(it.field.said)
     made += [f"extend {it.extendee} {{ {it.declared()} }}{where}"]
+    made += ["", f"It is given without its default, which [`{it.name}_or_default`] has."] * it.has_default
     return made + ["", "It is an Item of a MessageSet, of which the plugin writes no impl of `ExtensionSet`."] * is_item(it)
 
 
@@ -226,7 +227,7 @@ def reader(it, enums):
     """The function that reads the extension, and where nothing is there gives the declared default."""
     own, codec = default(it, enums), f"⟦<{it.codec} as ExtensionCodec>⟧"
     seen = f"option_map {own.see} o" if own.see else "o"
-    made = docs([f"What the message has for `{it.name}`, or where it has none the declared default: {it.default()}."])
+    made = docs([f"What the message has for `{it.name}`, or where it has none the declared default: {it.default()}.", "A record that can't be read counts as none."])
     made += docs(["", "# Errors", "Where memory runs out."]) if not is_number(it) else []
     made += signature(it) + [f'    requires {{ M.fqn ≡ codes "{it.extendee}" }}']
     made += [f"    ensures value {{ IfOk result (λ v. IsDefaulted (ReadsNumber {codec}.reads"]

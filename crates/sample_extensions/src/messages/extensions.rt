@@ -24,6 +24,8 @@ pub fn insurance_of_shipment() -> Extension<MessageCodec<Insurance>>
 /// How often its delivery is tried.
 ///
 /// extend buffa.sample.Shipment { optional int32 tries = 100 [default = 3]; }
+///
+/// It is given without its default, which [`tries_or_default`] has.
 pub fn tries() -> Extension<Int32>
     ensures number { result.number ≡ 100 }
     ensures extendee { result.extendee.now ≡ codes "buffa.sample.Shipment" }
@@ -32,6 +34,7 @@ pub fn tries() -> Extension<Int32>
 }
 
 /// What the message has for `tries`, or where it has none the declared default: 3.
+/// A record that can't be read counts as none.
 pub fn tries_or_default<M: ExtensionSet>(alloc: Global, message: &M) -> Result<i32, AllocError>
     requires { M.fqn ≡ codes "buffa.sample.Shipment" }
     ensures value { IfOk result (λ v. IsDefaulted (ReadsNumber ⟦<Int32 as ExtensionCodec>⟧.reads
@@ -48,6 +51,8 @@ pub fn tries_or_default<M: ExtensionSet>(alloc: Global, message: &M) -> Result<i
 /// What the driver is told.
 ///
 /// extend buffa.sample.Shipment { optional string note = 101 [default = "ring the bell"]; }
+///
+/// It is given without its default, which [`note_or_default`] has.
 pub fn note() -> Extension<StringCodec>
     ensures number { result.number ≡ 101 }
     ensures extendee { result.extendee.now ≡ codes "buffa.sample.Shipment" }
@@ -56,6 +61,7 @@ pub fn note() -> Extension<StringCodec>
 }
 
 /// What the message has for `note`, or where it has none the declared default: "ring the bell".
+/// A record that can't be read counts as none.
 ///
 /// # Errors
 /// Where memory runs out.
@@ -84,6 +90,8 @@ pub fn depots() -> Extension<PackedRepeated<Uint32>>
 /// How it is handled.
 ///
 /// extend buffa.sample.Shipment { optional Handling handling = 104 [default = HANDLING_FRAGILE]; }
+///
+/// It is given without its default, which [`handling_or_default`] has.
 pub fn handling() -> Extension<EnumCodec<Handling>>
     ensures number { result.number ≡ 104 }
     ensures extendee { result.extendee.now ≡ codes "buffa.sample.Shipment" }
@@ -92,6 +100,7 @@ pub fn handling() -> Extension<EnumCodec<Handling>>
 }
 
 /// What the message has for `handling`, or where it has none the declared default: HANDLING_FRAGILE.
+/// A record that can't be read counts as none.
 pub fn handling_or_default<M: ExtensionSet>(
     alloc: Global,
     message: &M,
