@@ -3,7 +3,7 @@ import struct
 
 from google.protobuf.descriptor_pb2 import FieldDescriptorProto as Field
 
-import knots
+import recursive
 from files import clean
 from names import TAKEN
 
@@ -206,7 +206,7 @@ def enum_getter(message, member, held, enums):
 def held_by(message, member, at):
     """What a message, which contracts call `at`, has for a member."""
     if message.holds_itself:
-        return f"(rest_of {at}){knots.at(message, member)}"
+        return f"(rest_of {at}){recursive.at(message, member)}"
     held = f"{at}.{member.in_contract}"
     if member.it.type == Field.TYPE_ENUM and is_open(member):
         return f"(option_map ⟦<{member.rust[len('Option<') : -1]} as Blank>⟧.meaning {held})"

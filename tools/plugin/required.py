@@ -1,7 +1,7 @@
 """What a message requires: the call that says whether it is there, in the messages inside too."""
 from google.protobuf.descriptor_pb2 import FieldDescriptorProto as Field
 
-import knots
+import recursive
 from blocks import Block, pieces
 from oneof import OneOf
 
@@ -69,7 +69,7 @@ def held(message, member):
         slots = [k for k in message.members if k.itself]
         count = slots.index(member)
         return f"(option_of (head_one {'(tail_slots ' * count}(rest_of m).1{')' * count}))"
-    return f"(rest_of m){knots.at(message, member)}"
+    return f"(rest_of m){recursive.at(message, member)}"
 
 
 def meant(member, at):
@@ -233,7 +233,7 @@ def head_of_enum(one, message):
         return []
     by_cases = says_cases(one, message)
     made = ["ghost use Rattle.std.specs.Prelude.{true};"] * (by_cases or len(one.asked) < len(one.cases))
-    return made + [f"ghost use {knots.TERMS_INSIDE}.{{by_case}};"] * by_cases
+    return made + [f"ghost use {recursive.TERMS_INSIDE}.{{by_case}};"] * by_cases
 
 
 def initialized_enum(one, message):

@@ -3,7 +3,7 @@ import re
 
 import blocks
 import getters
-import knots
+import recursive
 import labels
 import limits
 import oneof
@@ -244,7 +244,7 @@ def names_of(message, fields):
     names |= {"Member"} if fields else set()
     if message.holds_itself:
         names |= {"take_one_of"} if message.oneofs else set()
-        return (names - {"And", "visit_one_of"}) | knots.names_of(message)
+        return (names - {"And", "visit_one_of"}) | recursive.names_of(message)
     names |= {"Blank", "MessageFields", "MessageImpl", "FieldByField", "FieldsMeaning", "Visitor"} | ({"Unknowns"} if message.is_keeping else set())
     in_blocks = blocks.blocks(message)
     of_blocks = set().union(*[ands(len(it.members)) | ({"And"} & k.needs) for it in in_blocks for k in it.members])
@@ -270,7 +270,7 @@ def head_of_message(world, message, enums):
     made += ["ghost use Rattle.std.proofs.Common.{lit<, refl};"]
     prelude = required.words(message) | ({"codes"} if message.it.extension_range else set())
     made += [f"ghost use Rattle.std.specs.Prelude.{{{', '.join(sorted(prelude))}}};"] * bool(prelude)
-    made += knots.head(message, required.terms(message)) if message.holds_itself else layers(message, fields)
+    made += recursive.head(message, required.terms(message)) if message.holds_itself else layers(message, fields)
     return made + [""] + uses(world, names_of(message, fields), {i for k in message.members for i in k.imports})
 
 
@@ -340,8 +340,8 @@ def codes_of(message, messages):
         for full in set(member.inside) & set(messages) - seen:
             seen.add(full)
             members += messages[full].members
-    knots = ["coded_tree"] * any(messages[full].holds_itself for full in seen)
-    return knots + ["coded_or"] * any(isinstance(it, oneof.OneOf) for it in members)
+    codings = ["coded_tree"] * any(messages[full].holds_itself for full in seen)
+    return codings + ["coded_or"] * any(isinstance(it, oneof.OneOf) for it in members)
 
 
 def codes_used(message, codes):
@@ -429,7 +429,7 @@ def takes_its_cost(message):
 def write_message(world, message, messages, enums):
     made = head_of_message(world, message, enums) + [""] + struct(message, messages) + [""]
     if message.holds_itself:
-        made += knots.form(message, message.cost(messages), blank(message), called)
+        made += recursive.form(message, message.cost(messages), blank(message), called)
     else:
         made += listed_form(message, messages)
     made += extension_set(message) if message.it.extension_range else []

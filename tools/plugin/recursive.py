@@ -87,14 +87,14 @@ def uses_of_model(message, kinds):
     """What the model cites."""
     types = [value_type(k) for k in owned(message)]
     prelude = last(message)[1].union(*(words for _, words in types))
-    knots = {"MessageTree", "coded_tree", "tree_height", "tree_of"} | ({"most-of_list"} if "list" in kinds else set())
+    recursive = {"MessageTree", "coded_tree", "tree_height", "tree_of"} | ({"most-of_list"} if "list" in kinds else set())
     maps, wire = {"most-of_map"} if "map" in kinds else set(), {"FieldData"} if message.is_keeping else set()
     views = {view(k).split()[0] for k in message.members} | {"has_unknown_fields" if message.is_keeping else "has_none"}
     views |= {made.split()[0] for made, _ in types if made.startswith(("MeaningOf", "CaseMeaningOf"))}
     cases = {"coded_or"} if any(isinstance(k, OneOf) for k in message.members) else set()
     made = [("Rattle.std.specs.Coded", {"codes"}), ("Rattle.std.specs.Option", {"option_map"} if "one" in kinds else set())]
     made += [("Rattle.std.specs.Prelude", prelude), ("Rattle.std.proofs.Common", {"arith"})]
-    made += [(TERMS, {"coded_field_data"} | wire | cases), (TERMS_INSIDE, knots | maps | views)]
+    made += [(TERMS, {"coded_field_data"} | wire | cases), (TERMS_INSIDE, recursive | maps | views)]
     return [f"    ghost use {module}.{{{', '.join(ordered(words))}}};" for module, words in made if words]
 
 
