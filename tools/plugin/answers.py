@@ -9,6 +9,9 @@ MOST_SEEN = 7
 # Of as many cases it is proved without an answer that a refused message leaves what stands.
 MOST_REFUSED = 4
 
+# Of a signed number as contracts see it, how many bits the machine reads it back from.
+SIGNED = {"i32": 32, "i64": 64}
+
 
 def to_answer(message):
     """The places of the members that hold messages and whose call of `visit` is answered: all but the first, that too where many stand before it,
@@ -126,13 +129,20 @@ def answers_of_cases(world, one, cases, holder, call):
     is_behind = any(at > 0 for at in numbers + messages)
     common = "rules, refl, sym, ap, ◌∙◌, ◌==◌" if is_behind else "rules, sym, ◌∙◌"
     made = [f"use Rattle.std.proofs.Common.{{{common}}}"]
+    widths = sorted({f"w{SIGNED[cases[at].said]}" for at in numbers if cases[at].said in SIGNED})
+    made += ["use Rattle.std.proofs.lemmas.Int.{to_z-of_z}", f"use Rattle.std.specs.Int.{{{', '.join(widths)}}}"] if widths else []
     made += ["use Rattle.std.proofs.lemmas.Result.{err_from_is_err_and}"] * bool(messages)
     made += [f"use {TERMS}.{{chosen{', not_here' * is_behind}}}"]
     made += [f"use {goals} as goal"]
     for at in numbers:
         branch = f"in_ok-it-in-{cases[at].number}"
-        term = taken_by(cases, at, f"let read = c.{branch}.ensures.ok in search (rules, read)")
-        made += answer_of_case(cases[at], branch, term)
+        read, bits = f"c.{branch}.ensures.ok", SIGNED.get(cases[at].said)
+        if bits:
+            kept = f"    let kept = to_z-of_z w{bits} c.{branch}.it (search rules) in"
+            term = f"simp (c.replace{f'-in-{cases[at].number}' * (at > 0)}.ensures.after, kept) {read}"
+            made += answer_of_case(cases[at], branch, taken_by(cases, at, term), [kept])
+        else:
+            made += answer_of_case(cases[at], branch, taken_by(cases, at, f"let read = {read} in search (rules, read)"))
     for count, at in enumerate(messages, 1):
         branch = f"in_err-it-{place('in_default-slot', count)}"
         term = taken_by(cases, at, f"let refused = c.{branch}.ensures.err in search (rules, refused)")

@@ -18,7 +18,7 @@ fn what_protoc_wrote_is_read_changed_and_written(rt: HostRuntime) -> Result<(), 
     ];
     let mut info = ErrorInfo::decode_from_slice(alloc, &bytes)?;
     assert!(rt; info.reason.as_str() == "API_DISABLED" && info.domain.as_str() == "googleapis.com");
-    assert!(rt; info.metadata.len() == 1 && info.rest.len() == 1);
+    assert!(rt; info.metadata.len() == 1 && info.unknown_fields.len() == 1);
     let answer = with_domain(alloc, &bytes, String::from_str(alloc, "a.b")?)?;
     let wanted: [u8; 48] = [
         0x0A, 0x0C, 0x41, 0x50, 0x49, 0x5F, 0x44, 0x49, 0x53, 0x41, 0x42, 0x4C, 0x45, 0x44, 0x12,

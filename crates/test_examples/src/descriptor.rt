@@ -53,7 +53,7 @@ fn descriptor_proto_is_described(rt: HostRuntime) -> Result<(), Fail> {
     for field in &message.field {
         if field.number == Some(4) {
             assert!(rt; field.type_ == Some(FieldDescriptorProtoType::Enum));
-            assert!(rt; field.label == Some(FieldDescriptorProtoLabel::ExplicitField));
+            assert!(rt; field.label == Some(FieldDescriptorProtoLabel::Optional));
         }
     }
     Ok(())
