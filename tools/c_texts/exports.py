@@ -105,7 +105,7 @@ def tells(gate, told):
         member = f"option_map (λ v. v.1) {told.path}"
     checks = [meant(gate, DEPTH), cost(gate, DEPTH), "USUAL", "bytes.now result"]
     clauses = clause("ChecksRoom" if told.is_text else "Checks", checks, "answer ")
-    clauses += clause(word, [f"(option_map (λ m. {member})", meant(gate, DEPTH) + ")", " ".join(["result", *left(told)])], "told ")
+    clauses += clause(word, [f"(option_map (λ m. {member})", meant(gate, DEPTH) + ")", " ".join(["result", *left(told)])], "answered ")
     docs = [f"The member `{told.name}` of the `{gate.rust}` that the bytes mean{', if it is there' if told.is_optional else ''}."]
     return export(docs, f"{gate.prefix}_{told.name}", parameters(told), clauses, tell_body(gate, told))
 
