@@ -9,7 +9,7 @@ static const struct {
     uint32_t type;
 } all[] = {{"error_info", 0}, {"metrics", 1}, {"range", 2}, {"osm", 3}, {"onnx", 4}, {"descriptor", 5}, {"descriptors", 5}, {"places", 5}};
 
-static const char *message = "", *phases[] = {"parse", "write"};
+static const char *message = "", *phases[] = {"parse", "write", "parse canonically"};
 static uint32_t type, phase, times = 1, round_;
 static uint64_t len;
 static double began, spent, least;
@@ -46,7 +46,7 @@ void bench_stamp(uint32_t at) {
 
 /* Goes on to what is next. */
 void bench_did(uint64_t did) {
-    if (did != (phase ? len : times)) {
+    if (did != (phase == 1 ? len : times)) {
         fprintf(stderr, "%s: ours fails to %s\n", message, phases[phase]);
         exit(1);
     }
@@ -55,5 +55,5 @@ void bench_did(uint64_t did) {
     if (round_++ < (bench_calls ? 1 : REAL_ROUNDS)) return;
     real_line(message, "ours", phases[phase], len, bench_calls ? spent : least, peak);
     round_ = 0, times = 1;
-    if (++phase == 2) exit(0);
+    if (++phase == sizeof phases / sizeof *phases) exit(0);
 }

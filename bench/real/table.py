@@ -21,7 +21,7 @@ NAMES = {
     "places": "the same, with comments and places",
     "onnx": "an ONNX `ModelProto`",
 }
-FRESH, KEPT, WRITE = "parse", "parse into one that is kept", "write"
+FRESH, KEPT, WRITE, CANONICAL = "parse", "parse into one that is kept", "write", "parse canonically"
 
 
 def told(number):
@@ -49,6 +49,15 @@ for message in (it for it in NAMES if it in found):
         row += [f"{least[it]:,.0f}" if it in least else "" for it in (f"requests {FRESH}", f"requests {WRITE}", f"peak {FRESH}")]
         row += [f"{least[it]:,.0f}" if it in least else "" for it in counts] if is_counted else []
         print(f"| {who} | " + " | ".join(row) + " |")
+
+print("\n| Ours, canonically, beside its parse and its write together | ns | MB/s | beside, ns | requests | instructions | beside, instructions |")
+print("|---" * 7 + "|")
+for message in (it for it in NAMES if it in found):
+    least = {phase: min(numbers) for (who, phase), numbers in found[message].items() if who == "ours"}
+    beside = [f"{least[a] + least[b]:,.0f}" if a in least and b in least else "" for a, b in ((FRESH, WRITE), tuple(f"instructions {it}" for it in (FRESH, WRITE)))]
+    counted = [f"{least[it]:,.0f}" if it in least else "" for it in (f"requests {CANONICAL}", f"instructions {CANONICAL}")]
+    row = [told(least.get(CANONICAL)), fast(least.get(CANONICAL), lengths[message]), beside[0], *counted, beside[1]]
+    print(f"| {NAMES[message]} | " + " | ".join(row) + " |")
 
 WHO = (("ours", FRESH), ("prost", FRESH), ("C++", FRESH), ("C++", KEPT))
 print("\n| Parse, MB a second | bytes | " + " | ".join(("ours", "prost", "C++", "C++, into one that is kept")) + " |")
