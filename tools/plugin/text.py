@@ -7,6 +7,7 @@ import recursive
 import labels
 import limits
 import oneof
+import packed
 import required
 import sets
 from derived import derives, says_what_is_missing
@@ -274,12 +275,13 @@ def head_of_message(world, message, enums):
     fields = [k for k in message.members if not isinstance(k, oneof.OneOf) and not k.itself]
     made = [f"//! {message.name.full}, made of {message.name.file.shown} by protoc-gen-buffa.", ""]
     if message.is_set:
-        return made + sets.head() + [""] + uses(world, sets.NAMES, (), sets.MODULE_OF)
+        return made + sets.head() + [""] + uses(world, sets.NAMES | packed.names(world), (), packed.modules(world, sets.MODULE_OF))
     made += ["ghost use Rattle.std.proofs.Common.{lit<, refl};"]
     prelude = required.words(message) | ({"codes"} if message.it.extension_range else set())
     made += [f"ghost use Rattle.std.specs.Prelude.{{{', '.join(sorted(prelude))}}};"] * bool(prelude)
     made += recursive.head(message, required.terms(message)) if message.holds_itself else layers(message, fields)
-    return made + [""] + uses(world, names_of(message, fields), {i for k in message.members for i in k.imports})
+    imports = {i for k in message.members for i in k.imports}
+    return made + [""] + uses(world, names_of(message, fields) | packed.names(world), imports, packed.modules(world, MODULE))
 
 
 def layers(message, fields):
@@ -445,7 +447,7 @@ def write_message(world, message, messages, enums):
         made += listed_form(message, messages)
     made += extension_set(message) if has_extensions(message) else []
     made += [] if message.has_told_cost(messages) else takes_its_cost(message)
-    return "\n".join(made + required.initialized(message) + own_calls(message, enums)) + "\n"
+    return "\n".join(made + required.initialized(message) + packed.impl(message) + own_calls(message, enums)) + "\n"
 
 
 def own_calls(message, enums):

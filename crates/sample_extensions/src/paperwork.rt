@@ -1,13 +1,15 @@
 //! The papers that go with a shipment: a MessageSet, whose Items are extensions.
 
-ghost use Rattle.std.specs.Prelude.{◌≡◌, OnErr, OnOk};
+ghost use Rattle.std.specs.Prelude.{◌≡◌, codes, string_bytes, IfOk, OnErr, OnOk};
 ghost use Rattle.buffa_ext.specs.SetsAndClears.{IsSet};
+ghost use Rattle.buffa_types.specs.TypeUrl.{url_of};
 
 use crate::messages::extensions::customs_paper;
 use crate::messages::{Customs, Papers};
 use buffa_ext::codecs::MessageCodec;
 use buffa_ext::{ExtensionCodec, ExtensionSet};
 use buffa_fields::{Blank, Decode, DecodeError, EncodeError};
+use buffa_types::Any;
 use std::alloc::Global;
 use std::string::String;
 
@@ -38,4 +40,22 @@ pub fn declare(alloc: Global, papers: &mut Papers, customs: Customs) -> Result<(
 /// Takes the paper of the customs out.
 pub fn withdraw(papers: &mut Papers) {
     papers.clear_extension(&customs_paper());
+}
+
+/// The paper in an `Any`, which can hold any type of paper.
+///
+/// # Errors
+/// Where the paper is too large to be written, or memory runs out.
+pub fn packed(alloc: Global, customs: &Customs) -> Result<Any, EncodeError>
+    ensures url { IfOk result (λ any. string_bytes any.type_url ≡ url_of (codes "buffa.sample.Customs")) }
+{
+    Any::pack(alloc, customs)
+}
+
+/// The paper in an `Any`; none where that holds another type.
+///
+/// # Errors
+/// Where the paper is malformed, or memory runs out.
+pub fn unpacked(alloc: Global, any: &Any) -> Result<Option<Customs>, DecodeError> {
+    any.unpack::<Customs>(alloc)
 }

@@ -3,9 +3,10 @@
 use crate::delivery::{insure, insured_for, is_tried_again, set_tries};
 use crate::messages::extensions::{depots, handling_or_default, note, note_or_default, tries};
 use crate::messages::{Customs, Handling, Papers, Shipment};
-use crate::paperwork::{declare, declared_goods, withdraw};
+use crate::paperwork::{declare, declared_goods, packed, unpacked, withdraw};
 use buffa_ext::ExtensionSet;
 use buffa_fields::{Blank, Decode, EnumValue, Message};
+use buffa_types::Any;
 use std::test::Fail;
 
 #[test]
@@ -91,5 +92,18 @@ fn other_papers_stay(rt: HostRuntime) -> Result<(), Fail> {
     assert!(rt; papers.try_encode_to_vec(alloc)?.as_slice() == written.as_slice());
     assert!(rt; declared_goods(alloc, &[0x0B, 0x1A, 0x00, 0x0C]).is_err()); // no type id
     assert!(rt; declared_goods(alloc, &[0x0B, 0x10, 0xE8, 0x07, 0x1A, 0x01, 0x0A, 0x0C]).is_err()); // cut short
+    Ok(())
+}
+
+#[test]
+fn a_paper_is_packed_under_its_name(rt: HostRuntime) -> Result<(), Fail> {
+    let alloc = rt.alloc();
+    let mut customs = Customs::blank(alloc);
+    customs.goods = Some(String::from_str(alloc, "tea")?);
+    let any = packed(alloc, &customs)?;
+    assert!(rt; any.type_url.as_str() == "type.googleapis.com/buffa.sample.Customs");
+    assert!(rt; unpacked(alloc, &any)?.is_some_and(|it| it.goods() == "tea"));
+    let other = Any::pack(alloc, &Papers::blank(alloc))?;
+    assert!(rt; unpacked(alloc, &other)?.is_none());
     Ok(())
 }

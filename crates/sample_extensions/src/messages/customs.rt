@@ -8,6 +8,7 @@ use buffa_fields::{
     And, Blank, DecodeContext, DecodeError, ExplicitField, FieldByField, FieldsMeaning, Member,
     MessageFields, MessageImpl, Tag, UnknownFields, Unknowns, Visitor, unknown,
 };
+use buffa_types::NamedMessage;
 use std::alloc::Global;
 use std::string::String;
 
@@ -82,6 +83,16 @@ impl MessageImpl for Customs {
 }
 
 const _: () = prove!(size_of::<Customs>() <= Customs::COST);
+
+impl NamedMessage for Customs {
+    ghost use Rattle.std.specs.Prelude.{codes};
+
+    ghost name = { codes "buffa.sample.Customs" };
+
+    fn full_name() -> &'static str {
+        Self::FULL_NAME
+    }
+}
 
 impl Customs {
     ghost use Rattle.std.specs.Prelude.{[], option_map, string_bytes, unwrap_or, ◌≡◌};

@@ -14,6 +14,7 @@ use buffa_fields::{
     Tag, UnknownFields, Unknowns, WireType,
 };
 use buffa_sets::set;
+use buffa_types::NamedMessage;
 use std::alloc::Global;
 
 /// The papers that go with a shipment, each in an Item.
@@ -175,6 +176,16 @@ impl ExtensionSet for Papers {
 }
 
 const _: () = prove!(size_of::<Papers>() <= Papers::COST);
+
+impl NamedMessage for Papers {
+    ghost use Rattle.std.specs.Prelude.{codes};
+
+    ghost name = { codes "buffa.sample.Papers" };
+
+    fn full_name() -> &'static str {
+        Self::FULL_NAME
+    }
+}
 
 impl Papers {
     /// The full name of the message.

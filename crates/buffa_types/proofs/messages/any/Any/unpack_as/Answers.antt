@@ -1,7 +1,7 @@
 use Rattle.std.proofs.Common.{subst, ◌∙◌, sym}
 use Rattle.std.proofs.lemmas.Result.{err_from_is_err_and}
 use Rattle.buffa_fields.specs.Terms.{BeginsField}
-use Rattle.buffa_types.proofs.messages.any.Any.unpack.Goals as goal
+use Rattle.buffa_types.proofs.messages.any.Any.unpack_as.Goals as goal
 
 pub returns-in_err-decode_from_slice-clause-full :
     goal.returns-in_err-decode_from_slice-clause-full
