@@ -149,8 +149,6 @@ def write(world, listed, enums):
     for it in (it for it in listed if it.why):
         made += [f"// {it.field.full} isn't written: {it.why}.", ""]
         world.tell(f"{it.field.at()}: it declares an extension, and isn't written: {it.why}")
-    for it in filter(is_item, written):
-        world.tell(f"{it.field.at()}: it is an Item of a MessageSet, of which the plugin writes no impl of ExtensionSet")
     return "\n".join(made[:-1]) + "\n"
 
 
@@ -172,7 +170,7 @@ def said(it):
     made = list(it.field.said) + [""] * bool(it.field.said)
     made += [f"extend {it.extendee} {{ {it.declared()} }}{where}"]
     made += ["", f"It is given without its default, which [`{it.name}_or_default`] has."] * it.has_default
-    return made + ["", "It is an Item of a MessageSet, of which the plugin writes no impl of `ExtensionSet`."] * is_item(it)
+    return made + ["", "It is an Item of a MessageSet, and its number a type id."] * is_item(it)
 
 
 def is_item(it):

@@ -37,6 +37,7 @@ MODULE = {
     **{it: "buffa_recursive" for it in "RequiredCases RequiredMeaning RequiredMember SelfAsked SelfAsker SelfRequired".split()},
     **{it: "buffa_recursive" for it in "list_initialized map_initialized one_initialized tree_initialized".split()},
     "ExtensionSet": "buffa_ext",
+    "NamedMessage": "buffa_types",
     "Bytes": "bytes",
     "Global": "std::alloc",
     "BTreeMap": "std::collections",

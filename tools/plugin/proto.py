@@ -1,9 +1,9 @@
 """What a .proto says, and what of it messages from their fields can say: all else is refused, by name."""
 import re
 
-from google.protobuf.descriptor_pb2 import DescriptorProto as Descriptor
 from google.protobuf.descriptor_pb2 import FieldDescriptorProto as Field
 
+import sets
 from blocks import blocks
 from depths import DEEPEST_STRUCT, own_depth
 from files import Name, Refused, clean, quoted
@@ -315,9 +315,6 @@ class Message:
     def __init__(self, world, name):
         self.world, self.name, self.rust, self.it = world, name, world.types[name.full], name.it
         self.is_set = self.it.options.message_set_wire_format
-        if self.is_set:
-            # An Item is a group of number 1, so no extension is under its own number.
-            self.it = Descriptor(name=self.it.name)
         fields = [Name(name.file, name.path + (2, at), f"{name.full}.{f.name}", f) for at, f in enumerate(self.it.field)]
         self.left = sorted((f for f in fields if f.full in world.left), key=lambda f: f.it.number)
         self.listed = [world.tries(Member, world, f, name) for f in fields if f.full not in world.left]
@@ -396,6 +393,8 @@ class Message:
 
     def see_kept(self):
         """Refuses what would drop more than fields that aren't declared."""
+        if self.is_set:
+            sets.see(self)
         way = f"take drop={self.name.full} away"
         if not self.is_keeping and self.name.it.extension_range:
             self.name.refuse("its extensions are among the fields that aren't declared, which drop= leaves out", way)

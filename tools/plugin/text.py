@@ -7,7 +7,9 @@ import recursive
 import labels
 import limits
 import oneof
+import packed
 import required
+import sets
 from derived import derives, says_what_is_missing
 from names import MODULE, TERMS, TERMS_INSIDE, ordered, place, snake
 
@@ -96,7 +98,7 @@ def message_docs(message, messages):
             made += ["", f"{said}: " + ", ".join(f"{f.name} = {f.number}" for f in fields) + "."]
     made += says_what_is_missing(message)
     made += ["", "Its extensions are those of its `unknown_fields`."] * bool(message.rest)
-    made += ["", "A MessageSet: its Items are among the fields that aren't declared, each a group of number 1."] * message.is_set
+    made += ["", "A MessageSet: the message of an Item is kept under its type id, where an extension of that number finds it."] * message.is_set
     made += limits.remarks(message, messages)
     return docs(made if message.is_keeping else made + ["", "The fields that aren't declared are passed over."])
 
@@ -199,6 +201,11 @@ def take(message):
     return made + [f"            _ => {other},", "        }", "    }"]
 
 
+def has_extensions(message):
+    """Whether it has a range of extensions: the Items of a MessageSet are such, without one, too."""
+    return bool(message.it.extension_range) or message.is_set
+
+
 def extension_set(message):
     full, member = message.name.full, "fields" if message.rest else "unknown_fields"
     line = "    const PROTO_FQN: &'static str ="
@@ -239,7 +246,7 @@ def names_of(message, fields):
     names = set("unknown DecodeContext DecodeError Tag Global".split())
     names = names.union(*[k.needs for k in members])
     names |= {"UnknownFields"} if message.is_keeping else set()
-    names |= {"ExtensionSet"} if message.it.extension_range else set()
+    names |= {"ExtensionSet"} if has_extensions(message) else set()
     names |= required.names_of(message)
     names |= {"Member"} if fields else set()
     if message.holds_itself:
@@ -267,11 +274,14 @@ def head_of_message(world, message, enums):
     """What the file of a message begins with: what it cites and imports."""
     fields = [k for k in message.members if not isinstance(k, oneof.OneOf) and not k.itself]
     made = [f"//! {message.name.full}, made of {message.name.file.shown} by protoc-gen-buffa.", ""]
+    if message.is_set:
+        return made + sets.head() + [""] + uses(world, sets.NAMES | packed.names(world), (), packed.modules(world, sets.MODULE_OF))
     made += ["ghost use Rattle.std.proofs.Common.{lit<, refl};"]
     prelude = required.words(message) | ({"codes"} if message.it.extension_range else set())
     made += [f"ghost use Rattle.std.specs.Prelude.{{{', '.join(sorted(prelude))}}};"] * bool(prelude)
     made += recursive.head(message, required.terms(message)) if message.holds_itself else layers(message, fields)
-    return made + [""] + uses(world, names_of(message, fields), {i for k in message.members for i in k.imports})
+    imports = {i for k in message.members for i in k.imports}
+    return made + [""] + uses(world, names_of(message, fields) | packed.names(world), imports, packed.modules(world, MODULE))
 
 
 def layers(message, fields):
@@ -292,7 +302,8 @@ def struct(message, messages):
     for member in message.members:
         parts += docs(member.field.said, "    ") + [f"    pub {member.name}: {member.rust},"]
     rest = message.rest or "UnknownFields"
-    parts += ["    /// The fields that aren't declared, in order.", f"    pub unknown_fields: {rest},"] * message.is_keeping
+    kept = sets.KEPT if message.is_set else "The fields that aren't declared, in order."
+    parts += [f"    /// {kept}", f"    pub unknown_fields: {rest},"] * message.is_keeping
     made += [derives(message), f"pub struct {message.rust} {{"]
     made = made + parts + ["}"] if parts else made[:-1] + [f"pub struct {message.rust} {{}}"]
     return made + rest_of(message) if message.rest else made
@@ -430,11 +441,13 @@ def write_message(world, message, messages, enums):
     made = head_of_message(world, message, enums) + [""] + struct(message, messages) + [""]
     if message.holds_itself:
         made += recursive.form(message, message.cost(messages), blank(message), called)
+    elif message.is_set:
+        made += sets.form(message, message.cost(messages), blank(message))
     else:
         made += listed_form(message, messages)
-    made += extension_set(message) if message.it.extension_range else []
+    made += extension_set(message) if has_extensions(message) else []
     made += [] if message.has_told_cost(messages) else takes_its_cost(message)
-    return "\n".join(made + required.initialized(message) + own_calls(message, enums)) + "\n"
+    return "\n".join(made + required.initialized(message) + packed.impl(message) + own_calls(message, enums)) + "\n"
 
 
 def own_calls(message, enums):

@@ -10,4 +10,4 @@ pub mod Wire
 pub use Rattle.sample_node.specs.Branch
 pub use Rattle.sample_node.specs.NodeMeaning
 pub use Rattle.sample_node.specs.NodeEncoding
-pub use Rattle.sample_set_msg.specs.Set
+pub use Rattle.buffa_sets.specs.Set

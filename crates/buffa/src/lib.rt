@@ -2,8 +2,8 @@
 //!
 //! This crate hands on the names of the crates below it. A program that needs few of them names those crates, such as
 //! `buffa_fields` for messages, and then it has less to prove. [`fields`] has messages by their fields, [`map_codec`] map
-//! fields, [`extension`] typed extensions, [`message_set`] Items, and [`laws`] what is proved of them together, one function
-//! a law. [`samples`] has two messages. The items of the wire are at the top.
+//! fields, [`extension`] typed extensions, [`message_set`] Items, [`set`] MessageSets, and [`laws`] what is proved of them together, one
+//! function a law. [`samples`] has two messages. The items of the wire are at the top.
 #![tactic(auto)]
 
 pub mod extension;
@@ -16,6 +16,7 @@ pub use buffa_ext::{Extension, ExtensionSet};
 pub use buffa_map::map_codec;
 pub use buffa_map::map_codec::{Map, MapStorage};
 pub use buffa_message_set::message_set;
+pub use buffa_sets::set;
 pub use buffa_wire::message::MAX_MESSAGE_BYTES;
 pub use buffa_wire::{
     Adapted, Blank, Budget, Buf, CanonicalError, DEFAULT_ELEMENT_MEMORY_LIMIT,

@@ -8,7 +8,9 @@
 
 pub mod any;
 pub mod duration;
+pub mod laws;
 pub mod messages;
+pub mod named_message;
 pub mod timestamp;
 pub mod wrappers;
 
@@ -27,3 +29,4 @@ pub use messages::string_value::StringValue;
 pub use messages::timestamp::Timestamp;
 pub use messages::u_int32_value::UInt32Value;
 pub use messages::u_int64_value::UInt64Value;
+pub use named_message::NamedMessage;

@@ -18,7 +18,7 @@ use Rattle.buffa_map.specs.Encoding.{HasEncoding, field_encoding}
 use Rattle.sample_node.specs.Branch.{blank_node}
 use Rattle.sample_node.specs.NodeMeaning.{node_cost, node_merged}
 use Rattle.sample_node.specs.NodeEncoding.{node_encoding}
-use Rattle.sample_set_msg.specs.Set.{set_cost, set_merged, set_encoding}
+use Rattle.buffa_sets.specs.Set.{set_cost, set_merged, set_encoding}
 use Rattle.buffamap.specs.Again.{IsEncoded, IsReadAgainIn, RefusesMessageBytes, RepliesToAgain, encoding_reply}
 use Rattle.buffa_map.specs.Scalars.{int32_writing}
 use Rattle.buffa_map.proofs.SortedLemmas.{same_sorted}

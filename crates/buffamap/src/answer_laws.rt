@@ -12,7 +12,7 @@ ghost use Rattle.hex.specs.Hex.{encode_lower};
 ghost use Rattle.sample_node.specs.Branch.{blank_node};
 ghost use Rattle.sample_node.specs.NodeEncoding.{node_encoding};
 ghost use Rattle.sample_node.specs.NodeMeaning.{node_cost, node_merged};
-ghost use Rattle.sample_set_msg.specs.Set.{set_cost, set_encoding, set_merged};
+ghost use Rattle.buffa_sets.specs.Set.{set_cost, set_encoding, set_merged};
 ghost use Rattle.buffa_bytes.specs.ErrorText.{decode_error_text};
 ghost use Rattle.buffa_bytes.specs.Values.{int32_of};
 ghost use Rattle.buffa_bytes.specs.declared.error.DecodeError.TheVariants.{OutOfMemory};

@@ -4,5 +4,6 @@
 
 pub mod delivery;
 pub mod messages;
+pub mod paperwork;
 #[cfg(test)]
 mod tests;

@@ -1,5 +1,2 @@
--- The lemmas that this crate hands out.
-pub mod FieldLemmas
-pub mod MergeLemmas
-pub mod EncodingLemmas
+-- The lemmas of the laws.
 mod PinLemmas

@@ -17,9 +17,9 @@ use Rattle.buffa_wire.specs.Records.{FieldData}
 use Rattle.buffa_wire.proofs.CostLemmas.{field_alone}
 use Rattle.buffa_wire.specs.ByField.{value_of}
 use Rattle.buffa_wire.proofs.ByFieldLemmas.{Same, refused}
-use Rattle.sample_set_msg.specs.Set.{IsSetFieldRefused, NextIsRefused, StopsBehind, record_of_field, set_cost, set_field, set_merged, set_charge}
-use Rattle.sample_set_msg.specs.SetFacts.{set_same, set_sound, set_stays}
-use Rattle.sample_set_msg.proofs.MergeLemmas.{by_payloads}
+use Rattle.buffa_sets.specs.Set.{IsSetFieldRefused, NextIsRefused, StopsBehind, record_of_field, set_cost, set_field, set_merged, set_charge}
+use Rattle.buffa_sets.specs.SetFacts.{set_same, set_sound, set_stays}
+use Rattle.buffa_sets.proofs.MergeLemmas.{by_payloads}
 use Rattle.buffa_wire.proofs.ByPayloadLemmas.{cost_empty, cost_next, merged_empty, merged_next}
 use Rattle.std.proofs.lemmas.Option.{same_Some}
 

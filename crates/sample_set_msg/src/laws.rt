@@ -18,8 +18,8 @@ ghost use Rattle.buffa_wire.specs.Message.{BeginsField, MergeFault};
 ghost use Rattle.buffa_wire.specs.RecordReading.{field_at};
 ghost use Rattle.buffa_wire.specs.Records.{FieldData, Records, bytes, fixed32, fixed64, group, height, no_records, one, varint};
 ghost use Rattle.buffa_wire.specs.Takes.{framed};
-ghost use Rattle.sample_set_msg.specs.Set.{AreItems, IsSetRefused, is_type_id, set_cost, set_field, set_levels, set_merged, set_charge, set_records};
-ghost use Rattle.sample_set_msg.specs.Set.{NextIsRefused, StopsBehind, TakesSetField, record_of_field, set_encoding};
+ghost use Rattle.buffa_sets.specs.Set.{AreItems, IsSetRefused, is_type_id, set_cost, set_field, set_levels, set_merged, set_charge, set_records};
+ghost use Rattle.buffa_sets.specs.Set.{NextIsRefused, StopsBehind, TakesSetField, record_of_field, set_encoding};
 
 use crate::set_msg::SetMsg;
 use buffa_ext::ExtensionSet;
@@ -35,7 +35,7 @@ pub fn sets_are_these()
     ensures refused { (d : ℕ) (v : List (ℕ × FieldData)) (n : ℕ) (w : _) (bs : List ℕ) (l : _) (e : _)
         (u : List (ℕ × FieldData)) → ⟦<SetMsg as MessageSpec>⟧.Refused d v n w bs l e u ↔ IsSetRefused d v n w bs l e u }
     ensures element { ⟦<SetMsg as MessageSpec>⟧.COST ≡ 24 }
-    ensures meaning { (m : SetMsg) → ⟦<SetMsg as Blank>⟧.meaning m ≡ m.fields.records }
+    ensures meaning { (m : SetMsg) → ⟦<SetMsg as Blank>⟧.meaning m ≡ m.unknown_fields.records }
     ensures blank { ⟦<SetMsg as Blank>⟧.blank_is ≡ [] }
 {}
 
@@ -84,7 +84,7 @@ pub fn encodings_of_sets_are_these()
 /// Under which name a MessageSet is extended, and that its records are its unknown fields. Nothing is left out.
 pub fn sets_lend_these()
     ensures name { ⟦<SetMsg as ExtensionSet>⟧.fqn ≡ codes "buffa.sample.SetMsg" }
-    ensures fields { (m : SetMsg) → ⟦<SetMsg as ExtensionSet>⟧.fields_of m ≡ m.fields }
+    ensures fields { (m : SetMsg) → ⟦<SetMsg as ExtensionSet>⟧.fields_of m ≡ m.unknown_fields }
 {}
 
 /// The constant `PROTO_FQN` is that name, too. Nothing is left out.

@@ -1,8 +1,8 @@
-//! A MessageSet as a message that a program would write by hand, proved to keep the laws of messages.
+//! A MessageSet as the plugin writes it, with laws that say what it is. `set_msg.rt` is what `tools/protoc-gen-buffa` made of
+//! `set_msg.proto`.
 #![tactic(auto)]
 
 pub mod laws;
-pub mod record;
 pub mod set_msg;
 
 pub use set_msg::SetMsg;

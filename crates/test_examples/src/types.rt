@@ -6,7 +6,7 @@ ghost use Rattle.buffa_types.specs.Times.{nanoseconds};
 use buffa_fields::{Decode, DecodeError, DoubleBits, FloatBits, Message, UnknownFields};
 use buffa_types::{
     Any, BoolValue, BytesValue, DoubleValue, Duration, FloatValue, Int32Value, Int64Value,
-    StringValue, Timestamp, UInt32Value, UInt64Value,
+    NamedMessage, StringValue, Timestamp, UInt32Value, UInt64Value,
 };
 use std::alloc::Global;
 use std::test::Fail;
@@ -32,7 +32,7 @@ fn end_of(alloc: Global, begin: &Timestamp, delay: &Duration) -> Option<Timestam
 
 // The nanoseconds of the `Duration` in an `Any`: none where it holds another type.
 fn delay_in(alloc: Global, packed: &Any) -> Result<Option<i128>, DecodeError> {
-    let delay = packed.unpack::<Duration>(alloc, "google.protobuf.Duration")?;
+    let delay = packed.unpack::<Duration>(alloc)?;
     Ok(delay.map(|it| it.as_nanos()))
 }
 
@@ -109,15 +109,26 @@ fn what_is_packed_is_unpacked(rt: HostRuntime) -> Result<(), Fail> {
     let Some(delay) = Duration::new(alloc, -1, -500_000_000) else {
         return Err(Fail::new("it is in range"));
     };
-    let packed = Any::pack(alloc, "google.protobuf.Duration", &delay)?;
+    let packed = Any::pack(alloc, &delay)?;
     assert!(rt; packed.try_encode_to_vec(alloc)?.as_slice() == PACKED);
-    assert!(rt; packed.is("google.protobuf.Duration") && !packed.is("protobuf.Duration"));
+    assert!(rt; packed.is::<Duration>() && !packed.is::<Timestamp>());
     assert!(rt; delay_in(alloc, &packed)? == Some(-1_500_000_000));
+    assert!(rt; packed.unpack::<Timestamp>(alloc)?.is_none());
+    let named = Any::pack_as(alloc, Duration::FULL_NAME, &delay)?;
+    assert!(rt; named == packed);
     assert!(rt;
-        packed
-            .unpack::<Timestamp>(alloc, "google.protobuf.Timestamp")?
-            .is_none()
+        packed.is_named("google.protobuf.Duration") && !packed.is_named("protobuf.Duration")
     );
+    let unpacked = packed.unpack_as::<Duration>(alloc, Duration::FULL_NAME)?;
+    assert!(rt; unpacked.is_some_and(|it| it.seconds == -1));
+    Ok(())
+}
+
+#[test]
+fn a_type_has_its_full_name(rt: HostRuntime) -> Result<(), Fail> {
+    let name = Duration::full_name();
+    assert!(rt; name == "google.protobuf.Duration");
+    assert!(rt; <UInt64Value as NamedMessage>::full_name() == "google.protobuf.UInt64Value");
     Ok(())
 }
 
@@ -128,7 +139,7 @@ fn names_duration(alloc: Global, url: &str) -> Result<bool, Fail> {
         value: Vec::new(alloc),
         unknown_fields: UnknownFields::new(alloc),
     };
-    Ok(any.is("google.protobuf.Duration"))
+    Ok(any.is::<Duration>())
 }
 
 #[test]

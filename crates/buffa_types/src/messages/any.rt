@@ -3,6 +3,7 @@
 ghost use Rattle.std.proofs.Common.{lit<, refl};
 ghost use Rattle.buffa_fields.specs.Terms.{field, keep_unknown};
 
+use crate::named_message::NamedMessage;
 use buffa_fields::map_codec::{BytesVec, Str};
 use buffa_fields::{
     And3, Blank, DecodeContext, DecodeError, FieldByField, FieldsMeaning, ImplicitField, Member,
@@ -91,6 +92,16 @@ impl MessageImpl for Any {
 }
 
 const _: () = prove!(size_of::<Any>() <= Any::COST);
+
+impl NamedMessage for Any {
+    ghost use Rattle.std.specs.Prelude.{codes};
+
+    ghost name = { codes "google.protobuf.Any" };
+
+    fn full_name() -> &'static str {
+        Self::FULL_NAME
+    }
+}
 
 impl Any {
     /// The full name of the message.

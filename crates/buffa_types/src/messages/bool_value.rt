@@ -3,6 +3,7 @@
 ghost use Rattle.std.proofs.Common.{lit<, refl};
 ghost use Rattle.buffa_fields.specs.Terms.{field, keep_unknown};
 
+use crate::named_message::NamedMessage;
 use buffa_fields::map_codec::Bool;
 use buffa_fields::{
     And, Blank, DecodeContext, DecodeError, FieldByField, FieldsMeaning, ImplicitField, Member,
@@ -82,6 +83,16 @@ impl MessageImpl for BoolValue {
 }
 
 const _: () = prove!(size_of::<BoolValue>() <= BoolValue::COST);
+
+impl NamedMessage for BoolValue {
+    ghost use Rattle.std.specs.Prelude.{codes};
+
+    ghost name = { codes "google.protobuf.BoolValue" };
+
+    fn full_name() -> &'static str {
+        Self::FULL_NAME
+    }
+}
 
 impl BoolValue {
     /// The full name of the message.

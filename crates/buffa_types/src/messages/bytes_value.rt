@@ -3,6 +3,7 @@
 ghost use Rattle.std.proofs.Common.{lit<, refl};
 ghost use Rattle.buffa_fields.specs.Terms.{field, keep_unknown};
 
+use crate::named_message::NamedMessage;
 use buffa_fields::map_codec::BytesVec;
 use buffa_fields::{
     And, Blank, DecodeContext, DecodeError, FieldByField, FieldsMeaning, ImplicitField, Member,
@@ -82,6 +83,16 @@ impl MessageImpl for BytesValue {
 }
 
 const _: () = prove!(size_of::<BytesValue>() <= BytesValue::COST);
+
+impl NamedMessage for BytesValue {
+    ghost use Rattle.std.specs.Prelude.{codes};
+
+    ghost name = { codes "google.protobuf.BytesValue" };
+
+    fn full_name() -> &'static str {
+        Self::FULL_NAME
+    }
+}
 
 impl BytesValue {
     /// The full name of the message.

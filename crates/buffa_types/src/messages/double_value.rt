@@ -3,6 +3,7 @@
 ghost use Rattle.std.proofs.Common.{lit<, refl};
 ghost use Rattle.buffa_fields.specs.Terms.{field, keep_unknown};
 
+use crate::named_message::NamedMessage;
 use buffa_fields::map_codec::Double;
 use buffa_fields::{
     And, Blank, DecodeContext, DecodeError, DoubleBits, FieldByField, FieldsMeaning, ImplicitField,
@@ -82,6 +83,16 @@ impl MessageImpl for DoubleValue {
 }
 
 const _: () = prove!(size_of::<DoubleValue>() <= DoubleValue::COST);
+
+impl NamedMessage for DoubleValue {
+    ghost use Rattle.std.specs.Prelude.{codes};
+
+    ghost name = { codes "google.protobuf.DoubleValue" };
+
+    fn full_name() -> &'static str {
+        Self::FULL_NAME
+    }
+}
 
 impl DoubleValue {
     /// The full name of the message.

@@ -3,6 +3,7 @@
 ghost use Rattle.std.proofs.Common.{lit<, refl};
 ghost use Rattle.buffa_fields.specs.Terms.{field, keep_unknown};
 
+use crate::named_message::NamedMessage;
 use buffa_fields::map_codec::{Int32, Int64};
 use buffa_fields::{
     And3, Blank, DecodeContext, DecodeError, FieldByField, FieldsMeaning, ImplicitField, Member,
@@ -89,6 +90,16 @@ impl MessageImpl for Duration {
 }
 
 const _: () = prove!(size_of::<Duration>() <= Duration::COST);
+
+impl NamedMessage for Duration {
+    ghost use Rattle.std.specs.Prelude.{codes};
+
+    ghost name = { codes "google.protobuf.Duration" };
+
+    fn full_name() -> &'static str {
+        Self::FULL_NAME
+    }
+}
 
 impl Duration {
     /// The full name of the message.

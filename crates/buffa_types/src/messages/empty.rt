@@ -3,6 +3,7 @@
 ghost use Rattle.std.proofs.Common.{lit<, refl};
 ghost use Rattle.buffa_fields.specs.Terms.{keep_unknown};
 
+use crate::named_message::NamedMessage;
 use buffa_fields::{
     Blank, DecodeContext, DecodeError, FieldByField, FieldsMeaning, MessageFields, MessageImpl,
     Tag, UnknownFields, Unknowns, Visitor, unknown,
@@ -72,6 +73,16 @@ impl MessageImpl for Empty {
 }
 
 const _: () = prove!(size_of::<Empty>() <= Empty::COST);
+
+impl NamedMessage for Empty {
+    ghost use Rattle.std.specs.Prelude.{codes};
+
+    ghost name = { codes "google.protobuf.Empty" };
+
+    fn full_name() -> &'static str {
+        Self::FULL_NAME
+    }
+}
 
 impl Empty {
     /// The full name of the message.

@@ -3,6 +3,7 @@
 ghost use Rattle.std.proofs.Common.{lit<, refl};
 ghost use Rattle.buffa_fields.specs.Terms.{field, keep_unknown};
 
+use crate::named_message::NamedMessage;
 use buffa_fields::map_codec::Str;
 use buffa_fields::{
     And, Blank, DecodeContext, DecodeError, FieldByField, FieldsMeaning, Member, MessageFields,
@@ -83,6 +84,16 @@ impl MessageImpl for FieldMask {
 }
 
 const _: () = prove!(size_of::<FieldMask>() <= FieldMask::COST);
+
+impl NamedMessage for FieldMask {
+    ghost use Rattle.std.specs.Prelude.{codes};
+
+    ghost name = { codes "google.protobuf.FieldMask" };
+
+    fn full_name() -> &'static str {
+        Self::FULL_NAME
+    }
+}
 
 impl FieldMask {
     /// The full name of the message.

@@ -3,6 +3,7 @@
 ghost use Rattle.std.proofs.Common.{lit<, refl};
 ghost use Rattle.buffa_fields.specs.Terms.{field, keep_unknown};
 
+use crate::named_message::NamedMessage;
 use buffa_fields::map_codec::Float;
 use buffa_fields::{
     And, Blank, DecodeContext, DecodeError, FieldByField, FieldsMeaning, FloatBits, ImplicitField,
@@ -82,6 +83,16 @@ impl MessageImpl for FloatValue {
 }
 
 const _: () = prove!(size_of::<FloatValue>() <= FloatValue::COST);
+
+impl NamedMessage for FloatValue {
+    ghost use Rattle.std.specs.Prelude.{codes};
+
+    ghost name = { codes "google.protobuf.FloatValue" };
+
+    fn full_name() -> &'static str {
+        Self::FULL_NAME
+    }
+}
 
 impl FloatValue {
     /// The full name of the message.

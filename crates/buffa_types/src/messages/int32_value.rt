@@ -3,6 +3,7 @@
 ghost use Rattle.std.proofs.Common.{lit<, refl};
 ghost use Rattle.buffa_fields.specs.Terms.{field, keep_unknown};
 
+use crate::named_message::NamedMessage;
 use buffa_fields::map_codec::Int32;
 use buffa_fields::{
     And, Blank, DecodeContext, DecodeError, FieldByField, FieldsMeaning, ImplicitField, Member,
@@ -82,6 +83,16 @@ impl MessageImpl for Int32Value {
 }
 
 const _: () = prove!(size_of::<Int32Value>() <= Int32Value::COST);
+
+impl NamedMessage for Int32Value {
+    ghost use Rattle.std.specs.Prelude.{codes};
+
+    ghost name = { codes "google.protobuf.Int32Value" };
+
+    fn full_name() -> &'static str {
+        Self::FULL_NAME
+    }
+}
 
 impl Int32Value {
     /// The full name of the message.

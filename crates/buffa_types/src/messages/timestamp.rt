@@ -3,6 +3,7 @@
 ghost use Rattle.std.proofs.Common.{lit<, refl};
 ghost use Rattle.buffa_fields.specs.Terms.{field, keep_unknown};
 
+use crate::named_message::NamedMessage;
 use buffa_fields::map_codec::{Int32, Int64};
 use buffa_fields::{
     And3, Blank, DecodeContext, DecodeError, FieldByField, FieldsMeaning, ImplicitField, Member,
@@ -90,6 +91,16 @@ impl MessageImpl for Timestamp {
 }
 
 const _: () = prove!(size_of::<Timestamp>() <= Timestamp::COST);
+
+impl NamedMessage for Timestamp {
+    ghost use Rattle.std.specs.Prelude.{codes};
+
+    ghost name = { codes "google.protobuf.Timestamp" };
+
+    fn full_name() -> &'static str {
+        Self::FULL_NAME
+    }
+}
 
 impl Timestamp {
     /// The full name of the message.

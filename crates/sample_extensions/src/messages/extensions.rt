@@ -3,6 +3,7 @@
 ghost use Rattle.std.specs.Prelude.{IfOk, IsOk, Some, codes, option_map, pos, string_bytes, true, ◌≡◌};
 ghost use Rattle.buffa_ext.specs.Defaults.{IsDefaulted, ReadsNumber};
 
+use crate::messages::customs::Customs;
 use crate::messages::handling::Handling;
 use crate::messages::insurance::Insurance;
 use buffa_ext::codecs::{EnumCodec, Int32, MessageCodec, PackedRepeated, StringCodec, Uint32};
@@ -19,6 +20,18 @@ pub fn insurance_of_shipment() -> Extension<MessageCodec<Insurance>>
     ensures extendee { result.extendee.now ≡ codes "buffa.sample.Shipment" }
 {
     Extension::<MessageCodec<Insurance>>::new(103, "buffa.sample.Shipment")
+}
+
+/// What the customs want to know.
+///
+/// extend buffa.sample.Papers { optional Customs paper = 1000; } in the message buffa.sample.Customs
+///
+/// It is an Item of a MessageSet, and its number a type id.
+pub fn customs_paper() -> Extension<MessageCodec<Customs>>
+    ensures number { result.number ≡ 1000 }
+    ensures extendee { result.extendee.now ≡ codes "buffa.sample.Papers" }
+{
+    Extension::<MessageCodec<Customs>>::new(1000, "buffa.sample.Papers")
 }
 
 /// How often its delivery is tried.

@@ -8,6 +8,7 @@ use buffa_fields::{
     And, Blank, DecodeContext, DecodeError, ExplicitField, FieldByField, FieldsMeaning, Member,
     MessageFields, MessageImpl, Tag, UnknownFields, Unknowns, Visitor, unknown,
 };
+use buffa_types::NamedMessage;
 use std::alloc::Global;
 
 /// What is paid where a shipment is lost.
@@ -81,6 +82,16 @@ impl MessageImpl for Insurance {
 }
 
 const _: () = prove!(size_of::<Insurance>() <= Insurance::COST);
+
+impl NamedMessage for Insurance {
+    ghost use Rattle.std.specs.Prelude.{codes};
+
+    ghost name = { codes "buffa.sample.Insurance" };
+
+    fn full_name() -> &'static str {
+        Self::FULL_NAME
+    }
+}
 
 impl Insurance {
     ghost use Rattle.std.specs.Prelude.{unwrap_or, ◌≡◌};

@@ -10,6 +10,7 @@ use buffa_fields::{
     And, Blank, DecodeContext, DecodeError, ExplicitField, FieldByField, FieldsMeaning, Member,
     MessageFields, MessageImpl, Tag, UnknownFields, Unknowns, Visitor, unknown,
 };
+use buffa_types::NamedMessage;
 use std::alloc::Global;
 use std::string::String;
 
@@ -113,6 +114,16 @@ impl ExtensionSet for Shipment {
 }
 
 const _: () = prove!(size_of::<Shipment>() <= Shipment::COST);
+
+impl NamedMessage for Shipment {
+    ghost use Rattle.std.specs.Prelude.{codes};
+
+    ghost name = { codes "buffa.sample.Shipment" };
+
+    fn full_name() -> &'static str {
+        Self::FULL_NAME
+    }
+}
 
 impl Shipment {
     ghost use Rattle.std.specs.Prelude.{[], option_map, string_bytes, unwrap_or, ◌≡◌};

@@ -1,7 +1,0 @@
-use Rattle.std.proofs.Common.{◌≡◌, min, length, take}
-use Rattle.buffa_wire.specs.RecordsOfValues.{records_in}
-use Rattle.sample_set_msg.specs.Set.{set_encoding}
-use Rattle.sample_set_msg.proofs.set_msg.set_len.Given as goal
-
-abbrev pub invariant-loop-field : goal.invariant-loop-field
-invariant-loop-field l = l.total ≡ min (length (set_encoding (records_in (take l.field-index l.field-items)))) 18446744073709551615

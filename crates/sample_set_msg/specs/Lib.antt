@@ -1,3 +1,0 @@
--- The words that this crate hands out.
-pub mod Set
-pub mod SetFacts
