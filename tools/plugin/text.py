@@ -8,6 +8,7 @@ import labels
 import limits
 import oneof
 import packed
+import places
 import required
 import sets
 from derived import derives, says_what_is_missing
@@ -280,8 +281,8 @@ def head_of_message(world, message, enums):
     prelude = required.words(message) | ({"codes"} if message.it.extension_range else set())
     made += [f"ghost use Rattle.std.specs.Prelude.{{{', '.join(sorted(prelude))}}};"] * bool(prelude)
     made += recursive.head(message, required.terms(message)) if message.holds_itself else layers(message, fields)
-    imports = {i for k in message.members for i in k.imports}
-    return made + [""] + uses(world, names_of(message, fields) | packed.names(world), imports, packed.modules(world, MODULE))
+    own = {i for k in message.members for i in k.imports} | places.types(message)
+    return made + [""] + uses(world, names_of(message, fields) | packed.names(world), own, packed.modules(world, MODULE))
 
 
 def layers(message, fields):
@@ -447,7 +448,8 @@ def write_message(world, message, messages, enums):
         made += listed_form(message, messages)
     made += extension_set(message) if has_extensions(message) else []
     made += [] if message.has_told_cost(messages) else takes_its_cost(message)
-    return "\n".join(made + required.initialized(message) + packed.impl(message) + own_calls(message, enums)) + "\n"
+    made += required.initialized(message) + packed.impl(message) + own_calls(message, enums)
+    return "\n".join(made + places.located(message, blocks.arm, called)) + "\n"
 
 
 def own_calls(message, enums):
