@@ -225,7 +225,7 @@ def member(words, it, said, kind, place):
     name, whole, bound = words.named[it], words.applied(), binder(words.others)
     made = [""] + [f"-- {line}" for line in said]
     made += [f"abbrev pub {name} : {bound}{whole} → {kind}", f"{name} {words.m} = {place[0]}"]
-    made += [f"abbrev pub with_{name} : {bound}{kind} → {whole} → {whole}", f"with_{name} {words.x} {words.m} = {place[1]}"]
+    made += ["", f"abbrev pub with_{name} : {bound}{kind} → {whole} → {whole}", f"with_{name} {words.x} {words.m} = {place[1]}"]
     return made
 
 
@@ -234,7 +234,7 @@ def case(words, one, at):
     k, steps = one.cases[at], one.way(at)
     name, value = words.named[k], f"{''.join(f'{it} (' for it in steps[:-1])}{steps[-1]} {words.x}{')' * (len(steps) - 1)}"
     made = [f"abbrev pub {name} : {binder(words.inside(one))}{words.type_of(k.said)} → {words.cases_of(one)}"]
-    return [f"-- {k.declared()}", *made, f"{name} {words.x} = {value}"]
+    return ["", f"-- {clean(k.declared())}", *made, f"{name} {words.x} = {value}"]
 
 
 def said_of(member):

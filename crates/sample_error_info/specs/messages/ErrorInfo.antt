@@ -8,23 +8,27 @@ Meaning = List ℕ × (List ℕ × (List (List ℕ × List ℕ) × List (ℕ × 
 -- string reason = 1;
 abbrev pub reason : Meaning → List ℕ
 reason m = m.0
+
 abbrev pub with_reason : List ℕ → Meaning → Meaning
 with_reason x m = (x, m.1)
 
 -- string domain = 2;
 abbrev pub domain : Meaning → List ℕ
 domain m = m.1.0
+
 abbrev pub with_domain : List ℕ → Meaning → Meaning
 with_domain x m = (m.0, (x, m.1.1))
 
 -- map<string, string> metadata = 3;
 abbrev pub metadata : Meaning → List (List ℕ × List ℕ)
 metadata m = m.1.1.0
+
 abbrev pub with_metadata : List (List ℕ × List ℕ) → Meaning → Meaning
 with_metadata x m = (m.0, (m.1.0, (x, m.1.1.1)))
 
 -- the fields that aren't declared
 abbrev pub unknown_fields : Meaning → List (ℕ × FieldData)
 unknown_fields m = m.1.1.1
+
 abbrev pub with_unknown_fields : List (ℕ × FieldData) → Meaning → Meaning
 with_unknown_fields x m = (m.0, (m.1.0, (m.1.1.0, x)))
