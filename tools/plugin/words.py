@@ -59,10 +59,14 @@ class Words:
         """A name of the file's own, that is none of its words: no .proto has a prime in a name."""
         return name + "'" if name in self.words else name
 
+    def type_name(self, rust):
+        """What a message in it, or its oneof, is called among the types of the file."""
+        return rust + "'" * (rust in self.words | {"Meaning", "Own"} | set(self.module))
+
     def variable(self, means):
         """What a message means, which is a variable of the file, or nothing where a type is none."""
         found = re.fullmatch(r"<(\w+) as Blank>::Meaning", means)
-        name = found and found[1] + "'" * (found[1] in self.words | {"Meaning", "Own"} | set(self.module))
+        name = found and self.type_name(found[1])
         if name and name not in self.others:
             self.others.append(name)
         return name
@@ -97,7 +101,7 @@ class Words:
 
     def cases_of(self, one):
         """The type of what the cases of a oneof mean, by its name."""
-        return " ".join([self.free(one.enum), *self.inside(one)])
+        return " ".join([self.type_name(one.enum), *self.inside(one)])
 
     def applied(self):
         """The type of what the message means, by its name."""
@@ -206,7 +210,7 @@ def meaning(words):
     message, made = words.message, []
     for one in message.oneofs:
         groups = [nested([words.type_of(k.said) for k in cases] + ["Unit {0}"], either) for cases in one.groups()]
-        made += type_named(words.free(one.enum), words.inside(one), [nested(groups, either)]) + [""]
+        made += type_named(words.type_name(one.enum), words.inside(one), [nested(groups, either)]) + [""]
     if message.holds_itself:
         own = [f"List {argument(words.keys_of(k))}" if k.itself else words.types[k] for k in recursive.owned(message)]
         made += type_named(words.own, words.others, lines_of_pairs([*own, words.last()])) + [""]
