@@ -54,7 +54,7 @@ PAGES = ("README.md", "docs/GUIDE.md", "docs/BY_HAND.md", "docs/CONTRACTS.md")
 # The files that a block is a part of, by the word behind its fence.
 PLACES = {
     "rust": ("crates/*/src/**/*.rt", "crates/*/specs/*.antt"),
-    "antt": ("crates/*/src/**/*.rt", "crates/*/specs/*.antt", "crates/*/proofs/**/*.antt"),
+    "antt": ("crates/*/src/**/*.rt", "crates/*/specs/**/*.antt", "crates/*/proofs/**/*.antt"),
     "proto": ("crates/*/*.proto",),
     "text": ("crates/*/stdout",),
 }

@@ -4,7 +4,8 @@
 Definitions are what a file of specs/ hands out: `abbrev`, `unfoldable`, `record`, `data`, and lemmas. A relation is
 what answers a `Type`. Fields of records, ghosts, clauses and code aren't looked at. What a file hands on of another one
 keeps its name, so that a word is the same wherever it is cited. So does an item of code, but for the modules of laws in
-the facade, and for a codec that has two names; laws say which these are. REFUSED has changes by which a word would stand for
+the facade, and for a codec that has two names; laws say which these are. The words that the plugin wrote for the members of messages
+aren't looked at: a contract imports those of one message from its own file. REFUSED has changes by which a word would stand for
 another one: the script sees that it refuses each.
 """
 import collections
@@ -129,6 +130,7 @@ def let_through(code, specs):
 
 def main():
     code, specs = files("src/**/*.rt"), files("specs/**/*.antt")
+    specs = {path: text for path, text in specs.items() if not text.partition("\n")[0].endswith(" by protoc-gen-buffa.")}
     wrong, places = look(code, specs)
     wrong += let_through(code, specs) if not wrong else []
     for it in wrong:

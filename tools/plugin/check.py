@@ -6,7 +6,7 @@ import sys
 import tempfile
 
 # The first line of a file that the plugin writes.
-HEAD = re.compile(r"//! (?:.* made of|What protoc-gen-buffa made of) (.*?)(?: by protoc-gen-buffa)?\.")
+HEAD = re.compile(r"(?://!|--) (?:.* made of|What protoc-gen-buffa made of) (.*?)(?: by protoc-gen-buffa)?\.")
 SAME, DIFFERENT, REFUSED = 0, 1, 2
 
 
@@ -43,16 +43,21 @@ def difference(wanted, file):
 
 def stale(made, module, protos):
     """Files that the plugin wrote before and wouldn't write now. With no module, they are those of the same .proto files."""
-    folder = os.path.join("src", module) if module else "src"
-    names = sorted(it for it in (os.listdir(folder) if os.path.isdir(folder) else []) if it.endswith(".rt"))
-    for name in names:
-        file = os.path.join(folder, name)
+    for file in files_of("src", module, ".rt") + files_of("specs", module, ".antt"):
         of = written_of(file)
         if file in made or not of or not module and not of & protos:
             continue
         yield file
-        answers = os.path.join(*filter(None, ["proofs", module, name.removesuffix(".rt")]))
-        yield from (os.path.join(answers, it) for it in files_in(answers))
+        if file.startswith("src"):
+            answers = os.path.join(*filter(None, ["proofs", module, os.path.basename(file).removesuffix(".rt")]))
+            yield from (os.path.join(answers, it) for it in files_in(answers))
+
+
+def files_of(top, module, ending):
+    """The files in the folder of a module, and of specs the one that names them: that of `src` is made anew in each run."""
+    folder = os.path.join(top, module) if module else top
+    names = sorted(it for it in (os.listdir(folder) if os.path.isdir(folder) else []) if it.endswith(ending))
+    return [folder + ending] * bool(module and top == "specs") + [os.path.join(folder, it) for it in names]
 
 
 def differences(top, module):

@@ -84,6 +84,18 @@ def see_line():
         print(f"protoc-gen-buffa: the line of {name} in crates.txt lacks: {' '.join(absent)}", file=sys.stderr)
 
 
+def see_specs(module):
+    """Names the words of messages in the specs of the crate, where it has none yet, and says which line these lack."""
+    if not module or not os.path.isfile(f"specs/{module}.antt"):
+        return
+    line, file = f"pub mod {module}", "specs/Lib.antt"
+    if not os.path.isfile(file):
+        with open(file, "w", encoding="utf-8") as it:
+            it.write(f"-- The words that this crate hands out.\n{line}\n")
+    elif not re.search(rf"^{line}$", text_of(file), re.M):
+        print(f"protoc-gen-buffa: {file} lacks the line: {line}", file=sys.stderr)
+
+
 def main(plugin, words, said):
     """Makes the files of some .proto files in `src`, which is made where it isn't there; or, where that is asked, compares them."""
     if "--help" in words or not any(it.endswith(".proto") for it in words):
@@ -100,5 +112,6 @@ def main(plugin, words, said):
     status = subprocess.run(protoc(plugin, words)).returncode
     if status == 0:
         see_root(module_of(words))
+        see_specs(module_of(words))
         see_line()
     return status

@@ -7,6 +7,9 @@ from google.protobuf.descriptor_pb2 import FieldDescriptorProto as Field
 from files import File, Name, Refused, clean
 from names import LONGEST_FILE, camel, is_free_type, snake
 
+# Parameters that have a single value.
+PARAMETERS = {"any": "all", "clone": "all", "equal": "all", "maps": "ordered", "names": "all", "places": "all", "strings": "bytes",
+              "well_known": "here", "words": "all"}
 # Parameters that are of a field.
 FIELD_KEYS = ("bytes", "delimited", "encoded", "implicit", "optional", "ordered", "shared")
 MESSAGES = (Field.TYPE_MESSAGE, Field.TYPE_GROUP)
@@ -68,7 +71,8 @@ class World:
 
     def read_parameters(self, text):
         self.crate, self.module = folder_name(), "messages"
-        self.any = self.clone = self.equal = self.maps = self.names = self.places = self.strings = self.well_known = ""
+        for key in PARAMETERS:
+            setattr(self, key, "")
         self.left, self.dropping, self.costs, self.renamed, self.mapped = set(), set(), {}, {}, {}
         self.fields = {key: set() for key in FIELD_KEYS}
         for word in filter(None, text.split(",")):
@@ -90,7 +94,7 @@ class World:
             self.mapped[file] = path
         elif key in ("crate", "module") and re.fullmatch(r"[a-z_][a-z0-9_]*", value) or word == "module=":
             setattr(self, key, value)
-        elif (key, value) in (("any", "all"), ("clone", "all"), ("equal", "all"), ("maps", "ordered"), ("names", "all"), ("places", "all"), ("strings", "bytes"), ("well_known", "here")):
+        elif PARAMETERS.get(key) == value:
             setattr(self, key, value)
         else:
             raise Refused(f"no parameter is {clean(word)}: PLUGIN --help lists them all")

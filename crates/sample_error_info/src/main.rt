@@ -6,6 +6,7 @@ mod messages;
 mod tests;
 
 ghost use Rattle.std.specs.Prelude.{◌≡◌, IfOk, Some, option_map, string_bytes, vec_items};
+ghost use Rattle.sample_error_info.specs.messages.ErrorInfo.{with_domain};
 
 use crate::messages::ErrorInfo;
 use anyhow::Error;
@@ -19,7 +20,7 @@ const BYTES: &[u8] = b"\x0A\x08NO_STOCK\x1A\x0C\x0A\x04good\x12\x04pear";
 // declare. It is refused where the bytes are no `ErrorInfo`, or it is too large to be written, or memory runs out.
 fn with_domain(alloc: Global, bytes: &[u8], domain: String) -> Result<Vec<u8>, Error>
     ensures { IfOk result (λ answer. Some (vec_items answer)
-        ≡ option_map (λ m. ⟦<ErrorInfo as MessageSpec>⟧.encoding (m.0, (string_bytes domain, m.1.1)))
+        ≡ option_map (λ m. ⟦<ErrorInfo as MessageSpec>⟧.encoding (with_domain (string_bytes domain) m))
         (⟦<ErrorInfo as MessageSpec>⟧.merged RECURSION_LIMIT ⟦<ErrorInfo as Blank>⟧.blank_is bytes.now)) }
 {
     let mut info = ErrorInfo::decode_from_slice(alloc, bytes)?;

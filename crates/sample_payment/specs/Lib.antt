@@ -1,1 +1,3 @@
 -- The words that this crate hands out.
+pub mod Payment
+pub mod Transfer

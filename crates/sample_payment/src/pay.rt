@@ -1,13 +1,17 @@
 //! How a `oneof` is read and set.
 
-ghost use Rattle.std.specs.Prelude.{◌≡◌, IfOk, IsTrue, string_bytes};
+ghost use Rattle.std.specs.Prelude.{◌≡◌, ◌↔◌, ℤ, IfOk, IsTrue, Some, string_bytes};
+ghost use Rattle.sample_payment.specs.Payment.{card, cash, method, with_method};
 
 use crate::method::Method;
 use crate::payment::Payment;
+use buffa_fields::Blank;
 use std::alloc::{AllocError, Global};
 
 /// The cash that is paid, where it is paid in cash.
-pub fn cash_of(payment: &Payment) -> Option<i32> {
+pub fn cash_of(payment: &Payment) -> Option<i32>
+    ensures { (coins : ℤ) → (result ≡ Some coins) ↔ (method (⟦<Payment as Blank>⟧.meaning payment.now) ≡ Some (cash coins)) }
+{
     match &payment.method {
         Some(Method::Cash(cash)) => Some(*cash),
         _ => None,
@@ -15,16 +19,21 @@ pub fn cash_of(payment: &Payment) -> Option<i32> {
 }
 
 /// Says that it is paid in cash; a card or a transfer that stood there is gone.
-pub fn pay_in_cash(payment: &mut Payment, cash: i32) {
-    payment.method = Some(Method::Cash(cash));
+pub fn pay_in_cash(payment: &mut Payment, coins: i32)
+    ensures { ⟦<Payment as Blank>⟧.meaning payment.new ≡ with_method (Some (cash coins)) (⟦<Payment as Blank>⟧.meaning payment.old) }
+{
+    payment.method = Some(Method::Cash(coins));
 }
 
 /// Says that it is paid by a card.
 ///
 /// # Errors
 /// Where memory runs out.
-pub fn pay_by_card(alloc: Global, payment: &mut Payment, card: &str) -> Result<(), AllocError> {
-    payment.method = Some(Method::Card(String::from_str(alloc, card)?));
+pub fn pay_by_card(alloc: Global, payment: &mut Payment, number: &str) -> Result<(), AllocError>
+    ensures { IfOk result (λ _. ⟦<Payment as Blank>⟧.meaning payment.new
+        ≡ with_method (Some (card number.now)) (⟦<Payment as Blank>⟧.meaning payment.old)) }
+{
+    payment.method = Some(Method::Card(String::from_str(alloc, number)?));
     Ok(())
 }
 

@@ -1,5 +1,8 @@
 //! The members of a message: an enum, an optional one, a list of messages and a map of messages.
 
+ghost use Rattle.std.specs.Prelude.{◌≡◌, IfOk, Some, option_map, pos, true};
+ghost use Rattle.sample_stock.specs.messages.Order.{note, with_note, with_state};
+
 use crate::messages::{Line, Order, State};
 use buffa_fields::map_codec::{MapStorage, MapWalk};
 use buffa_fields::{Blank, EnumValue};
@@ -23,12 +26,16 @@ pub fn state_name(order: &Order) -> Option<&'static str> {
 }
 
 /// Says that an order is sent.
-pub fn send(order: &mut Order) {
+pub fn send(order: &mut Order)
+    ensures { ⟦<Order as Blank>⟧.meaning order.new ≡ with_state (true, pos 1) (⟦<Order as Blank>⟧.meaning order.old) }
+{
     order.state = EnumValue::Known(State::Sent);
 }
 
 /// The note of an order, where there is one: an empty one is there, too.
-pub fn note(order: &Order) -> Option<&str> {
+pub fn note(order: &Order) -> Option<&str>
+    ensures { option_map (λ it. it.now) result ≡ note (⟦<Order as Blank>⟧.meaning order.now) }
+{
     order.note.as_ref().map(|note| note.as_str())
 }
 
@@ -36,8 +43,11 @@ pub fn note(order: &Order) -> Option<&str> {
 ///
 /// # Errors
 /// Where memory runs out.
-pub fn set_note(alloc: Global, order: &mut Order, note: &str) -> Result<(), AllocError> {
-    order.note = Some(String::from_str(alloc, note)?);
+pub fn set_note(alloc: Global, order: &mut Order, text: &str) -> Result<(), AllocError>
+    ensures { IfOk result (λ _. ⟦<Order as Blank>⟧.meaning order.new
+        ≡ with_note (Some text.now) (⟦<Order as Blank>⟧.meaning order.old)) }
+{
+    order.note = Some(String::from_str(alloc, text)?);
     Ok(())
 }
 

@@ -1,5 +1,8 @@
 //! A message that holds itself, gone through by functions that call themselves.
 
+ghost use Rattle.std.specs.Prelude.{◌≡◌, IfOk};
+ghost use Rattle.sample_stock.specs.messages.Place.{with_name};
+
 use crate::messages::Place;
 use buffa_fields::Blank;
 use std::alloc::{AllocError, Global};
@@ -8,7 +11,9 @@ use std::alloc::{AllocError, Global};
 ///
 /// # Errors
 /// Where memory runs out.
-pub fn place(alloc: Global, name: &str) -> Result<Place, AllocError> {
+pub fn place(alloc: Global, name: &str) -> Result<Place, AllocError>
+    ensures { IfOk result (λ made. made ≡ with_name name.now ⟦<Place as Blank>⟧.blank_is) }
+{
     let mut place = Place::blank(alloc);
     place.name = String::from_str(alloc, name)?;
     Ok(place)
