@@ -12,6 +12,7 @@ pub mod answer;
 pub mod copying;
 pub mod encoding;
 pub mod limits;
+pub mod place;
 pub mod reading;
 
 pub use answer::{
@@ -21,4 +22,5 @@ pub use answer::{
 pub use copying::{put, put_some};
 pub use encoding::{canonical, is_canonical, room_of};
 pub use limits::{Limits, USUAL};
+pub use place::{PathStep, place_of};
 pub use reading::{check, check_whole, read};

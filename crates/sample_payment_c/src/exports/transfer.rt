@@ -3,9 +3,12 @@
 ghost use Rattle.std.specs.Prelude.{option_map};
 ghost use Rattle.buffa_c.specs.Answers.{Checks, NumbersFault};
 ghost use Rattle.buffa_c.specs.Encodings.{ChecksCanonical, Measures, Rewrites};
+ghost use Rattle.buffa_c.specs.Places.{TellsPlace};
 ghost use Rattle.buffa_c.specs.Members.{ChecksRoom, CopiesBytes, TellsNumber};
 
-use buffa_c::{ACCEPTED, Limits, USUAL, canonical, check, is_canonical, put, read, room_of};
+use buffa_c::{
+    ACCEPTED, Limits, PathStep, USUAL, canonical, check, is_canonical, place, put, read, room_of,
+};
 use buffa_fields::{Blank, MessageSpec, RECURSION_LIMIT};
 use sample_payment::transfer::Transfer;
 use std::alloc::Global;
@@ -46,6 +49,32 @@ pub extern "C" fn transfer_check_within(
         units,
     };
     check::<Transfer>(alloc, bytes, limits)
+}
+
+/// Where the bytes are refused as `Transfer`, under limits of the caller's.
+#[unsafe(no_mangle)]
+pub extern "C" fn transfer_place(
+    alloc: Global,
+    bytes: &[u8],
+    longest: usize,
+    depth: u32,
+    unknown: usize,
+    units: usize,
+    path: &mut [PathStep],
+    steps: &mut usize,
+    offset: &mut usize,
+) -> u32
+    ensures { TellsPlace ⟦<Transfer as MessageSpec>⟧.merged ⟦<Transfer as MessageSpec>⟧.cost
+        ⟦<Transfer as Blank>⟧.blank_is record { longest = longest; depth = depth; unknown = unknown; units = units }
+        bytes.now result path.old path.new steps.new offset.new }
+{
+    let limits = Limits {
+        longest,
+        depth,
+        unknown,
+        units,
+    };
+    place::<Transfer>(alloc, bytes, limits, path, steps, offset)
 }
 
 /// The encoding of the `Transfer` that the bytes mean, at the front of `out`.
