@@ -62,7 +62,7 @@ def see_root(module):
 def crates_named():
     """The crates that the files in `src` import from, but for the standard library and modules beside the root file."""
     texts = [text_of(os.path.join(at, it)) for at, _, files in os.walk("src") for it in files if it.endswith(".rt")]
-    found = {it for text in texts for it in re.findall(r"^use (\w+)::", text, re.M)} - {"crate", "self", "std", "super"}
+    found = {it for text in texts for it in re.findall(r"^(?:use|impl) (\w+)::", text, re.M)} - {"crate", "self", "std", "super"}
     return sorted(it for it in found if not os.path.exists(f"src/{it}.rt"))
 
 

@@ -99,6 +99,8 @@ class Member(Declaration):
         self.keeps, self.needs, self.inside, self.world = False, set(), [], world
         # Of a member that holds the message's own type: its kind, and the codec and the type of the keys of a map.
         self.itself, self.key, self.key_type = None, None, None
+        # The codec of the keys of a map of messages.
+        self.key_codec = None
         self.told = {key for key in FIELD_KEYS if field.full in world.fields[key]}
         entry = world.entries.get(self.it.type_name)
         self.is_own = world.target(self.it) == message.full
@@ -237,6 +239,7 @@ class Member(Declaration):
         if entry:
             self.itself = "map"
             self.key, self.key_type = self.codec(entry.field[0], self.has_text_keys)[:2]
+            self.key_codec = self.key
             self.needs |= {"BTreeMap", "ByKey", "Keyed", "take_map"}
             self.rust, self.cost, self.blank = f"BTreeMap<{self.key_type}, {name}>", 24, "BTreeMap::new(alloc)"
         elif self.is_list:
@@ -282,6 +285,7 @@ class Member(Declaration):
         elif value.type in MESSAGES:
             name = self.world.type_of(self.field, value.type_name)
             self.inside.append(value.type_name.lstrip("."))
+            self.key_codec = codec
             held, held_means, of = name, f"<{name} as Blank>::Meaning", name
             member_type = member_type.replace("MapField", "MessageMapField")
         else:

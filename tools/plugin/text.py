@@ -7,6 +7,7 @@ import recursive
 import labels
 import limits
 import oneof
+import places
 import required
 from derived import derives, says_what_is_missing
 from names import MODULE, TERMS, TERMS_INSIDE, ordered, place, snake
@@ -271,7 +272,8 @@ def head_of_message(world, message, enums):
     prelude = required.words(message) | ({"codes"} if message.it.extension_range else set())
     made += [f"ghost use Rattle.std.specs.Prelude.{{{', '.join(sorted(prelude))}}};"] * bool(prelude)
     made += recursive.head(message, required.terms(message)) if message.holds_itself else layers(message, fields)
-    return made + [""] + uses(world, names_of(message, fields), {i for k in message.members for i in k.imports})
+    own = {i for k in message.members for i in k.imports} | places.types(message)
+    return made + [""] + uses(world, names_of(message, fields), own)
 
 
 def layers(message, fields):
@@ -434,7 +436,8 @@ def write_message(world, message, messages, enums):
         made += listed_form(message, messages)
     made += extension_set(message) if message.it.extension_range else []
     made += [] if message.has_told_cost(messages) else takes_its_cost(message)
-    return "\n".join(made + required.initialized(message) + own_calls(message, enums)) + "\n"
+    made += required.initialized(message) + own_calls(message, enums)
+    return "\n".join(made + places.located(message, blocks.arm, called)) + "\n"
 
 
 def own_calls(message, enums):

@@ -10,13 +10,13 @@ extends_none path = ([], sym (append-nil path))
 -- steps to a record are steps
 pub leads_extend : (t : Option Tag) (old new : List Step) → LeadsTo t old new → Extends old new
 leads_extend None old new same = ([], same ∙ sym (append-nil old))
-leads_extend (Some tag) old new (index, more, is) = (record { number = tag.number; index = index } ∷ more, is)
+leads_extend (Some tag) old new (step, more, _, is) = (step ∷ more, is)
 
 -- the step to the record is put, and others behind it
 pub leads_on : (t : Option Tag) (tag : Tag) (step : Step) (old mid new : List Step) → t ≡ Some tag → step.number ≡ tag.number → mid ≡ old ++ (step ∷ []) → Extends mid new → LeadsTo t old new
 leads_on t tag step old mid new is same put (more, on) =
     subst (λ z. LeadsTo z old new) (sym is)
-    (step.index, more, on ∙ ap (λ (z : List Step). z ++ more) put ∙ append_assoc old (step ∷ []) more ∙ (λ i. old ++ (record { number = same i; index = step.index } ∷ more)))
+    (step, more, same, on ∙ ap (λ (z : List Step). z ++ more) put ∙ append_assoc old (step ∷ []) more)
 
 -- the step to the record is put
 pub leads_now : (t : Option Tag) (tag : Tag) (step : Step) (old mid : List Step) → t ≡ Some tag → step.number ≡ tag.number → mid ≡ old ++ (step ∷ []) → LeadsTo t old mid

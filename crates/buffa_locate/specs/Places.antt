@@ -43,7 +43,7 @@ Extends old new = (more : List Step) × (new ≡ old ++ more)
 -- steps to a refused record went behind a path, the field of its tag first
 abbrev pub LeadsTo : Option Tag → List Step → List Step → Type 0
 LeadsTo None old new = new ≡ old
-LeadsTo (Some tag) old new = (index : Option ℕ) × (more : List Step) × (new ≡ old ++ (record { number = tag.number; index = index } ∷ more))
+LeadsTo (Some tag) old new = (step : Step) × (more : List Step) × (step.number ≡ tag.number) × (new ≡ old ++ (step ∷ more))
 
 -- the place of the first record of these bytes that is refused: its path begins with the record's field, its offset is in the record
 -- or behind it, and its fault is the record's

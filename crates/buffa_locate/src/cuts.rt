@@ -2,11 +2,10 @@
 
 ghost use Rattle.std.specs.Prelude.{◌≤◌, IfSome, length};
 
-use crate::inside::Holds;
 use buffa_wire::{Tag, WireType, decode_varint, skip_field_depth};
 
 // The bytes behind the length at the front, as many as it says.
-fn delimited(all: &[u8], start: usize, end: usize) -> Option<(usize, usize)>
+pub(crate) fn delimited(all: &[u8], start: usize, end: usize) -> Option<(usize, usize)>
     requires begins { start ≤ end }
     requires ends { end ≤ length all.now }
     ensures { IfSome result (λ part. (start ≤ part.0) × (part.0 ≤ part.1) × (part.1 ≤ end)) }
@@ -21,46 +20,24 @@ fn delimited(all: &[u8], start: usize, end: usize) -> Option<(usize, usize)>
     Some((from, to))
 }
 
-// The value of an entry: what is behind its first tag of number 2.
-fn value_of_entry(all: &[u8], start: usize, end: usize, depth: u32) -> Option<(usize, usize)>
+// The first tag of number 2 in an entry: where it begins, and where it ends. It is of a message.
+pub(crate) fn value_tag(all: &[u8], start: usize, end: usize, depth: u32) -> Option<(usize, usize)>
     requires begins { start ≤ end }
     requires ends { end ≤ length all.now }
-    ensures { IfSome result (λ part. (start ≤ part.0) × (part.0 ≤ part.1) × (part.1 ≤ end)) }
+    ensures { IfSome result (λ tag. (start ≤ tag.0) × (tag.0 ≤ tag.1) × (tag.1 ≤ end)) }
 {
     let mut rest = &all[start..end];
     // each field takes a byte at least
     for _ in start..end {
+        let at = start.max(end.saturating_sub(rest.len()));
         let tag = Tag::decode(&mut rest).ok()?;
         if tag.field_number() == 2 {
-            return delimited(all, start.max(end.saturating_sub(rest.len())), end);
+            let behind = at.max(end.saturating_sub(rest.len()));
+            return (tag.wire_type() == WireType::LengthDelimited).then_some((at, behind));
         }
         skip_field_depth(tag, &mut rest, depth).ok()?;
     }
     None
-}
-
-// The bytes of the message that a field holds, behind its tag.
-pub(crate) fn held_by(
-    all: &[u8],
-    start: usize,
-    end: usize,
-    tag: Tag,
-    holds: Holds,
-    depth: u32,
-) -> Option<(usize, usize)>
-    requires begins { start ≤ end }
-    requires ends { end ≤ length all.now }
-    ensures { IfSome result (λ part. (start ≤ part.0) × (part.0 ≤ part.1) × (part.1 ≤ end)) }
-{
-    match (holds, tag.wire_type()) {
-        (Holds::Message, WireType::LengthDelimited) => delimited(all, start, end),
-        (Holds::Group, WireType::StartGroup) => Some((start, end)),
-        (Holds::Value, WireType::LengthDelimited) => {
-            let (from, to) = delimited(all, start, end)?;
-            value_of_entry(all, from, to, depth)
-        }
-        _ => None,
-    }
 }
 
 // How many of the fields at the front have a number.

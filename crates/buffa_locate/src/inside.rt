@@ -1,6 +1,7 @@
 //! What a type says of the messages in its messages.
 
-ghost use Rattle.std.specs.Prelude.{◌<◌, ◌≤◌, IfOk, IfSome};
+ghost use Rattle.std.specs.Prelude.{◌≡◌, ◌<◌, ◌≤◌, IfOk, IfSome, false, true};
+ghost use Rattle.buffa_locate.specs.declared.inside.Holds.TheVariants as holds;
 ghost use Rattle.buffa_locate.specs.Places.{Extends};
 
 use crate::place::Step;
@@ -36,8 +37,148 @@ pub struct Inside {
     pub listed: bool,
     /// Whether it is of the type of the message that holds it.
     pub own: bool,
-    /// The units of element memory that the field costs, besides what is in the message.
+    /// The units of element memory that the field costs for the message, besides what is in it.
     pub units: usize,
+    /// Those that it costs for the key of an entry.
+    pub key: usize,
+}
+
+impl Inside {
+    /// One message behind its length: in a field that is no list, or in a case of a oneof.
+    ///
+    /// ```ignore
+    /// 4 => Some(buffa_locate::Inside::one()),
+    /// ```
+    pub fn one() -> Inside
+        ensures { result ≡ record { holds = holds.Message; listed = false; own = false; units = 0; key = 0 } }
+    {
+        Inside {
+            holds: Holds::Message,
+            listed: false,
+            own: false,
+            units: 0,
+            key: 0,
+        }
+    }
+
+    /// One message as a group.
+    ///
+    /// ```ignore
+    /// 3 => Some(buffa_locate::Inside::group()),
+    /// ```
+    pub fn group() -> Inside
+        ensures { result ≡ record { holds = holds.Group; listed = false; own = false; units = 0; key = 0 } }
+    {
+        Inside {
+            holds: Holds::Group,
+            listed: false,
+            own: false,
+            units: 0,
+            key: 0,
+        }
+    }
+
+    /// An element of a list of messages.
+    ///
+    /// ```ignore
+    /// 3 => Some(buffa_locate::Inside::element::<Line>()),
+    /// ```
+    pub fn element<N: Message>() -> Inside
+        ensures { result ≡ record { holds = holds.Message; listed = true; own = false; units = N.COST; key = 0 } }
+    {
+        Inside {
+            holds: Holds::Message,
+            listed: true,
+            own: false,
+            units: N::COST,
+            key: 0,
+        }
+    }
+
+    /// An element of a list of groups.
+    ///
+    /// ```ignore
+    /// 4 => Some(buffa_locate::Inside::group_element::<Load>()),
+    /// ```
+    pub fn group_element<N: Message>() -> Inside
+        ensures { result ≡ record { holds = holds.Group; listed = true; own = false; units = N.COST; key = 0 } }
+    {
+        Inside {
+            holds: Holds::Group,
+            listed: true,
+            own: false,
+            units: N::COST,
+            key: 0,
+        }
+    }
+
+    /// The value of an entry, whose key costs so many units.
+    ///
+    /// ```ignore
+    /// let held = buffa_locate::Inside::value::<Line>(key);
+    /// ```
+    pub fn value<N: Message>(key: usize) -> Inside
+        ensures { result ≡ record { holds = holds.Value; listed = true; own = false; units = N.COST; key = key } }
+    {
+        Inside {
+            holds: Holds::Value,
+            listed: true,
+            own: false,
+            units: N::COST,
+            key,
+        }
+    }
+
+    /// One message in a box, of the type of the message that holds it.
+    ///
+    /// ```ignore
+    /// 2 => Some(buffa_locate::Inside::boxed::<Failure>()),
+    /// ```
+    pub fn boxed<N: Message>() -> Inside
+        ensures { result ≡ record { holds = holds.Message; listed = false; own = true; units = N.COST; key = 0 } }
+    {
+        Inside {
+            holds: Holds::Message,
+            listed: false,
+            own: true,
+            units: N::COST,
+            key: 0,
+        }
+    }
+
+    /// An element of a list of messages, of the type of the message that holds it.
+    ///
+    /// ```ignore
+    /// 2 => Some(buffa_locate::Inside::own_element::<Place>()),
+    /// ```
+    pub fn own_element<N: Message>() -> Inside
+        ensures { result ≡ record { holds = holds.Message; listed = true; own = true; units = N.COST; key = 0 } }
+    {
+        Inside {
+            holds: Holds::Message,
+            listed: true,
+            own: true,
+            units: N::COST,
+            key: 0,
+        }
+    }
+
+    /// The value of an entry, whose key costs so many units; it is of the type of the message that holds the entry.
+    ///
+    /// ```ignore
+    /// let held = buffa_locate::Inside::own_value::<Settings>(key);
+    /// ```
+    pub fn own_value<N: Message>(key: usize) -> Inside
+        ensures { result ≡ record { holds = holds.Value; listed = true; own = true; units = N.COST; key = key } }
+    {
+        Inside {
+            holds: Holds::Value,
+            listed: true,
+            own: true,
+            units: N::COST,
+            key,
+        }
+    }
 }
 
 /// A message whose type says which of its fields hold messages, and of which type.
@@ -46,6 +187,13 @@ pub struct Inside {
 /// fn inside(number: u32) -> Option<Inside>;
 /// ```
 pub trait Locate: Message + Drop {
+    /// The name in the `.proto` of the field that has this number; none where the message has no member for it.
+    ///
+    /// ```ignore
+    /// let name = M::name_of(number);
+    /// ```
+    fn name_of(number: u32) -> Option<&'static str>;
+
     /// What is known of the message that the field of a number holds, or none where it holds none.
     ///
     /// ```ignore

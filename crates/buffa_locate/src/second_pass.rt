@@ -21,12 +21,12 @@ fn look_into<M: Locate>(
     inside: Inside,
     path: &mut Vec<Step>,
 ) -> Result<Option<usize>, AllocError>
-    requires behind { refused.behind ≤ search.end - search.start }
+    requires behind { (refused.at ≤ refused.behind) × (refused.behind ≤ search.end - search.start) }
     ensures within { IfOk result (λ found. IfSome found (λ at. (search.entry.start + refused.behind ≤ at)
         × (at < search.entry.end))) }
     ensures path { IfOk result (λ found. Extends path.old.items path.new.items) }
 {
-    let Some(inner) = search.enter(tag, refused, inside) else {
+    let Some(inner) = search.enter::<M>(alloc, tag, refused, inside)? else {
         return Ok(None);
     };
     if !inside.own {
@@ -57,7 +57,7 @@ fn follow<M: Locate>(
         return Ok(at);
     };
     let inside = M::inside(tag.field_number());
-    path.push(search.step(tag, refused, inside))?;
+    path.push(search.step::<M>(tag, refused, inside))?;
     let Some(inside) = inside else {
         return Ok(at);
     };
@@ -137,6 +137,7 @@ pub fn locate<M: Locate>(
         all: bytes,
         start: 0,
         end: bytes.len(),
+        grouped: false,
         depth,
         unknown: refused.unknown,
         memory: refused.memory,

@@ -162,3 +162,32 @@ impl Assorted {
         }
     }
 }
+
+impl buffa_locate::Locate for Assorted {
+    fn name_of(number: u32) -> Option<&'static str> {
+        match number {
+            1 => Some("data"),
+            2 => Some("state"),
+            3 => Some("parts"),
+            4 => Some("past"),
+            5 => Some("coming"),
+            6 => Some("marks"),
+            7 => Some("states"),
+            8 => Some("shared"),
+            _ => None,
+        }
+    }
+
+    fn inside(_number: u32) -> Option<buffa_locate::Inside> {
+        None
+    }
+
+    fn find_inside(
+        _number: u32,
+        _alloc: Global,
+        search: buffa_locate::Search<'_>,
+        path: &mut Vec<buffa_locate::Step>,
+    ) -> Result<Option<usize>, std::alloc::AllocError> {
+        buffa_locate::nothing_inside(search, path)
+    }
+}

@@ -90,3 +90,32 @@ impl Depot {
     /// The full name of the message.
     pub const FULL_NAME: &'static str = "buffa.sample.Depot";
 }
+
+impl buffa_locate::Locate for Depot {
+    fn name_of(number: u32) -> Option<&'static str> {
+        match number {
+            1 => Some("city"),
+            2 => Some("parcels"),
+            _ => None,
+        }
+    }
+
+    fn inside(number: u32) -> Option<buffa_locate::Inside> {
+        match number {
+            2 => Some(buffa_locate::Inside::element::<Parcel>()),
+            _ => None,
+        }
+    }
+
+    fn find_inside(
+        number: u32,
+        alloc: Global,
+        search: buffa_locate::Search<'_>,
+        path: &mut Vec<buffa_locate::Step>,
+    ) -> Result<Option<usize>, std::alloc::AllocError> {
+        match number {
+            2 => buffa_locate::find::<Parcel>(alloc, search, path),
+            _ => buffa_locate::nothing_inside(search, path),
+        }
+    }
+}

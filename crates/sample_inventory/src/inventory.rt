@@ -113,3 +113,28 @@ impl Inventory {
         self.listed.unwrap_or(false)
     }
 }
+
+impl buffa_locate::Locate for Inventory {
+    fn name_of(number: u32) -> Option<&'static str> {
+        match number {
+            1 => Some("total"),
+            2 => Some("note"),
+            3 => Some("listed"),
+            5 => Some("counts"),
+            _ => None,
+        }
+    }
+
+    fn inside(_number: u32) -> Option<buffa_locate::Inside> {
+        None
+    }
+
+    fn find_inside(
+        _number: u32,
+        _alloc: Global,
+        search: buffa_locate::Search<'_>,
+        path: &mut Vec<buffa_locate::Step>,
+    ) -> Result<Option<usize>, std::alloc::AllocError> {
+        buffa_locate::nothing_inside(search, path)
+    }
+}

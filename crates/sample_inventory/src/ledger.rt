@@ -115,3 +115,37 @@ impl Ledger {
     /// The full name of the message.
     pub const FULL_NAME: &'static str = "buffa.sample.Ledger";
 }
+
+impl buffa_locate::Locate for Ledger {
+    fn name_of(number: u32) -> Option<&'static str> {
+        match number {
+            1 => Some("balances"),
+            2 => Some("pages"),
+            3 => Some("seals"),
+            _ => None,
+        }
+    }
+
+    fn inside(number: u32) -> Option<buffa_locate::Inside> {
+        match number {
+            2 => {
+                let key = <Int32 as buffa_fields::map_codec::MapValueDecode>::COST;
+                let held = buffa_locate::Inside::value::<Inventory>(key);
+                Some(held)
+            }
+            _ => None,
+        }
+    }
+
+    fn find_inside(
+        number: u32,
+        alloc: Global,
+        search: buffa_locate::Search<'_>,
+        path: &mut Vec<buffa_locate::Step>,
+    ) -> Result<Option<usize>, std::alloc::AllocError> {
+        match number {
+            2 => buffa_locate::find::<Inventory>(alloc, search, path),
+            _ => buffa_locate::nothing_inside(search, path),
+        }
+    }
+}

@@ -110,3 +110,26 @@ impl Load {
         }
     }
 }
+
+impl buffa_locate::Locate for Load {
+    fn name_of(number: u32) -> Option<&'static str> {
+        match number {
+            1 => Some("weight"),
+            2 => Some("mark"),
+            _ => None,
+        }
+    }
+
+    fn inside(_number: u32) -> Option<buffa_locate::Inside> {
+        None
+    }
+
+    fn find_inside(
+        _number: u32,
+        _alloc: Global,
+        search: buffa_locate::Search<'_>,
+        path: &mut Vec<buffa_locate::Step>,
+    ) -> Result<Option<usize>, std::alloc::AllocError> {
+        buffa_locate::nothing_inside(search, path)
+    }
+}

@@ -198,3 +198,36 @@ impl Order {
         self.floor.unwrap_or(0)
     }
 }
+
+impl buffa_locate::Locate for Order {
+    fn name_of(number: u32) -> Option<&'static str> {
+        match number {
+            1 => Some("id"),
+            2 => Some("note"),
+            3 => Some("gift"),
+            4 => Some("state"),
+            5 => Some("counts"),
+            6 => Some("blob"),
+            7 => Some("steps"),
+            8 => Some("code"),
+            9 => Some("stamp"),
+            10 => Some("names"),
+            11 => Some("tags"),
+            12 => Some("floor"),
+            _ => None,
+        }
+    }
+
+    fn inside(_number: u32) -> Option<buffa_locate::Inside> {
+        None
+    }
+
+    fn find_inside(
+        _number: u32,
+        _alloc: Global,
+        search: buffa_locate::Search<'_>,
+        path: &mut Vec<buffa_locate::Step>,
+    ) -> Result<Option<usize>, std::alloc::AllocError> {
+        buffa_locate::nothing_inside(search, path)
+    }
+}

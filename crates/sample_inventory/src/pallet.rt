@@ -103,3 +103,34 @@ impl Pallet {
     /// The full name of the message.
     pub const FULL_NAME: &'static str = "buffa.sample.Pallet";
 }
+
+impl buffa_locate::Locate for Pallet {
+    fn name_of(number: u32) -> Option<&'static str> {
+        match number {
+            1 => Some("mark"),
+            2 => Some("stock"),
+            3 => Some("layers"),
+            _ => None,
+        }
+    }
+
+    fn inside(number: u32) -> Option<buffa_locate::Inside> {
+        match number {
+            2 => Some(buffa_locate::Inside::group()),
+            3 => Some(buffa_locate::Inside::group_element::<Inventory>()),
+            _ => None,
+        }
+    }
+
+    fn find_inside(
+        number: u32,
+        alloc: Global,
+        search: buffa_locate::Search<'_>,
+        path: &mut Vec<buffa_locate::Step>,
+    ) -> Result<Option<usize>, std::alloc::AllocError> {
+        match number {
+            2 | 3 => buffa_locate::find::<Inventory>(alloc, search, path),
+            _ => buffa_locate::nothing_inside(search, path),
+        }
+    }
+}

@@ -86,3 +86,32 @@ impl Parcel {
     /// The full name of the message.
     pub const FULL_NAME: &'static str = "buffa.sample.Parcel";
 }
+
+impl buffa_locate::Locate for Parcel {
+    fn name_of(number: u32) -> Option<&'static str> {
+        match number {
+            1 => Some("id"),
+            2 => Some("stock"),
+            _ => None,
+        }
+    }
+
+    fn inside(number: u32) -> Option<buffa_locate::Inside> {
+        match number {
+            2 => Some(buffa_locate::Inside::one()),
+            _ => None,
+        }
+    }
+
+    fn find_inside(
+        number: u32,
+        alloc: Global,
+        search: buffa_locate::Search<'_>,
+        path: &mut Vec<buffa_locate::Step>,
+    ) -> Result<Option<usize>, std::alloc::AllocError> {
+        match number {
+            2 => buffa_locate::find::<Inventory>(alloc, search, path),
+            _ => buffa_locate::nothing_inside(search, path),
+        }
+    }
+}

@@ -90,3 +90,36 @@ impl Store {
     /// The full name of the message.
     pub const FULL_NAME: &'static str = "buffa.sample.Store";
 }
+
+impl buffa_locate::Locate for Store {
+    fn name_of(number: u32) -> Option<&'static str> {
+        match number {
+            1 => Some("name"),
+            2 => Some("shelves"),
+            _ => None,
+        }
+    }
+
+    fn inside(number: u32) -> Option<buffa_locate::Inside> {
+        match number {
+            2 => {
+                let key = <Str as buffa_fields::map_codec::MapValueDecode>::COST;
+                let held = buffa_locate::Inside::value::<Inventory>(key);
+                Some(held)
+            }
+            _ => None,
+        }
+    }
+
+    fn find_inside(
+        number: u32,
+        alloc: Global,
+        search: buffa_locate::Search<'_>,
+        path: &mut Vec<buffa_locate::Step>,
+    ) -> Result<Option<usize>, std::alloc::AllocError> {
+        match number {
+            2 => buffa_locate::find::<Inventory>(alloc, search, path),
+            _ => buffa_locate::nothing_inside(search, path),
+        }
+    }
+}

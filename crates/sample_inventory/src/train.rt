@@ -93,3 +93,37 @@ impl Train {
     /// The full name of the message.
     pub const FULL_NAME: &'static str = "buffa.sample.Train";
 }
+
+impl buffa_locate::Locate for Train {
+    fn name_of(number: u32) -> Option<&'static str> {
+        match number {
+            1 => Some("wagons"),
+            2 => Some("spares"),
+            _ => None,
+        }
+    }
+
+    fn inside(number: u32) -> Option<buffa_locate::Inside> {
+        match number {
+            1 => {
+                let key = <Int32 as buffa_fields::map_codec::MapValueDecode>::COST;
+                let held = buffa_locate::Inside::value::<Wagon>(key);
+                Some(held)
+            }
+            2 => Some(buffa_locate::Inside::element::<Wagon>()),
+            _ => None,
+        }
+    }
+
+    fn find_inside(
+        number: u32,
+        alloc: Global,
+        search: buffa_locate::Search<'_>,
+        path: &mut Vec<buffa_locate::Step>,
+    ) -> Result<Option<usize>, std::alloc::AllocError> {
+        match number {
+            1 | 2 => buffa_locate::find::<Wagon>(alloc, search, path),
+            _ => buffa_locate::nothing_inside(search, path),
+        }
+    }
+}

@@ -211,3 +211,56 @@ impl Wagon {
         }
     }
 }
+
+impl buffa_locate::Locate for Wagon {
+    fn name_of(number: u32) -> Option<&'static str> {
+        match number {
+            1 => Some("load"),
+            2 => Some("loads"),
+            3 => Some("frame"),
+            4 => Some("beams"),
+            5 => Some("shelves"),
+            6 => Some("berths"),
+            7 => Some("id"),
+            8 => Some("name"),
+            9 => Some("state"),
+            10 => Some("seats"),
+            11 => Some("tags"),
+            12 => Some("counts"),
+            13 => Some("axles"),
+            _ => None,
+        }
+    }
+
+    fn inside(number: u32) -> Option<buffa_locate::Inside> {
+        match number {
+            1 => Some(buffa_locate::Inside::one()),
+            2 => Some(buffa_locate::Inside::element::<Load>()),
+            3 => Some(buffa_locate::Inside::group()),
+            4 => Some(buffa_locate::Inside::group_element::<Load>()),
+            5 => {
+                let key = <Str as buffa_fields::map_codec::MapValueDecode>::COST;
+                let held = buffa_locate::Inside::value::<Load>(key);
+                Some(held)
+            }
+            6 => {
+                let key = <Int32 as buffa_fields::map_codec::MapValueDecode>::COST;
+                let held = buffa_locate::Inside::value::<Load>(key);
+                Some(held)
+            }
+            _ => None,
+        }
+    }
+
+    fn find_inside(
+        number: u32,
+        alloc: Global,
+        search: buffa_locate::Search<'_>,
+        path: &mut Vec<buffa_locate::Step>,
+    ) -> Result<Option<usize>, std::alloc::AllocError> {
+        match number {
+            1 | 2 | 3 | 4 | 5 | 6 => buffa_locate::find::<Load>(alloc, search, path),
+            _ => buffa_locate::nothing_inside(search, path),
+        }
+    }
+}

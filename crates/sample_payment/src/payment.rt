@@ -4,6 +4,7 @@ ghost use Rattle.std.proofs.Common.{lit<, refl};
 ghost use Rattle.buffa_fields.specs.Terms.{field, keep_unknown, one_of};
 
 use crate::method::Method;
+use crate::transfer::Transfer;
 use buffa_fields::map_codec::{Int32, Str};
 use buffa_fields::{
     And4, Blank, DecodeContext, DecodeError, FieldByField, FieldsMeaning, ImplicitField, Member,
@@ -124,6 +125,31 @@ impl Payment {
             4 => Some("transfer"),
             5 => Some("note"),
             _ => None,
+        }
+    }
+}
+
+impl buffa_locate::Locate for Payment {
+    fn name_of(number: u32) -> Option<&'static str> {
+        Payment::field_name(number)
+    }
+
+    fn inside(number: u32) -> Option<buffa_locate::Inside> {
+        match number {
+            4 => Some(buffa_locate::Inside::one()),
+            _ => None,
+        }
+    }
+
+    fn find_inside(
+        number: u32,
+        alloc: Global,
+        search: buffa_locate::Search<'_>,
+        path: &mut Vec<buffa_locate::Step>,
+    ) -> Result<Option<usize>, std::alloc::AllocError> {
+        match number {
+            4 => buffa_locate::find::<Transfer>(alloc, search, path),
+            _ => buffa_locate::nothing_inside(search, path),
         }
     }
 }

@@ -96,3 +96,31 @@ impl Agenda {
     /// The full name of the message.
     pub const FULL_NAME: &'static str = "buffa.sample.Agenda";
 }
+
+impl buffa_locate::Locate for Agenda {
+    fn name_of(number: u32) -> Option<&'static str> {
+        match number {
+            1 => Some("tasks"),
+            _ => None,
+        }
+    }
+
+    fn inside(number: u32) -> Option<buffa_locate::Inside> {
+        match number {
+            1 => Some(buffa_locate::Inside::element::<Task>()),
+            _ => None,
+        }
+    }
+
+    fn find_inside(
+        number: u32,
+        alloc: Global,
+        search: buffa_locate::Search<'_>,
+        path: &mut Vec<buffa_locate::Step>,
+    ) -> Result<Option<usize>, std::alloc::AllocError> {
+        match number {
+            1 => buffa_locate::find::<Task>(alloc, search, path),
+            _ => buffa_locate::nothing_inside(search, path),
+        }
+    }
+}

@@ -126,3 +126,30 @@ impl Branch {
     /// The full name of the message.
     pub const FULL_NAME: &'static str = "buffa.sample.Branch";
 }
+
+impl buffa_locate::Locate for Branch {
+    fn name_of(number: u32) -> Option<&'static str> {
+        match number {
+            1 => Some("name"),
+            2 => Some("leaves"),
+            3 => Some("branches"),
+            _ => None,
+        }
+    }
+
+    fn inside(number: u32) -> Option<buffa_locate::Inside> {
+        match number {
+            3 => Some(buffa_locate::Inside::own_element::<Branch>()),
+            _ => None,
+        }
+    }
+
+    fn find_inside(
+        _number: u32,
+        _alloc: Global,
+        search: buffa_locate::Search<'_>,
+        path: &mut Vec<buffa_locate::Step>,
+    ) -> Result<Option<usize>, std::alloc::AllocError> {
+        buffa_locate::nothing_inside(search, path)
+    }
+}

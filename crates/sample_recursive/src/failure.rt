@@ -127,3 +127,30 @@ impl Failure {
     /// The full name of the message.
     pub const FULL_NAME: &'static str = "buffa.sample.Failure";
 }
+
+impl buffa_locate::Locate for Failure {
+    fn name_of(number: u32) -> Option<&'static str> {
+        match number {
+            1 => Some("reason"),
+            2 => Some("cause"),
+            3 => Some("lines"),
+            _ => None,
+        }
+    }
+
+    fn inside(number: u32) -> Option<buffa_locate::Inside> {
+        match number {
+            2 => Some(buffa_locate::Inside::boxed::<Failure>()),
+            _ => None,
+        }
+    }
+
+    fn find_inside(
+        _number: u32,
+        _alloc: Global,
+        search: buffa_locate::Search<'_>,
+        path: &mut Vec<buffa_locate::Step>,
+    ) -> Result<Option<usize>, std::alloc::AllocError> {
+        buffa_locate::nothing_inside(search, path)
+    }
+}

@@ -129,3 +129,34 @@ impl Settings {
     /// The full name of the message.
     pub const FULL_NAME: &'static str = "buffa.sample.Settings";
 }
+
+impl buffa_locate::Locate for Settings {
+    fn name_of(number: u32) -> Option<&'static str> {
+        match number {
+            1 => Some("value"),
+            2 => Some("sections"),
+            3 => Some("ports"),
+            _ => None,
+        }
+    }
+
+    fn inside(number: u32) -> Option<buffa_locate::Inside> {
+        match number {
+            2 => {
+                let key = <Str as buffa_fields::map_codec::MapValueDecode>::COST;
+                let held = buffa_locate::Inside::own_value::<Settings>(key);
+                Some(held)
+            }
+            _ => None,
+        }
+    }
+
+    fn find_inside(
+        _number: u32,
+        _alloc: Global,
+        search: buffa_locate::Search<'_>,
+        path: &mut Vec<buffa_locate::Step>,
+    ) -> Result<Option<usize>, std::alloc::AllocError> {
+        buffa_locate::nothing_inside(search, path)
+    }
+}

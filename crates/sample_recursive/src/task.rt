@@ -211,3 +211,45 @@ impl Task {
         }
     }
 }
+
+impl buffa_locate::Locate for Task {
+    fn name_of(number: u32) -> Option<&'static str> {
+        match number {
+            1 => Some("title"),
+            2 => Some("parts"),
+            3 => Some("before"),
+            4 => Some("by_day"),
+            5 => Some("people"),
+            6 => Some("room"),
+            7 => Some("host"),
+            _ => None,
+        }
+    }
+
+    fn inside(number: u32) -> Option<buffa_locate::Inside> {
+        match number {
+            2 => Some(buffa_locate::Inside::own_element::<Task>()),
+            3 => Some(buffa_locate::Inside::boxed::<Task>()),
+            4 => {
+                let key = <Int32 as buffa_fields::map_codec::MapValueDecode>::COST;
+                let held = buffa_locate::Inside::own_value::<Task>(key);
+                Some(held)
+            }
+            5 => Some(buffa_locate::Inside::element::<Person>()),
+            7 => Some(buffa_locate::Inside::one()),
+            _ => None,
+        }
+    }
+
+    fn find_inside(
+        number: u32,
+        alloc: Global,
+        search: buffa_locate::Search<'_>,
+        path: &mut Vec<buffa_locate::Step>,
+    ) -> Result<Option<usize>, std::alloc::AllocError> {
+        match number {
+            5 | 7 => buffa_locate::find::<Person>(alloc, search, path),
+            _ => buffa_locate::nothing_inside(search, path),
+        }
+    }
+}

@@ -10,6 +10,8 @@ mod frames;
 #[cfg(test)]
 mod held;
 #[cfg(test)]
+mod located;
+#[cfg(test)]
 mod measure;
 #[cfg(test)]
 mod names;

@@ -117,3 +117,22 @@ impl Line {
         self.count.unwrap_or(0)
     }
 }
+
+impl buffa_locate::Locate for Line {
+    fn name_of(number: u32) -> Option<&'static str> {
+        Line::field_name(number)
+    }
+
+    fn inside(_number: u32) -> Option<buffa_locate::Inside> {
+        None
+    }
+
+    fn find_inside(
+        _number: u32,
+        _alloc: Global,
+        search: buffa_locate::Search<'_>,
+        path: &mut Vec<buffa_locate::Step>,
+    ) -> Result<Option<usize>, std::alloc::AllocError> {
+        buffa_locate::nothing_inside(search, path)
+    }
+}

@@ -144,3 +144,33 @@ impl Order {
         }
     }
 }
+
+impl buffa_locate::Locate for Order {
+    fn name_of(number: u32) -> Option<&'static str> {
+        Order::field_name(number)
+    }
+
+    fn inside(number: u32) -> Option<buffa_locate::Inside> {
+        match number {
+            3 => Some(buffa_locate::Inside::element::<Line>()),
+            4 => {
+                let key = <Str as buffa_fields::map_codec::MapValueDecode>::COST;
+                let held = buffa_locate::Inside::value::<Line>(key);
+                Some(held)
+            }
+            _ => None,
+        }
+    }
+
+    fn find_inside(
+        number: u32,
+        alloc: Global,
+        search: buffa_locate::Search<'_>,
+        path: &mut Vec<buffa_locate::Step>,
+    ) -> Result<Option<usize>, std::alloc::AllocError> {
+        match number {
+            3 | 4 => buffa_locate::find::<Line>(alloc, search, path),
+            _ => buffa_locate::nothing_inside(search, path),
+        }
+    }
+}

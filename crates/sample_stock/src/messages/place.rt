@@ -135,3 +135,25 @@ impl Place {
         }
     }
 }
+
+impl buffa_locate::Locate for Place {
+    fn name_of(number: u32) -> Option<&'static str> {
+        Place::field_name(number)
+    }
+
+    fn inside(number: u32) -> Option<buffa_locate::Inside> {
+        match number {
+            2 => Some(buffa_locate::Inside::own_element::<Place>()),
+            _ => None,
+        }
+    }
+
+    fn find_inside(
+        _number: u32,
+        _alloc: Global,
+        search: buffa_locate::Search<'_>,
+        path: &mut Vec<buffa_locate::Step>,
+    ) -> Result<Option<usize>, std::alloc::AllocError> {
+        buffa_locate::nothing_inside(search, path)
+    }
+}

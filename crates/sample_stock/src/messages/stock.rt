@@ -109,3 +109,22 @@ impl Stock {
         }
     }
 }
+
+impl buffa_locate::Locate for Stock {
+    fn name_of(number: u32) -> Option<&'static str> {
+        Stock::field_name(number)
+    }
+
+    fn inside(_number: u32) -> Option<buffa_locate::Inside> {
+        None
+    }
+
+    fn find_inside(
+        _number: u32,
+        _alloc: Global,
+        search: buffa_locate::Search<'_>,
+        path: &mut Vec<buffa_locate::Step>,
+    ) -> Result<Option<usize>, std::alloc::AllocError> {
+        buffa_locate::nothing_inside(search, path)
+    }
+}
