@@ -145,7 +145,7 @@ def built(room):
 
 def is_as_made():
     """Whether what is checked in is what c_library writes, where protoc is there to say it."""
-    words = [f"{TOP}/tools/c_library", "--check", "--types", "sample_payment", "-I../sample_payment", "../sample_payment/payment.proto", "Payment", "Transfer"]
+    words = [f"{TOP}/tools/c_library", "--check", "--types", "sample_payment", "places=all", "-I../sample_payment", "../sample_payment/payment.proto", "Payment", "Transfer"]
     return not shutil.which("protoc") or subprocess.run(words, cwd=CRATE).returncode == 0
 
 

@@ -38,7 +38,7 @@ An answer is 0, BUFFA_ACCEPTED, or says why not. Where it isn't 0, out and what 
 *written and *room are 0. So is *there, but with BUFFA_NO_ROOM. Of a place the opposite holds: it is told where the bytes are
 refused, and where they are accepted, are too many, or memory runs out, path is as it was, and *steps and *offset are 0."""
 
-STEP = """
+STEP = """#ifndef BUFFA_USUAL
 /* A field on the way to the place at which bytes are refused. */
 struct buffa_step {
     uint32_t number; /* its number */
@@ -46,7 +46,9 @@ struct buffa_step {
     size_t index;    /* how many fields of this number are in front of it then, else 0 */
 };
 /* The limits of a call that takes none, for one that does: most bytes, depth, undeclared fields, units of memory. */
-#define BUFFA_USUAL 2147483647, 100, 1000000, 268435456"""
+#define BUFFA_USUAL 2147483647, 100, 1000000, 268435456
+#endif
+"""
 
 HEAP = """/* What a library asks of the heap, over malloc, realloc and free. */
 #include <stddef.h>
@@ -112,8 +114,8 @@ def text(library, numbers):
     made = comment([f"Messages of {', '.join(library.files)}, checked by a library that is proved; made by c_library.", "", *OWED.split("\n")])
     made += [f"#ifndef {guard}", f"#define {guard}", "#include <stdbool.h>", "#include <stddef.h>", "#include <stdint.h>", ""]
     made += ["#ifndef BUFFA_ANSWERS", "#define BUFFA_ANSWERS", "enum buffa_answer {", "    BUFFA_ACCEPTED = 0,"]
-    made += [f"    BUFFA_{name} = {at}, /* {said} */" for at, (name, said) in enumerate(ANSWERS, 1)] + ["};"]
-    made += [*STEP.split("\n")] * library.is_located + ["#endif", ""]
+    made += [f"    BUFFA_{name} = {at}, /* {said} */" for at, (name, said) in enumerate(ANSWERS, 1)] + ["};", "#endif", ""]
+    made += STEP.split("\n") if library.is_located else []
     made += ["#ifdef __cplusplus", 'extern "C" {', "#endif"]
     for gate in library.gates:
         made += calls(gate, numbers)

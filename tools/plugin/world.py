@@ -68,7 +68,7 @@ class World:
 
     def read_parameters(self, text):
         self.crate, self.module = folder_name(), "messages"
-        self.clone = self.equal = self.maps = self.names = self.places = self.strings = self.well_known = ""
+        self.clone = self.discard = self.equal = self.maps = self.names = self.places = self.strings = self.well_known = ""
         self.left, self.dropping, self.costs, self.renamed, self.mapped = set(), set(), {}, {}, {}
         self.fields = {key: set() for key in FIELD_KEYS}
         for word in filter(None, text.split(",")):
@@ -90,7 +90,7 @@ class World:
             self.mapped[file] = path
         elif key in ("crate", "module") and re.fullmatch(r"[a-z_][a-z0-9_]*", value) or word == "module=":
             setattr(self, key, value)
-        elif (key, value) in (("clone", "all"), ("equal", "all"), ("maps", "ordered"), ("names", "all"), ("places", "all"), ("strings", "bytes"), ("well_known", "here")):
+        elif (key, value) in (("clone", "all"), ("discard", "all"), ("equal", "all"), ("maps", "ordered"), ("names", "all"), ("places", "all"), ("strings", "bytes"), ("well_known", "here")):
             setattr(self, key, value)
         else:
             raise Refused(f"no parameter is {clean(word)}: PLUGIN --help lists them all")

@@ -44,7 +44,9 @@ enum buffa_answer {
     BUFFA_NO_ROOM = 18, /* out is too small; nothing was written */
     BUFFA_TOO_LARGE = 19, /* the encoding would have 2^31 bytes or more */
 };
+#endif
 
+#ifndef BUFFA_USUAL
 /* A field on the way to the place at which bytes are refused. */
 struct buffa_step {
     uint32_t number; /* its number */

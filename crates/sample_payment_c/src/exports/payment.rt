@@ -7,7 +7,8 @@ ghost use Rattle.buffa_c.specs.Places.{TellsPlace};
 ghost use Rattle.buffa_c.specs.Members.{ChecksRoom, CopiesBytes, TellsNumber};
 
 use buffa_c::{
-    ACCEPTED, Limits, PathStep, USUAL, canonical, check, is_canonical, place, put, read, room_of,
+    ACCEPTED, Limits, PathStep, USUAL, canonical, check, is_canonical, place_of, put, read,
+    room_of,
 };
 use buffa_fields::{Blank, MessageSpec, RECURSION_LIMIT};
 use sample_payment::payment::Payment;
@@ -74,7 +75,7 @@ pub extern "C" fn payment_place(
         unknown,
         units,
     };
-    place::<Payment>(alloc, bytes, limits, path, steps, offset)
+    place_of::<Payment>(alloc, bytes, limits, path, steps, offset)
 }
 
 /// The encoding of the `Payment` that the bytes mean, at the front of `out`.
