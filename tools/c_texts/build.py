@@ -106,7 +106,7 @@ def exports_map(library):
 
 
 def names_of(gate):
-    return ["check", "check_within"] + ["place"] * gate.is_located + ["canonical", "room", "is_canonical"] + [it.name for it in gate.told]
+    return ["check", "check_within"] + ["place"] * gate.is_located + ["canonical", "room", "is_canonical"] + ["canonical_declared"] * gate.is_discarding + [it.name for it in gate.told]
 
 
 def files(library):

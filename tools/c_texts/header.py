@@ -100,6 +100,9 @@ def calls(gate, numbers):
         made += [call(f"{gate.prefix}_place", LIMITS + ["struct buffa_step *path", "size_t path_len", "size_t *steps", "size_t *offset"])]
     made += comment(["The encoding of what the bytes mean: written to the front of out, with its length in *written; its length alone; and whether", "the bytes are that encoding."])
     made += [call(f"{gate.prefix}_canonical", out), call(f"{gate.prefix}_room", ["size_t *room"]), call(f"{gate.prefix}_is_canonical", [])]
+    if gate.is_discarding:
+        made += comment(["The encoding of what is left without the fields that aren't declared, in the messages inside, too. It isn't longer than the other."])
+        made += [call(f"{gate.prefix}_canonical_declared", out)]
     if gate.told:
         made += comment(["Members of what the bytes mean. A text has no 0 behind it, and is never longer than bytes_len."])
     for told in gate.told:

@@ -16,7 +16,7 @@ NUMBERS = {
 }
 REALS = {"FloatBits": ("u32", "f32"), "DoubleBits": ("u64", "f64")}
 # The calls of each message beside those of its members.
-CALLS = "check check_within place canonical room is_canonical".split()
+CALLS = "check check_within place canonical canonical_declared room is_canonical".split()
 
 
 class Told:
@@ -51,10 +51,10 @@ def is_told(member):
 class Gate:
     """A message, and what calls say of its bytes."""
 
-    def __init__(self, message, types, is_located):
+    def __init__(self, message, types, told):
         self.message, self.rust, self.snake, self.full = message, message.rust, snake(message.rust), message.name.full
-        # Whether its type says which of its fields hold messages, so that a place can be told.
-        self.is_located = is_located
+        # Whether its type says which of its fields hold messages, so that a place can be told; and whether it takes out what isn't declared.
+        self.is_located, self.is_discarding = "places" in told, "discard" in told and message.discards
         self.prefix = self.snake.rstrip("_")
         self.path, self.file = "::".join([types, self.snake]), message.name.file.shown
         self.is_asked, self.told = bool(message.asked), []
@@ -69,8 +69,8 @@ class Gate:
 class Library:
     """All that a run makes: the crate's name, its messages, and the .proto files that they are from."""
 
-    def __init__(self, crate, messages, types, is_located):
-        self.crate, self.gates, self.is_located = crate, [Gate(it, types, is_located) for it in messages], is_located
+    def __init__(self, crate, messages, types, told):
+        self.crate, self.gates, self.is_located = crate, [Gate(it, types, told) for it in messages], "places" in told
         self.files = sorted({it.file for it in self.gates})
         taken = {f"{gate.prefix}_{name}" for gate in self.gates for name in CALLS}
         for gate in self.gates:

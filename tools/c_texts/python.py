@@ -152,6 +152,7 @@ def bound(gate, numbers):
     made = {"check": "[]", "check_within": "[ctypes.c_size_t, ctypes.c_uint32, ctypes.c_size_t, ctypes.c_size_t]"}
     made |= {"place": "_PLACE"} if gate.is_located else {}
     made |= {"canonical": "_OUT", "room": "[ctypes.POINTER(ctypes.c_size_t)]", "is_canonical": "[]"}
+    made |= {"canonical_declared": "_OUT"} if gate.is_discarding else {}
     for told in gate.told:
         there = "[ctypes.POINTER(ctypes.c_bool)] + " * told.is_optional
         made[told.name] = there + ("_OUT" if told.is_text else f"[ctypes.POINTER(ctypes.{numbers[told.number][2]})]")
@@ -188,6 +189,9 @@ def functions(gate, numbers, at):
     made += function(f"{name}_room", "data", "How many bytes that encoding has.", f"return _measured(_{name}_room, data)")
     said = "Raises Refused where the bytes aren't the encoding of what they mean."
     made += function(f"{name}_is_canonical", "data", said, f"_answered(_{name}_is_canonical(data, len(data)))")
+    if gate.is_discarding:
+        said = "The encoding of what is left without the fields that aren't declared, in the messages inside, too."
+        made += function(f"{name}_canonical_declared", "data", said, f"return _canonical(_{name}_canonical_declared, _{name}_room, data)")
     for told in gate.told:
         made += tell(gate, told, numbers)
     return made

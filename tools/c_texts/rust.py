@@ -156,6 +156,7 @@ def declared(gate, numbers):
     path = "longest: usize, depth: u32, unknown: usize, units: usize, path: *mut PathStep, path_len: usize, steps: *mut usize, offset: *mut usize"
     made += [f"{gate.prefix}_place({bytes_in}, {path})"] * gate.is_located
     made += [f"{gate.prefix}_canonical({bytes_in}, {out})", f"{gate.prefix}_room({bytes_in}, room: *mut usize)", f"{gate.prefix}_is_canonical({bytes_in})"]
+    made += [f"{gate.prefix}_canonical_declared({bytes_in}, {out})"] * gate.is_discarding
     for told in gate.told:
         there = ", there: *mut bool" * told.is_optional
         made += [f"{gate.prefix}_{told.name}({bytes_in}{there}, {out if told.is_text else f'value: *mut {told.number}'})"]
@@ -187,6 +188,13 @@ def tell(gate, told):
     if told.is_optional:
         return made + [f"        Ok(if there {{ Some({value}) }} else {{ None }})", "    }", ""]
     return made + [f"        {value[:-1] if value.endswith('?') else f'Ok({value})'}", "    }", ""]
+
+
+def encoding(call, name, said):
+    """The function that answers an encoding: in as many bytes as came in, and where they are too few, in as many as are wanted."""
+    made = [f"    /// {said}", f"    pub fn {name}(bytes: &[u8]) -> Result<Vec<u8>, Refused> {{", "        let into = |room| super::copied(room, |out, written| unsafe {"]
+    made += [f"            {call}(bytes.as_ptr(), bytes.len(), out.as_mut_ptr(), out.len(), written)", "        });"]
+    return made + ["        match into(bytes.len()) {", "            Err(Refused(NO_ROOM)) => into(room(bytes)?),", "            made => made,", "        }", "    }", ""]
 
 
 def place(gate, at):
@@ -222,9 +230,10 @@ def module(gate, numbers, at):
     made += [f"        super::answered(unsafe {{ {name}_is_canonical({args}) }})", "    }", ""]
     made += ["    /// How many bytes `canonical` answers.", "    pub fn room(bytes: &[u8]) -> Result<usize, Refused> {", "        let mut room = 0;"]
     made += [f"        super::answered(unsafe {{ {name}_room({args}, &mut room) }})?;", "        Ok(room)", "    }", ""]
-    made += ["    /// The encoding of what the bytes mean.", "    pub fn canonical(bytes: &[u8]) -> Result<Vec<u8>, Refused> {"]
-    made += ["        let into = |room| super::copied(room, |out, written| unsafe {", f"            {name}_canonical({args}, out.as_mut_ptr(), out.len(), written)", "        });"]
-    made += ["        match into(bytes.len()) {", "            Err(Refused(NO_ROOM)) => into(room(bytes)?),", "            made => made,", "        }", "    }", ""]
+    made += encoding(f"{name}_canonical", "canonical", "The encoding of what the bytes mean.")
+    if gate.is_discarding:
+        said = "The encoding of what is left without the fields that aren't declared, in the messages inside, too."
+        made += encoding(f"{name}_canonical_declared", "canonical_declared", said)
     for told in gate.told:
         made += tell(gate, told)
     return made[:-1] + ["}"]

@@ -74,6 +74,8 @@ uint32_t payment_place(const uint8_t *bytes, size_t bytes_len, size_t longest, u
 uint32_t payment_canonical(const uint8_t *bytes, size_t bytes_len, uint8_t *out, size_t out_len, size_t *written);
 uint32_t payment_room(const uint8_t *bytes, size_t bytes_len, size_t *room);
 uint32_t payment_is_canonical(const uint8_t *bytes, size_t bytes_len);
+/* The encoding of what is left without the fields that aren't declared, in the messages inside, too. It isn't longer than the other. */
+uint32_t payment_canonical_declared(const uint8_t *bytes, size_t bytes_len, uint8_t *out, size_t out_len, size_t *written);
 /* Members of what the bytes mean. A text has no 0 behind it, and is never longer than bytes_len. */
 uint32_t payment_amount(const uint8_t *bytes, size_t bytes_len, int32_t *value);
 uint32_t payment_note(const uint8_t *bytes, size_t bytes_len, uint8_t *out, size_t out_len, size_t *written);
@@ -91,6 +93,8 @@ uint32_t transfer_place(const uint8_t *bytes, size_t bytes_len, size_t longest, 
 uint32_t transfer_canonical(const uint8_t *bytes, size_t bytes_len, uint8_t *out, size_t out_len, size_t *written);
 uint32_t transfer_room(const uint8_t *bytes, size_t bytes_len, size_t *room);
 uint32_t transfer_is_canonical(const uint8_t *bytes, size_t bytes_len);
+/* The encoding of what is left without the fields that aren't declared, in the messages inside, too. It isn't longer than the other. */
+uint32_t transfer_canonical_declared(const uint8_t *bytes, size_t bytes_len, uint8_t *out, size_t out_len, size_t *written);
 /* Members of what the bytes mean. A text has no 0 behind it, and is never longer than bytes_len. */
 uint32_t transfer_to(const uint8_t *bytes, size_t bytes_len, uint8_t *out, size_t out_len, size_t *written);
 uint32_t transfer_day(const uint8_t *bytes, size_t bytes_len, int32_t *value);

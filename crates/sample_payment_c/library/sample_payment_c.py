@@ -162,6 +162,7 @@ _payment_place = _call("payment_place", _PLACE)
 _payment_canonical = _call("payment_canonical", _OUT)
 _payment_room = _call("payment_room", [ctypes.POINTER(ctypes.c_size_t)])
 _payment_is_canonical = _call("payment_is_canonical", [])
+_payment_canonical_declared = _call("payment_canonical_declared", _OUT)
 _payment_amount = _call("payment_amount", [ctypes.POINTER(ctypes.c_int32)])
 _payment_note = _call("payment_note", _OUT)
 
@@ -171,6 +172,7 @@ _transfer_place = _call("transfer_place", _PLACE)
 _transfer_canonical = _call("transfer_canonical", _OUT)
 _transfer_room = _call("transfer_room", [ctypes.POINTER(ctypes.c_size_t)])
 _transfer_is_canonical = _call("transfer_is_canonical", [])
+_transfer_canonical_declared = _call("transfer_canonical_declared", _OUT)
 _transfer_to = _call("transfer_to", _OUT)
 _transfer_day = _call("transfer_day", [ctypes.POINTER(ctypes.c_int32)])
 
@@ -203,6 +205,11 @@ def payment_room(data):
 def payment_is_canonical(data):
     """Raises Refused where the bytes aren't the encoding of what they mean."""
     _answered(_payment_is_canonical(data, len(data)))
+
+
+def payment_canonical_declared(data):
+    """The encoding of what is left without the fields that aren't declared, in the messages inside, too."""
+    return _canonical(_payment_canonical_declared, _payment_room, data)
 
 
 def payment_amount(data):
@@ -243,6 +250,11 @@ def transfer_room(data):
 def transfer_is_canonical(data):
     """Raises Refused where the bytes aren't the encoding of what they mean."""
     _answered(_transfer_is_canonical(data, len(data)))
+
+
+def transfer_canonical_declared(data):
+    """The encoding of what is left without the fields that aren't declared, in the messages inside, too."""
+    return _canonical(_transfer_canonical_declared, _transfer_room, data)
 
 
 def transfer_to(data):

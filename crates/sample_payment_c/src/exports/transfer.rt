@@ -2,14 +2,15 @@
 
 ghost use Rattle.std.specs.Prelude.{option_map};
 ghost use Rattle.buffa_c.specs.Answers.{Checks, NumbersFault};
-ghost use Rattle.buffa_c.specs.Encodings.{ChecksCanonical, Measures, Rewrites};
+ghost use Rattle.buffa_c.specs.Encodings.{ChecksCanonical, Measures, Rewrites, RewritesDeclared};
 ghost use Rattle.buffa_c.specs.Places.{TellsPlace};
 ghost use Rattle.buffa_c.specs.Members.{ChecksRoom, CopiesBytes, TellsNumber};
 
 use buffa_c::{
-    ACCEPTED, Limits, PathStep, USUAL, canonical, check, is_canonical, place_of, put, read,
-    room_of,
+    ACCEPTED, Limits, PathStep, USUAL, canonical, canonical_declared, check, is_canonical,
+    place_of, put, read, room_of,
 };
+use buffa_discard::DiscardUnknown;
 use buffa_fields::{Blank, MessageSpec, RECURSION_LIMIT};
 use sample_payment::transfer::Transfer;
 use std::alloc::Global;
@@ -91,6 +92,23 @@ pub extern "C" fn transfer_canonical(
         bytes.now result out.old out.new written.new }
 {
     canonical::<Transfer>(alloc, bytes, USUAL, out, written)
+}
+
+/// The encoding of what is left of the `Transfer` that the bytes mean, without the fields that aren't declared.
+#[unsafe(no_mangle)]
+pub extern "C" fn transfer_canonical_declared(
+    alloc: Global,
+    bytes: &[u8],
+    out: &mut [u8],
+    written: &mut usize,
+) -> u32
+    ensures { RewritesDeclared
+        (⟦<Transfer as MessageSpec>⟧.merged RECURSION_LIMIT ⟦<Transfer as Blank>⟧.blank_is bytes.now)
+        (⟦<Transfer as MessageSpec>⟧.cost RECURSION_LIMIT bytes.now) ⟦<Transfer as Blank>⟧.meaning
+        ⟦<Transfer as DiscardUnknown>⟧.Discarded ⟦<Transfer as MessageSpec>⟧.encoding USUAL bytes.now result out.old
+        out.new written.new }
+{
+    canonical_declared::<Transfer>(alloc, bytes, USUAL, out, written)
 }
 
 /// How many bytes `transfer_canonical` writes.

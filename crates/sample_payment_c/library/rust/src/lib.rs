@@ -202,6 +202,7 @@ pub mod payment {
         fn payment_canonical(bytes: *const u8, bytes_len: usize, out: *mut u8, out_len: usize, written: *mut usize) -> u32;
         fn payment_room(bytes: *const u8, bytes_len: usize, room: *mut usize) -> u32;
         fn payment_is_canonical(bytes: *const u8, bytes_len: usize) -> u32;
+        fn payment_canonical_declared(bytes: *const u8, bytes_len: usize, out: *mut u8, out_len: usize, written: *mut usize) -> u32;
         fn payment_amount(bytes: *const u8, bytes_len: usize, value: *mut i32) -> u32;
         fn payment_note(bytes: *const u8, bytes_len: usize, out: *mut u8, out_len: usize, written: *mut usize) -> u32;
     }
@@ -248,6 +249,17 @@ pub mod payment {
         }
     }
 
+    /// The encoding of what is left without the fields that aren't declared, in the messages inside, too.
+    pub fn canonical_declared(bytes: &[u8]) -> Result<Vec<u8>, Refused> {
+        let into = |room| super::copied(room, |out, written| unsafe {
+            payment_canonical_declared(bytes.as_ptr(), bytes.len(), out.as_mut_ptr(), out.len(), written)
+        });
+        match into(bytes.len()) {
+            Err(Refused(NO_ROOM)) => into(room(bytes)?),
+            made => made,
+        }
+    }
+
     /// The member `amount` of what the bytes mean.
     pub fn amount(bytes: &[u8]) -> Result<i32, Refused> {
         let mut value = 0;
@@ -275,6 +287,7 @@ pub mod transfer {
         fn transfer_canonical(bytes: *const u8, bytes_len: usize, out: *mut u8, out_len: usize, written: *mut usize) -> u32;
         fn transfer_room(bytes: *const u8, bytes_len: usize, room: *mut usize) -> u32;
         fn transfer_is_canonical(bytes: *const u8, bytes_len: usize) -> u32;
+        fn transfer_canonical_declared(bytes: *const u8, bytes_len: usize, out: *mut u8, out_len: usize, written: *mut usize) -> u32;
         fn transfer_to(bytes: *const u8, bytes_len: usize, out: *mut u8, out_len: usize, written: *mut usize) -> u32;
         fn transfer_day(bytes: *const u8, bytes_len: usize, value: *mut i32) -> u32;
     }
@@ -314,6 +327,17 @@ pub mod transfer {
     pub fn canonical(bytes: &[u8]) -> Result<Vec<u8>, Refused> {
         let into = |room| super::copied(room, |out, written| unsafe {
             transfer_canonical(bytes.as_ptr(), bytes.len(), out.as_mut_ptr(), out.len(), written)
+        });
+        match into(bytes.len()) {
+            Err(Refused(NO_ROOM)) => into(room(bytes)?),
+            made => made,
+        }
+    }
+
+    /// The encoding of what is left without the fields that aren't declared, in the messages inside, too.
+    pub fn canonical_declared(bytes: &[u8]) -> Result<Vec<u8>, Refused> {
+        let into = |room| super::copied(room, |out, written| unsafe {
+            transfer_canonical_declared(bytes.as_ptr(), bytes.len(), out.as_mut_ptr(), out.len(), written)
         });
         match into(bytes.len()) {
             Err(Refused(NO_ROOM)) => into(room(bytes)?),
