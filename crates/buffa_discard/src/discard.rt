@@ -12,7 +12,7 @@ use std::hash::Hash;
 /// Messages that are an optional member, in a list or in a map are gone through by the impls below.
 ///
 /// ```ignore
-/// message.discard_unknown_fields(alloc);
+/// payment.discard_unknown_fields(alloc);
 /// ```
 pub trait DiscardUnknown: Drop {
     /// Whether the second is the first without them: its members are the same, but for the messages in it, which are without
@@ -22,7 +22,7 @@ pub trait DiscardUnknown: Drop {
     /// Takes them out. It asks for no memory.
     ///
     /// ```ignore
-    /// message.discard_unknown_fields(alloc);
+    /// payment.discard_unknown_fields(alloc);
     /// ```
     fn discard_unknown_fields(&mut self, alloc: Global)
         ensures { Discarded self.old self.new };

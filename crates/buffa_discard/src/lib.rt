@@ -3,7 +3,7 @@
 //! A program that passes a message on, and vouches for what it knows of it alone, takes the others out first.
 //!
 //! ```ignore
-//! message.discard_unknown_fields(alloc);
+//! payment.discard_unknown_fields(alloc);
 //! ```
 #![tactic(auto)]
 
