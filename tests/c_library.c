@@ -3,7 +3,7 @@
  *     payment|transfer HEX LONGEST DEPTH UNKNOWN UNITS
  *
  * The bytes lie before a page that nothing may touch, in pages that nothing may write; so does the room, which each call gets
- * exactly, a byte short, and longer. Each call is made again with its first request for memory refused, then its second, and so on.
+ * exactly, a byte short, and longer, and the path of a place, which gets no step, one, as many as there are, and more. Each call is made again with its first request for memory refused, then its second, and so on.
  * It ends with status 1 where a byte past the room or before it changes, memory isn't freed, a refused call leaves something
  * behind, or an answer differs between two calls. With the word quick, memory is refused nowhere. */
 #include "sample_payment_c.h"
@@ -48,22 +48,27 @@ struct message {
     const char *name;
     uint32_t (*check)(const uint8_t *, size_t);
     uint32_t (*within)(const uint8_t *, size_t, size_t, uint32_t, size_t, size_t);
+    uint32_t (*place)(const uint8_t *, size_t, size_t, uint32_t, size_t, size_t, struct buffa_step *, size_t, size_t *, size_t *);
     uint32_t (*canonical)(const uint8_t *, size_t, uint8_t *, size_t, size_t *);
+    uint32_t (*declared)(const uint8_t *, size_t, uint8_t *, size_t, size_t *);
     uint32_t (*room)(const uint8_t *, size_t, size_t *);
     uint32_t (*is_canonical)(const uint8_t *, size_t);
     uint32_t (*number)(const uint8_t *, size_t, int32_t *);
     uint32_t (*text)(const uint8_t *, size_t, uint8_t *, size_t, size_t *);
 };
 static const struct message MESSAGES[] = {
-    {"payment", payment_check, payment_check_within, payment_canonical, payment_room, payment_is_canonical, payment_amount, payment_note},
-    {"transfer", transfer_check, transfer_check_within, transfer_canonical, transfer_room, transfer_is_canonical, transfer_day, transfer_to},
+    {"payment", payment_check, payment_check_within, payment_place, payment_canonical, payment_canonical_declared, payment_room, payment_is_canonical, payment_amount,
+     payment_note},
+    {"transfer", transfer_check, transfer_check_within, transfer_place, transfer_canonical, transfer_canonical_declared, transfer_room, transfer_is_canonical, transfer_day,
+     transfer_to},
 };
 
 /* A row, and the memory of its calls. */
 static const struct message *m;
 static const uint8_t *bytes;
-static uint8_t *out, *pages_in, *pages_out, saved[1 << 16];
-static size_t len, size, out_len, written, limits[4];
+static uint8_t *out, *pages_in, *pages_out, *pages_path, saved[1 << 16];
+static struct buffa_step *path;
+static size_t len, size, out_len, written, limits[4], steps, offset;
 static int32_t value;
 
 static void see(int holds, const char *what) {
@@ -76,6 +81,7 @@ static void see(int holds, const char *what) {
 static uint32_t check(void) { return m->check(bytes, len); }
 static uint32_t within(void) { return m->within(bytes, len, limits[0], (uint32_t)limits[1], limits[2], limits[3]); }
 static uint32_t canonical(void) { return m->canonical(bytes, len, out, out_len, &written); }
+static uint32_t declared(void) { return m->declared(bytes, len, out, out_len, &written); }
 static uint32_t room(void) { return m->room(bytes, len, &written); }
 static uint32_t is_canonical(void) { return m->is_canonical(bytes, len); }
 static uint32_t number(void) { return m->number(bytes, len, &value); }
@@ -133,6 +139,42 @@ static uint32_t filling(uint32_t (*it)(void), int is_quick, size_t most) {
     return answer;
 }
 
+/* The place, in a path of so many steps, behind calls with less memory. Only the steps that are told are written. */
+static uint32_t place(size_t path_len, int is_quick) {
+    uint8_t *at = pages_path + size - path_len * sizeof *path;
+    path = (struct buffa_step *)at;
+    for (long count = is_quick ? 1000 : 0;; count++) {
+        memset(pages_path, FILL, size);
+        steps = offset = 777, granted = count;
+        uint32_t answer = m->place(bytes, len, limits[0], (uint32_t)limits[1], limits[2], limits[3], path, path_len, &steps, &offset);
+        see(blocks == 0, "a block isn't freed by a place");
+        see(answer != BUFFA_OUT_OF_MEMORY || granted < 0, "want of memory for a place where none was refused");
+        int is_told = answer != BUFFA_ACCEPTED && answer != BUFFA_TOO_LONG && answer != BUFFA_OUT_OF_MEMORY;
+        see(is_told || (!steps && !offset), "a place that is none");
+        size_t told = steps < path_len ? steps : path_len;
+        for (uint8_t *other = pages_path; other < pages_path + size; other++)
+            see(*other == FILL || (other >= at && other < at + told * sizeof *path), "a byte beside the steps of a place");
+        if (answer != BUFFA_OUT_OF_MEMORY)
+            return answer;
+        see(count < 1000, "a place that never has enough memory");
+    }
+}
+
+/* The same with a path of no step, of one, and of more than there are; and prints it. */
+static void print_place(int is_quick) {
+    uint32_t answer = place(0, is_quick);
+    size_t wanted = steps, at_byte = offset;
+    printf(" %u %zu ", answer, at_byte);
+    size_t rooms[] = {1, wanted, wanted + 3};
+    for (int at = 0; at < 3; at++)
+        see(place(rooms[at], is_quick) == answer && steps == wanted && offset == at_byte, "a place by a path of another length");
+    for (size_t at = 0; at < wanted; at++) {
+        see(path[at].listed <= 1 && (path[at].listed || !path[at].index), "a step");
+        printf(path[at].listed ? ".%u[%zu]" : ".%u", path[at].number, path[at].index);
+    }
+    printf(wanted ? "" : "-");
+}
+
 static void print_written(uint32_t answer) {
     printf(" %u ", answer);
     for (size_t at = 0; !answer && at < written; at++)
@@ -152,6 +194,8 @@ static void row(int is_quick) {
     answer = call(number, 0, is_quick, 0);
     printf(" %u %d", answer, value);
     print_written(filling(text, is_quick, len));
+    print_place(is_quick);
+    print_written(filling(declared, is_quick, wanted));
     printf("\n");
 }
 
@@ -166,7 +210,7 @@ int main(int count, char **words) {
     static char name[16], hex[1 << 16];
     int is_quick = count > 1 && !strcmp(words[1], "quick");
     size = PAGES * (size_t)sysconf(_SC_PAGESIZE);
-    pages_in = guarded(), pages_out = guarded();
+    pages_in = guarded(), pages_out = guarded(), pages_path = guarded();
     while (scanf("%15s %65535s %zu %zu %zu %zu", name, hex, &limits[0], &limits[1], &limits[2], &limits[3]) == 6) {
         m = &MESSAGES[strcmp(name, "payment") != 0];
         len = hex[0] == '-' ? 0 : strlen(hex) / 2;

@@ -18,6 +18,7 @@ import importlib.machinery
 import importlib.util
 import os
 import random
+import re
 import shutil
 import subprocess
 import sys
@@ -25,7 +26,8 @@ import tempfile
 
 import rules
 import member_reading  # noqa: F401, which declares the types
-from rules import BLANKS, Budget, Fault, merge, message_text
+from place_reading import stops
+from rules import BLANKS, BY_MEMBERS, Budget, Fault, merge, message_text
 
 TOP = os.path.dirname(os.path.dirname(os.path.abspath(__file__)))
 NAME = "sample_payment_c"
@@ -65,10 +67,28 @@ def wanted(kind, text, limits):
     message = read(kind, text, USUAL)
     answer, checked = number_of(message), number_of(read(kind, text, limits))
     if answer:
-        return f"{answer} {checked} {answer} 0 {answer} - {answer} {answer} {OLD} {answer} -"
+        return f"{answer} {checked} {answer} 0 {answer} - {answer} {answer} {OLD} {answer} - {place(kind, text, limits)} {answer} -"
     encoding, (number, told) = message_text(kind, message), TOLD[kind]
     canonical = 0 if encoding == text else NOT_CANONICAL
-    return f"0 {checked} 0 {len(encoding)} 0 {encoding.hex() or '-'} {canonical} 0 {message[number]} 0 {message[told].hex() or '-'}"
+    told = f"0 {message[number]} 0 {message[told].hex() or '-'}"
+    left = message_text(kind, declared(kind, message)).hex() or "-"
+    return f"0 {checked} 0 {len(encoding)} 0 {encoding.hex() or '-'} {canonical} {told} {place(kind, text, limits)} 0 {left}"
+
+
+def place(kind, text, limits):
+    """The answer of a call for a place, the offset and the path."""
+    longest, depth, unknown, units = limits
+    found = None if len(text) > longest else stops(kind, text, 0, depth, Budget(unknown, units))
+    if not found:
+        return f"{number_of(read(kind, text, limits))} 0 -"
+    path = "".join(f".{number}" if index is None else f".{number}[{index}]" for number, index in found.path)
+    return f"{FAULTS.index(found.fault.split()[0]) + 1} {found.offset} {path or '-'}"
+
+
+def declared(kind, message):
+    """What is left of a message of cases and single members without what it keeps, in those inside, too."""
+    parts = zip(BY_MEMBERS[kind].members, message)
+    return *(declared(of, part) if of in BY_MEMBERS and part is not None else part for (_, _, of), part in parts), b""
 
 
 def rows():
@@ -145,7 +165,7 @@ def built(room):
 
 def is_as_made():
     """Whether what is checked in is what c_library writes, where protoc is there to say it."""
-    words = [f"{TOP}/tools/c_library", "--check", "--types", "sample_payment", "-I../sample_payment", "../sample_payment/payment.proto", "Payment", "Transfer"]
+    words = [f"{TOP}/tools/c_library", "--check", "--types", "sample_payment", "discard=all", "places=all", "-I../sample_payment", "../sample_payment/payment.proto", "Payment", "Transfer"]
     return not shutil.which("protoc") or subprocess.run(words, cwd=CRATE).returncode == 0
 
 
@@ -191,7 +211,11 @@ def from_python(room, calls):
         number, member = (told(getattr(module, f"{kind}_{it}"), text) for it in {"payment": ("amount", "note"), "transfer": ("day", "to")}[kind])
         made = [answers["check"][0], answers["within"][0], answers["room"][0], answers["room"][1] or 0, answers["canonical"][0]]
         made += [(answers["canonical"][1] or b"").hex() or "-", answers["is_canonical"][0], number[0], OLD if number[1] is None else number[1]]
-        return " ".join(map(str, [*made, member[0], (member[1] or "").encode().hex() or "-"]))
+        answer, found = told(module.__dict__[f"{kind}_place"], text, *limits)
+        answer, offset, path = (found.fault, found.offset, found.path) if found else (answer, 0, ())
+        left = told(getattr(module, f"{kind}_canonical_declared"), text)
+        made += [member[0], (member[1] or "").encode().hex() or "-", answer, offset, "".join(f".{it.number}" for it in path) or "-"]
+        return " ".join(map(str, [*made, left[0], (left[1] or b"").hex() or "-"]))
 
     return [line(*it) for it in calls]
 
@@ -201,9 +225,19 @@ def from_example(program, calls):
     return [subprocess.run(program, input=text, capture_output=True, timeout=SECONDS).stdout.decode().strip() for _, text, _ in calls]
 
 
-def of_example(kind, text):
+# The names of the fields of a payment; a transfer is in the fourth.
+FIELD_NAMES = {".1": "amount", ".2": "card", ".3": "cash", ".4": "transfer", ".5": "note", ".4.1": "transfer.to", ".4.2": "transfer.day"}
+
+
+def of_example(kind, text, has_names):
+    """What an example prints: the encoding, or where the bytes are refused, in names or as the number of the answer."""
     message = read(kind, text, USUAL)
-    return f"refused {message}" if isinstance(message, int) else message_text(kind, message).hex()
+    if not isinstance(message, int):
+        return message_text(kind, message).hex()
+    answer, offset, path = place(kind, text, USUAL).split()
+    fault = re.sub(r"(?<!^)([A-Z])", r"_\1", FAULTS[message - 1]).upper()
+    named = FIELD_NAMES.get(path, path.strip("-.").replace("4.", "transfer."))
+    return f"refused: {named}{' ' if named else ''}at byte {offset}: {fault}" if has_names else f"refused {answer} at byte {offset}"
 
 
 def see_examples(room, payments, differences):
@@ -212,7 +246,7 @@ def see_examples(room, payments, differences):
     if shutil.which("rustc"):
         examples["example in Rust"] = [f"{room}/library/out/example_rust"]
     for name, program in examples.items():
-        differences.compare(name, payments, from_example(program, payments), [of_example(kind, text) for kind, text, _ in payments])
+        differences.compare(name, payments, from_example(program, payments), [of_example(kind, text, name != "example in C") for kind, text, _ in payments])
 
 
 def see_cases(room):

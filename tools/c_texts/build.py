@@ -54,7 +54,7 @@ int main(void) {{
     size_t len = fread(bytes, 1, sizeof bytes, stdin), room = 0, written = 0;
     uint32_t answer = {name}_check(bytes, len);
     if (answer != BUFFA_ACCEPTED || (answer = {name}_room(bytes, len, &room)) != BUFFA_ACCEPTED) {{
-        printf("refused %u\\n", answer);
+{refused}
         return 1;
     }}
     uint8_t *out = malloc(room ? room : 1);
@@ -77,7 +77,7 @@ fn main() -> std::io::Result<()> {{
     match {crate}::{module}::check(&bytes).and_then(|()| {crate}::{module}::canonical(&bytes)) {{
         Ok(out) => println!("{{}}", out.iter().map(|it| format!("{{it:02x}}")).collect::<String>()),
         Err(refused) => {{
-            println!("refused {{}}", refused.0);
+{refused}
             std::process::exit(1);
         }}
     }}
@@ -95,9 +95,35 @@ try:
     {crate}.{name}_check(data)
     print({crate}.{name}_canonical(data).hex())
 except {crate}.Refused as refused:
-    print("refused", refused.answer)
+    {refused}
     sys.exit(1)
 '''
+
+# What an example says of refused bytes: where they are refused, if a call tells that, or else the number of the answer.
+REFUSED = {
+    "c": '        printf("refused %u\\n", answer);',
+    "rs": '            println!("refused {{}}", refused.0);',
+    "py": 'print("refused", refused.answer)',
+}
+LOCATED = {
+    "c": """        size_t steps, offset;
+        {name}_place(bytes, len, BUFFA_USUAL, path, sizeof path / sizeof *path, &steps, &offset);
+        printf("refused %u at byte %zu\\n", answer, offset);""",
+    "rs": """            match {crate}::{module}::place(&bytes, Default::default()) {{
+                Ok(Some(place)) => println!("refused: {{place}}"),
+                _ => println!("refused {{}}", refused.0),
+            }}""",
+    "py": 'print("refused:", {crate}.{name}_place(data) or refused)',
+}
+
+
+def example(text, kind, library, words):
+    """An example: its text, with what it says of refused bytes."""
+    refused = (LOCATED if library.is_located else REFUSED)[kind].format(**words)
+    made = text.format(**words, refused=refused)
+    if kind == "c" and library.is_located:
+        made = made.replace("static uint8_t bytes[1 << 16];\n", "static uint8_t bytes[1 << 16];\nstatic struct buffa_step path[8];\n")
+    return made
 
 
 def exports_map(library):
@@ -106,7 +132,7 @@ def exports_map(library):
 
 
 def names_of(gate):
-    return ["check", "check_within", "canonical", "room", "is_canonical"] + [it.name for it in gate.told]
+    return ["check", "check_within"] + ["place"] * gate.is_located + ["canonical", "room", "is_canonical"] + ["canonical_declared"] * gate.is_discarding + [it.name for it in gate.told]
 
 
 def files(library):
@@ -116,7 +142,7 @@ def files(library):
         "Makefile": MAKEFILE.format(crate=library.crate),
         "heap.c": HEAP,
         "exports.map": exports_map(library),
-        "example.c": EXAMPLE_C.format(**words),
-        "example.rs": EXAMPLE_RUST.format(**words),
-        "example.py": EXAMPLE_PYTHON.format(**words),
+        "example.c": example(EXAMPLE_C, "c", library, words),
+        "example.rs": example(EXAMPLE_RUST, "rs", library, words),
+        "example.py": example(EXAMPLE_PYTHON, "py", library, words),
     }

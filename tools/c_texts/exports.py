@@ -4,6 +4,8 @@ from text import WIDTH, use_line
 LONGEST = 120
 DEPTH = "RECURSION_LIMIT"
 WITHIN = "record { longest = longest; depth = depth; unknown = unknown; units = units }"
+LIMITS = ["longest: usize", "depth: u32", "unknown: usize", "units: usize"]
+MADE_LIMITS = ["let limits = Limits {", "    longest,", "    depth,", "    unknown,", "    units,", "};"]
 
 
 def filled(indent, pieces, tail, more="    "):
@@ -66,10 +68,18 @@ def check_body(gate, limits):
 def check(gate):
     whole = ", with all that is required" if gate.is_asked else ""
     made = export([f"Whether the bytes are accepted as `{gate.rust}`{whole}."], f"{gate.prefix}_check", [], checks(gate, "USUAL", DEPTH), check_body(gate, "USUAL"))
-    more = ["longest: usize", "depth: u32", "unknown: usize", "units: usize"]
-    body = ["let limits = Limits {", "    longest,", "    depth,", "    unknown,", "    units,", "};"] + check_body(gate, "limits")
+    body = MADE_LIMITS + check_body(gate, "limits")
     docs = [f"Whether the bytes are accepted as `{gate.rust}`{whole}, under limits of the caller's."]
-    return made + export(docs, f"{gate.prefix}_check_within", more, checks(gate, WITHIN, "depth"), body)
+    return made + export(docs, f"{gate.prefix}_check_within", LIMITS, checks(gate, WITHIN, "depth"), body)
+
+
+def place(gate):
+    """The call that tells where bytes are refused."""
+    more = LIMITS + ["path: &mut [PathStep]", "steps: &mut usize", "offset: &mut usize"]
+    told = [spec(gate, "merged"), spec(gate, "cost"), blank(gate), WITHIN, "bytes.now", "result", "path.old", "path.new", "steps.new", "offset.new"]
+    docs = [f"Where the bytes are refused as `{gate.rust}`, under limits of the caller's."]
+    body = MADE_LIMITS + [f"place_of::<{gate.rust}>(alloc, bytes, limits, path, steps, offset)"]
+    return export(docs, f"{gate.prefix}_place", more, clause("TellsPlace", told), body)
 
 
 def encodings(gate):
@@ -81,6 +91,15 @@ def encodings(gate):
         clause("Rewrites", pieces + ["result", "out.old", "out.new", "written.new"]),
         [f"canonical::<{gate.rust}>(alloc, bytes, USUAL, out, written)"],
     )
+    if gate.is_discarding:
+        left = [f"⟦<{gate.rust} as Blank>⟧.meaning", f"⟦<{gate.rust} as DiscardUnknown>⟧.Discarded"]
+        made += export(
+            [f"The encoding of what is left of the `{gate.rust}` that the bytes mean, without the fields that aren't declared."],
+            f"{name}_canonical_declared",
+            ["out: &mut [u8]", "written: &mut usize"],
+            clause("RewritesDeclared", pieces[:2] + left + pieces[2:] + ["result", "out.old", "out.new", "written.new"]),
+            [f"canonical_declared::<{gate.rust}>(alloc, bytes, USUAL, out, written)"],
+        )
     made += export(
         [f"How many bytes `{name}_canonical` writes."],
         f"{name}_room",
@@ -147,7 +166,7 @@ def tell_body(gate, told):
 
 def text(gate):
     """The file of a message's exports."""
-    made = check(gate) + encodings(gate)
+    made = check(gate) + (place(gate) if gate.is_located else []) + encodings(gate)
     for told in gate.told:
         made += tells(gate, told)
     body = "\n".join(made)
@@ -155,12 +174,16 @@ def text(gate):
     head += ["ghost use Rattle.std.specs.Prelude.{option_map};"] * ("option_map" in body)
     answers = ["Checks"] * (" Checks " in body or " Checks\n" in body) + ["ChecksWhole"] * gate.is_asked
     head += [f"ghost use Rattle.buffa_c.specs.Answers.{{{', '.join(answers)}, NumbersFault}};"]
-    head += ["ghost use Rattle.buffa_c.specs.Encodings.{ChecksCanonical, Measures, Rewrites};"]
+    head += [f"ghost use Rattle.buffa_c.specs.Encodings.{{ChecksCanonical, Measures, Rewrites{', RewritesDeclared' * gate.is_discarding}}};"]
+    head += ["ghost use Rattle.buffa_c.specs.Places.{TellsPlace};"] * gate.is_located
     used = [it for it in ("ChecksRoom", "CopiesBytes", "CopiesBytesIf", "TellsNumber", "TellsNumberIf") if f"{{ {it} " in body or f"{{ {it}\n" in body]
     head += [f"ghost use Rattle.buffa_c.specs.Members.{{{', '.join(used)}}};"] * bool(used)
     calls = {"Limits", "USUAL", "canonical", "is_canonical", "room_of"} | {it for it in ("check", "check_whole", "put", "put_some", "read") if f"{it}::<" in body or f" {it}(" in body}
-    calls |= {it for it in ("ACCEPTED",) if it in body}
+    calls |= {"canonical_declared"} if gate.is_discarding else set()
+    calls |= {it for it in ("ACCEPTED",) if it in body} | ({"PathStep", "place_of"} if gate.is_located else set())
     modules = {"buffa_c": calls, "buffa_fields": {"Blank", "MessageSpec", "RECURSION_LIMIT"} | ({"Required"} if gate.is_asked else set()), gate.path: {gate.rust}, "std::alloc": {"Global"}}
+    if gate.is_discarding:
+        modules["buffa_discard"] = {"DiscardUnknown"}
     uses = []
     for module in sorted(modules, key=lambda it: (not it.startswith("crate::"), it)):
         uses += use_line(module, sorted(modules[module]))

@@ -26,7 +26,7 @@ ANSWERS = [
 OWED = """What a caller owes, which nothing checks:
 
 - No pointer is null, also where a length is 0: pass any address then.
-- bytes has bytes_len bytes that nobody changes during the call, and out has out_len bytes.
+- bytes has bytes_len bytes that nobody changes during the call, out has out_len bytes, and path has path_len steps.
 - No two of the pointers of a call overlap.
 - One heap: the program's malloc, realloc and free, by heap.c (or the kit's liblibc_c.a), which align each block to 16.
 - No call from a signal handler, nor from the forked child of a process with threads.
@@ -35,7 +35,20 @@ OWED = """What a caller owes, which nothing checks:
 Several threads may call at once. A call keeps no pointer, and frees all that it asked for before it returns.
 
 An answer is 0, BUFFA_ACCEPTED, or says why not. Where it isn't 0, out and what a number is told in are as they were, and
-*written and *room are 0. So is *there, but with BUFFA_NO_ROOM."""
+*written and *room are 0. So is *there, but with BUFFA_NO_ROOM. Of a place the opposite holds: it is told where the bytes are
+refused, and where they are accepted, are too many, or memory runs out, path is as it was, and *steps and *offset are 0."""
+
+STEP = """#ifndef BUFFA_USUAL
+/* A field on the way to the place at which bytes are refused. */
+struct buffa_step {
+    uint32_t number; /* its number */
+    uint32_t listed; /* 1 where it is an element of a list or an entry of a map, else 0 */
+    size_t index;    /* how many fields of this number are in front of it then, else 0 */
+};
+/* The limits of a call that takes none, for one that does: most bytes, depth, undeclared fields, units of memory. */
+#define BUFFA_USUAL 2147483647, 100, 1000000, 268435456
+#endif
+"""
 
 HEAP = """/* What a library asks of the heap, over malloc, realloc and free. */
 #include <stddef.h>
@@ -64,6 +77,8 @@ void rattle_dealloc(void *at) {
 }
 """
 
+LIMITS = ["size_t longest", "uint32_t depth", "size_t unknown", "size_t units"]
+
 
 def comment(lines):
     return ["/* " + lines[0]] + [f"   {it}".rstrip() for it in lines[1:-1]] + [f"   {lines[-1]} */"] if len(lines) > 1 else [f"/* {lines[0]} */"]
@@ -79,9 +94,15 @@ def calls(gate, numbers):
     out = ["uint8_t *out", "size_t out_len", "size_t *written"]
     made = ["", *comment([f"Whether the bytes are accepted as {gate.full}{whole}: at most 2^31 - 1 of them, 100 messages and groups deep, with at most", "1,000,000 fields that aren't declared, and 2^28 units of memory for map entries and messages in lists."])]
     made += [call(f"{gate.prefix}_check", []), *comment(["The same under limits of yours."])]
-    made += [call(f"{gate.prefix}_check_within", ["size_t longest", "uint32_t depth", "size_t unknown", "size_t units"])]
+    made += [call(f"{gate.prefix}_check_within", LIMITS)]
+    if gate.is_located:
+        made += comment(["Where the bytes are refused, and the number of the fault: the fields to the first refused record, from the outside in, in path, as", "many as it holds; how many they are in *steps; and in *offset where the record begins."])
+        made += [call(f"{gate.prefix}_place", LIMITS + ["struct buffa_step *path", "size_t path_len", "size_t *steps", "size_t *offset"])]
     made += comment(["The encoding of what the bytes mean: written to the front of out, with its length in *written; its length alone; and whether", "the bytes are that encoding."])
     made += [call(f"{gate.prefix}_canonical", out), call(f"{gate.prefix}_room", ["size_t *room"]), call(f"{gate.prefix}_is_canonical", [])]
+    if gate.is_discarding:
+        made += comment(["The encoding of what is left without the fields that aren't declared, in the messages inside, too. It isn't longer than the other."])
+        made += [call(f"{gate.prefix}_canonical_declared", out)]
     if gate.told:
         made += comment(["Members of what the bytes mean. A text has no 0 behind it, and is never longer than bytes_len."])
     for told in gate.told:
@@ -97,6 +118,7 @@ def text(library, numbers):
     made += [f"#ifndef {guard}", f"#define {guard}", "#include <stdbool.h>", "#include <stddef.h>", "#include <stdint.h>", ""]
     made += ["#ifndef BUFFA_ANSWERS", "#define BUFFA_ANSWERS", "enum buffa_answer {", "    BUFFA_ACCEPTED = 0,"]
     made += [f"    BUFFA_{name} = {at}, /* {said} */" for at, (name, said) in enumerate(ANSWERS, 1)] + ["};", "#endif", ""]
+    made += STEP.split("\n") if library.is_located else []
     made += ["#ifdef __cplusplus", 'extern "C" {', "#endif"]
     for gate in library.gates:
         made += calls(gate, numbers)

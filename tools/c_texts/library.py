@@ -4,6 +4,7 @@ from google.protobuf.descriptor_pb2 import FieldDescriptorProto as Field
 from blocks import blocks
 from names import KEYWORDS, snake
 from oneof import OneOf
+from world import MESSAGES
 
 # What a number is in C, in Rust, and in Python's ctypes.
 NUMBERS = {
@@ -15,7 +16,7 @@ NUMBERS = {
 }
 REALS = {"FloatBits": ("u32", "f32"), "DoubleBits": ("u64", "f64")}
 # The calls of each message beside those of its members.
-CALLS = "check check_within canonical room is_canonical".split()
+CALLS = "check check_within place canonical canonical_declared room is_canonical".split()
 
 
 class Told:
@@ -50,8 +51,10 @@ def is_told(member):
 class Gate:
     """A message, and what calls say of its bytes."""
 
-    def __init__(self, message, types):
+    def __init__(self, message, types, told):
         self.message, self.rust, self.snake, self.full = message, message.rust, snake(message.rust), message.name.full
+        # Whether its type says which of its fields hold messages, so that a place can be told; and whether it takes out what isn't declared.
+        self.is_located, self.is_discarding = "places" in told, "discard" in told and message.discards
         self.prefix = self.snake.rstrip("_")
         self.path, self.file = "::".join([types, self.snake]), message.name.file.shown
         self.is_asked, self.told = bool(message.asked), []
@@ -66,9 +69,24 @@ class Gate:
 class Library:
     """All that a run makes: the crate's name, its messages, and the .proto files that they are from."""
 
-    def __init__(self, crate, messages, types):
-        self.crate, self.gates = crate, [Gate(it, types) for it in messages]
+    def __init__(self, crate, messages, types, told):
+        self.crate, self.gates, self.is_located = crate, [Gate(it, types, told) for it in messages], "places" in told
         self.files = sorted({it.file for it in self.gates})
         taken = {f"{gate.prefix}_{name}" for gate in self.gates for name in CALLS}
         for gate in self.gates:
             gate.find_told(taken)
+
+    def find_fields(self, world):
+        """Finds the fields by which a place is named, of each message, its own first: their numbers, their names, and which message is in them."""
+        order, made = [it.full for it in self.gates], []
+        for full in order:
+            fields = [(it.number, it.name, held(world, it)) for it in sorted(world.found[full].it.field, key=lambda it: it.number)]
+            order += [it for it in dict.fromkeys(inside for _, _, inside in fields) if it and it not in order]
+            made.append([(number, name, order.index(inside) if inside else None) for number, name, inside in fields])
+        self.fields = made
+
+
+def held(world, field):
+    """The message that a field holds, in a map, too, or none."""
+    full = world.target(field) if field.type in MESSAGES else None
+    return full if full and hasattr(world.found[full].it, "field") else None

@@ -2,6 +2,7 @@
 import re
 
 import blocks
+import discard
 import getters
 import recursive
 import labels
@@ -449,7 +450,7 @@ def write_message(world, message, messages, enums):
     made += extension_set(message) if has_extensions(message) else []
     made += [] if message.has_told_cost(messages) else takes_its_cost(message)
     made += required.initialized(message) + packed.impl(message) + own_calls(message, enums)
-    return "\n".join(made + places.located(message, blocks.arm, called)) + "\n"
+    return "\n".join(made + places.located(message, blocks.arm, called) + discard.discarding(message)) + "\n"
 
 
 def own_calls(message, enums):
@@ -490,7 +491,7 @@ def write_oneof(world, one, message):
     made += uses(world, needs, {i for k in one.cases for i in k.imports}) + [""] + oneof.enum(one, docs)
     made += [f"impl OneOf for {one.enum} {{"] + oneof.meaning(one) + [""] + oneof.cases(one) + oneof.visit(one)
     made += oneof.take(one) + oneof.reads_back(one) + ["}"] + oneof.takes_of_groups(one)
-    return "\n".join(made + required.initialized_enum(one, message)) + "\n"
+    return "\n".join(made + required.initialized_enum(one, message) + discard.discarding_enum(one, message)) + "\n"
 
 
 def cases(head, parts):

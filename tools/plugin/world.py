@@ -8,7 +8,7 @@ from files import File, Name, Refused, clean
 from names import LONGEST_FILE, camel, is_free_type, snake
 
 # Parameters that have a single value.
-PARAMETERS = {"any": "all", "clone": "all", "equal": "all", "maps": "ordered", "names": "all", "places": "all", "strings": "bytes",
+PARAMETERS = {"any": "all", "clone": "all", "discard": "all", "equal": "all", "maps": "ordered", "names": "all", "places": "all", "strings": "bytes",
               "well_known": "here", "words": "all"}
 # Parameters that are of a field.
 FIELD_KEYS = ("bytes", "delimited", "encoded", "implicit", "optional", "ordered", "shared")

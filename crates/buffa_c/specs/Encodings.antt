@@ -36,6 +36,20 @@ pub record Rewrites {X : Type 0} (merged : Option X) (cost : BudgetLeft) (encodi
   pub too_large : answer ≡ TOO_LARGE → AreAccepted merged cost limits bytes × ((v : X) × (merged ≡ Some v) × (2 ^ 31 ≤ length (encoding v)))
   pub other : answer ≢ ACCEPTED → answer ≢ NO_ROOM → answer ≢ TOO_LARGE → IsUnwritten merged cost limits bytes answer
 
+-- a message that is left of the one that the bytes mean, when the fields are taken out that aren't declared
+pub record IsLeft {X M : Type 0} (merged : Option X) (meaning : M → X) (Discarded : M → M → Type 0) (left : M) : Type 0 where
+  pub message : M
+  pub means : merged ≡ Some (meaning message)
+  pub discarded : Discarded message left
+
+-- The same as `Rewrites` of the encoding of what is left of that message.
+pub record RewritesDeclared {X M : Type 0} (merged : Option X) (cost : BudgetLeft) (meaning : M → X) (Discarded : M → M → Type 0) (encoding : X → List ℕ) (limits : Limits) (bytes : List ℕ) (answer : ℕ) (old new : List ℕ) (written : ℕ) : Type 0 where
+  pub done : answer ≡ ACCEPTED → AreAccepted merged cost limits bytes × ((m : M) × IsLeft merged meaning Discarded m × (length (encoding (meaning m)) < 2 ^ 31) × FillsFront (encoding (meaning m)) old new written)
+  pub kept : answer ≢ ACCEPTED → (new ≡ old) × (written ≡ 0)
+  pub no_room : answer ≡ NO_ROOM → AreAccepted merged cost limits bytes × ((m : M) × IsLeft merged meaning Discarded m × (length (encoding (meaning m)) < 2 ^ 31) × (length old < length (encoding (meaning m))))
+  pub too_large : answer ≡ TOO_LARGE → AreAccepted merged cost limits bytes × ((m : M) × IsLeft merged meaning Discarded m × (2 ^ 31 ≤ length (encoding (meaning m))))
+  pub other : answer ≢ ACCEPTED → answer ≢ NO_ROOM → answer ≢ TOO_LARGE → IsUnwritten merged cost limits bytes answer
+
 -- the same of how many bytes that encoding has
 pub record Measures {X : Type 0} (merged : Option X) (cost : BudgetLeft) (encoding : X → List ℕ) (limits : Limits) (bytes : List ℕ) (answer : ℕ) (room : ℕ) : Type 0 where
   pub done : answer ≡ ACCEPTED → AreAccepted merged cost limits bytes × ((v : X) × IsWritable merged encoding v × (room ≡ length (encoding v)))

@@ -2,3 +2,4 @@
 pub mod Answers
 pub mod Encodings
 pub mod Members
+pub mod Places

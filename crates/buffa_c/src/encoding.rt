@@ -1,12 +1,13 @@
 //! The encoding of the message that bytes mean.
 
 ghost use Rattle.std.specs.Prelude.{◌≡◌, ◌≢◌, ◌<◌, ◌≤◌, ◌^◌, length, IfErr, IfOk, OnOk};
-ghost use Rattle.buffa_c.specs.Encodings.{ChecksCanonical, Measures, Rewrites};
+ghost use Rattle.buffa_c.specs.Encodings.{ChecksCanonical, Measures, Rewrites, RewritesDeclared};
 
 use crate::answer::{ACCEPTED, NO_ROOM, NOT_CANONICAL, OUT_OF_MEMORY, TOO_LARGE};
 use crate::copying::put;
 use crate::limits::Limits;
 use crate::reading::read;
+use buffa_discard::DiscardUnknown;
 use buffa_fields::{MAX_MESSAGE_BYTES, Message, SizeCache};
 use std::alloc::Global;
 
@@ -47,7 +48,7 @@ fn encoded<M: Message>(alloc: Global, message: &M, most: usize) -> Result<Vec<u8
 /// the room is as it was, and 0 bytes were written.
 ///
 /// ```ignore
-/// canonical::<Payment>(alloc, bytes, USUAL, room, written)
+/// canonical::<Payment>(alloc, bytes, USUAL, out, written)
 /// ```
 pub fn canonical<M: Message + Drop>(
     alloc: Global,
@@ -64,6 +65,36 @@ pub fn canonical<M: Message + Drop>(
         Ok(message) => message,
         Err(answer) => return answer,
     };
+    match encoded(alloc, &message, room.len()) {
+        Ok(encoding) => put(&encoding, room, written),
+        Err(answer) => answer,
+    }
+}
+
+/// Writes the encoding of what is left of the message that the bytes mean, when the fields are taken out that aren't declared:
+/// those of each message in it, too.
+///
+/// It answers as [`canonical`] does, of that encoding.
+///
+/// ```ignore
+/// canonical_declared::<Payment>(alloc, bytes, USUAL, out, written)
+/// ```
+pub fn canonical_declared<M: Message + DiscardUnknown + Drop>(
+    alloc: Global,
+    bytes: &[u8],
+    limits: Limits,
+    room: &mut [u8],
+    written: &mut usize,
+) -> u32
+    ensures { RewritesDeclared (M.merged limits.depth M.blank_is bytes.now) (M.cost limits.depth bytes.now) M.meaning
+        M.Discarded M.encoding limits bytes.now result room.old room.new written.new }
+{
+    *written = 0;
+    let mut message = match read::<M>(alloc, bytes, limits) {
+        Ok(message) => message,
+        Err(answer) => return answer,
+    };
+    message.discard_unknown_fields(alloc);
     match encoded(alloc, &message, room.len()) {
         Ok(encoding) => put(&encoding, room, written),
         Err(answer) => answer,

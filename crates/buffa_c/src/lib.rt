@@ -12,6 +12,7 @@ pub mod answer;
 pub mod copying;
 pub mod encoding;
 pub mod limits;
+pub mod place;
 pub mod reading;
 
 pub use answer::{
@@ -19,6 +20,7 @@ pub use answer::{
     fault_number,
 };
 pub use copying::{put, put_some};
-pub use encoding::{canonical, is_canonical, room_of};
+pub use encoding::{canonical, canonical_declared, is_canonical, room_of};
 pub use limits::{Limits, USUAL};
+pub use place::{PathStep, place_of};
 pub use reading::{check, check_whole, read};

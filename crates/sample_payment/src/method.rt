@@ -83,3 +83,19 @@ impl OneOf for Method {
         case_reads_back::<MessageField<Transfer>>();
     }
 }
+
+impl buffa_discard::DiscardUnknown for Method {
+    ghost use Rattle.std.specs.Prelude.{◌≡◌};
+
+    ghost Discarded = { λ old new. elim old [
+      | TransferCase x ↦ (y : _) × (new ≡ TransferCase y) × ⟦<Transfer as buffa_discard::DiscardUnknown>⟧.Discarded x y
+      | _ ↦ new ≡ old
+    ] };
+
+    fn discard_unknown_fields(&mut self, alloc: Global) {
+        match self {
+            Method::Transfer(it) => it.discard_unknown_fields(alloc),
+            _ => {}
+        }
+    }
+}

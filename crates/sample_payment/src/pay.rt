@@ -1,10 +1,11 @@
 //! How a `oneof` is read and set.
 
-ghost use Rattle.std.specs.Prelude.{◌≡◌, ◌↔◌, ℤ, IfOk, IsTrue, Some, string_bytes};
+ghost use Rattle.std.specs.Prelude.{[], ◌≡◌, ◌↔◌, ℤ, IfOk, IsTrue, Some, string_bytes};
 ghost use Rattle.sample_payment.specs.Payment.{card, cash, method, with_method};
 
 use crate::method::Method;
 use crate::payment::Payment;
+use buffa_discard::DiscardUnknown;
 use buffa_fields::Blank;
 use std::alloc::{AllocError, Global};
 
@@ -54,4 +55,12 @@ pub fn copy_of(payment: &Payment) -> Result<Payment, AllocError>
     ensures note { IfOk result (λ copy. string_bytes copy.note ≡ string_bytes payment.now.note) }
 {
     payment.clone()
+}
+
+/// Takes out of a payment, and of the transfer in it, what they don't declare.
+pub fn keep_declared(alloc: Global, payment: &mut Payment)
+    ensures amount { payment.new.amount ≡ payment.old.amount }
+    ensures nothing { payment.new.unknown_fields.records ≡ [] }
+{
+    payment.discard_unknown_fields(alloc);
 }

@@ -153,3 +153,16 @@ impl buffa_locate::Locate for Payment {
         }
     }
 }
+
+impl buffa_discard::DiscardUnknown for Payment {
+    ghost use Rattle.std.specs.Prelude.{[], ◌≡◌};
+
+    ghost Discarded = { λ old new. (new.amount ≡ old.amount)
+        × (⟦<Option<Method> as buffa_discard::DiscardUnknown>⟧.Discarded old.method new.method)
+        × (new.note ≡ old.note) × (new.unknown_fields.records ≡ []) };
+
+    fn discard_unknown_fields(&mut self, alloc: Global) {
+        self.method.discard_unknown_fields(alloc);
+        self.unknown_fields = UnknownFields::new(alloc);
+    }
+}

@@ -128,3 +128,13 @@ impl buffa_locate::Locate for Transfer {
         buffa_locate::nothing_inside(search, path)
     }
 }
+
+impl buffa_discard::DiscardUnknown for Transfer {
+    ghost use Rattle.std.specs.Prelude.{[], ◌≡◌};
+
+    ghost Discarded = { λ old new. (new.to ≡ old.to) × (new.day ≡ old.day) × (new.unknown_fields.records ≡ []) };
+
+    fn discard_unknown_fields(&mut self, alloc: Global) {
+        self.unknown_fields = UnknownFields::new(alloc);
+    }
+}

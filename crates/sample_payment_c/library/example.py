@@ -8,5 +8,5 @@ try:
     sample_payment_c.payment_check(data)
     print(sample_payment_c.payment_canonical(data).hex())
 except sample_payment_c.Refused as refused:
-    print("refused", refused.answer)
+    print("refused:", sample_payment_c.payment_place(data) or refused)
     sys.exit(1)

@@ -7,7 +7,10 @@ fn main() -> std::io::Result<()> {
     match sample_payment_c::payment::check(&bytes).and_then(|()| sample_payment_c::payment::canonical(&bytes)) {
         Ok(out) => println!("{}", out.iter().map(|it| format!("{it:02x}")).collect::<String>()),
         Err(refused) => {
-            println!("refused {}", refused.0);
+            match sample_payment_c::payment::place(&bytes, Default::default()) {
+                Ok(Some(place)) => println!("refused: {place}"),
+                _ => println!("refused {}", refused.0),
+            }
             std::process::exit(1);
         }
     }

@@ -2,10 +2,15 @@
 
 ghost use Rattle.std.specs.Prelude.{option_map};
 ghost use Rattle.buffa_c.specs.Answers.{Checks, NumbersFault};
-ghost use Rattle.buffa_c.specs.Encodings.{ChecksCanonical, Measures, Rewrites};
+ghost use Rattle.buffa_c.specs.Encodings.{ChecksCanonical, Measures, Rewrites, RewritesDeclared};
+ghost use Rattle.buffa_c.specs.Places.{TellsPlace};
 ghost use Rattle.buffa_c.specs.Members.{ChecksRoom, CopiesBytes, TellsNumber};
 
-use buffa_c::{ACCEPTED, Limits, USUAL, canonical, check, is_canonical, put, read, room_of};
+use buffa_c::{
+    ACCEPTED, Limits, PathStep, USUAL, canonical, canonical_declared, check, is_canonical,
+    place_of, put, read, room_of,
+};
+use buffa_discard::DiscardUnknown;
 use buffa_fields::{Blank, MessageSpec, RECURSION_LIMIT};
 use sample_payment::payment::Payment;
 use std::alloc::Global;
@@ -48,6 +53,32 @@ pub extern "C" fn payment_check_within(
     check::<Payment>(alloc, bytes, limits)
 }
 
+/// Where the bytes are refused as `Payment`, under limits of the caller's.
+#[unsafe(no_mangle)]
+pub extern "C" fn payment_place(
+    alloc: Global,
+    bytes: &[u8],
+    longest: usize,
+    depth: u32,
+    unknown: usize,
+    units: usize,
+    path: &mut [PathStep],
+    steps: &mut usize,
+    offset: &mut usize,
+) -> u32
+    ensures { TellsPlace ⟦<Payment as MessageSpec>⟧.merged ⟦<Payment as MessageSpec>⟧.cost
+        ⟦<Payment as Blank>⟧.blank_is record { longest = longest; depth = depth; unknown = unknown; units = units }
+        bytes.now result path.old path.new steps.new offset.new }
+{
+    let limits = Limits {
+        longest,
+        depth,
+        unknown,
+        units,
+    };
+    place_of::<Payment>(alloc, bytes, limits, path, steps, offset)
+}
+
 /// The encoding of the `Payment` that the bytes mean, at the front of `out`.
 #[unsafe(no_mangle)]
 pub extern "C" fn payment_canonical(
@@ -61,6 +92,23 @@ pub extern "C" fn payment_canonical(
         bytes.now result out.old out.new written.new }
 {
     canonical::<Payment>(alloc, bytes, USUAL, out, written)
+}
+
+/// The encoding of what is left of the `Payment` that the bytes mean, without the fields that aren't declared.
+#[unsafe(no_mangle)]
+pub extern "C" fn payment_canonical_declared(
+    alloc: Global,
+    bytes: &[u8],
+    out: &mut [u8],
+    written: &mut usize,
+) -> u32
+    ensures { RewritesDeclared
+        (⟦<Payment as MessageSpec>⟧.merged RECURSION_LIMIT ⟦<Payment as Blank>⟧.blank_is bytes.now)
+        (⟦<Payment as MessageSpec>⟧.cost RECURSION_LIMIT bytes.now) ⟦<Payment as Blank>⟧.meaning
+        ⟦<Payment as DiscardUnknown>⟧.Discarded ⟦<Payment as MessageSpec>⟧.encoding USUAL bytes.now result out.old
+        out.new written.new }
+{
+    canonical_declared::<Payment>(alloc, bytes, USUAL, out, written)
 }
 
 /// How many bytes `payment_canonical` writes.

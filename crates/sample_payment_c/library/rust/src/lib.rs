@@ -48,6 +48,81 @@ fn text(bytes: Vec<u8>) -> Result<String, Refused> {
     String::from_utf8(bytes).map_err(|_| Refused(INVALID_UTF8))
 }
 
+/// A field on the way to the place at which bytes are refused.
+#[derive(Clone, Copy, Debug, PartialEq, Eq)]
+pub struct Step {
+    /// Its number.
+    pub number: u32,
+    /// How many fields of this number are in front of it, where it is an element of a list or an entry of a map.
+    pub index: Option<usize>,
+    /// Its name in the `.proto`, where the message declares it.
+    pub name: Option<&'static str>,
+}
+
+/// Where bytes are refused: `transfer.day at byte 12: UNEXPECTED_EOF`.
+#[derive(Clone, Debug, PartialEq, Eq)]
+pub struct Place {
+    /// The fields to the first refused record, from the outside in.
+    pub path: Vec<Step>,
+    /// Where the record begins.
+    pub offset: usize,
+    /// Why it is refused.
+    pub fault: Refused,
+}
+
+impl std::fmt::Display for Step {
+    fn fmt(&self, f: &mut std::fmt::Formatter<'_>) -> std::fmt::Result {
+        match self.name {
+            Some(name) => f.write_str(name)?,
+            None => write!(f, "{}", self.number)?,
+        }
+        self.index.map_or(Ok(()), |index| write!(f, "[{index}]"))
+    }
+}
+
+impl std::fmt::Display for Place {
+    fn fmt(&self, f: &mut std::fmt::Formatter<'_>) -> std::fmt::Result {
+        for (at, step) in self.path.iter().enumerate() {
+            write!(f, "{}{step}", if at == 0 { "" } else { "." })?;
+        }
+        write!(f, "{}at byte {}: {}", if self.path.is_empty() { "" } else { " " }, self.offset, self.fault)
+    }
+}
+
+#[repr(C)]
+#[derive(Clone, Copy, Default)]
+struct PathStep {
+    number: u32,
+    listed: u32,
+    index: usize,
+}
+
+fn placed(message: usize, call: impl Fn(&mut [PathStep], &mut usize, &mut usize) -> u32) -> Result<Option<Place>, Refused> {
+    let (mut path, mut steps, mut offset) = (vec![PathStep::default(); 16], 0, 0);
+    let mut answer = call(&mut path, &mut steps, &mut offset);
+    if steps > path.len() {
+        path.resize(steps, PathStep::default());
+        answer = call(&mut path, &mut steps, &mut offset);
+    }
+    path.truncate(steps);
+    match answer {
+        0 => Ok(None),
+        OUT_OF_MEMORY | TOO_LONG => Err(Refused(answer)),
+        _ => Ok(Some(Place { path: named(message, &path), offset, fault: Refused(answer) })),
+    }
+}
+
+fn named(message: usize, path: &[PathStep]) -> Vec<Step> {
+    let mut inside = Some(message);
+    path.iter()
+        .map(|step| {
+            let field = inside.and_then(|at| FIELDS[at].iter().find(|it| it.0 == step.number));
+            inside = field.and_then(|it| it.2);
+            Step { number: step.number, index: (step.listed != 0).then_some(step.index), name: field.map(|it| it.1) }
+        })
+        .collect()
+}
+
 const NAMES: [&str; 20] = [
     "ACCEPTED",
     "UNEXPECTED_EOF",
@@ -110,16 +185,24 @@ pub const NO_ROOM: u32 = 18;
 /// The encoding would have 2^31 bytes or more.
 pub const TOO_LARGE: u32 = 19;
 
+// Of each message its fields: their numbers, their names, and which of these messages is in them.
+const FIELDS: &[&[(u32, &str, Option<usize>)]] = &[
+    &[(1, "amount", None), (2, "card", None), (3, "cash", None), (4, "transfer", Some(1)), (5, "note", None)],
+    &[(1, "to", None), (2, "day", None)],
+];
+
 /// `buffa.sample.Payment`.
 pub mod payment {
-    use super::{Limits, NO_ROOM, Refused};
+    use super::{Limits, NO_ROOM, PathStep, Place, Refused};
 
     extern "C" {
         fn payment_check(bytes: *const u8, bytes_len: usize) -> u32;
         fn payment_check_within(bytes: *const u8, bytes_len: usize, longest: usize, depth: u32, unknown: usize, units: usize) -> u32;
+        fn payment_place(bytes: *const u8, bytes_len: usize, longest: usize, depth: u32, unknown: usize, units: usize, path: *mut PathStep, path_len: usize, steps: *mut usize, offset: *mut usize) -> u32;
         fn payment_canonical(bytes: *const u8, bytes_len: usize, out: *mut u8, out_len: usize, written: *mut usize) -> u32;
         fn payment_room(bytes: *const u8, bytes_len: usize, room: *mut usize) -> u32;
         fn payment_is_canonical(bytes: *const u8, bytes_len: usize) -> u32;
+        fn payment_canonical_declared(bytes: *const u8, bytes_len: usize, out: *mut u8, out_len: usize, written: *mut usize) -> u32;
         fn payment_amount(bytes: *const u8, bytes_len: usize, value: *mut i32) -> u32;
         fn payment_note(bytes: *const u8, bytes_len: usize, out: *mut u8, out_len: usize, written: *mut usize) -> u32;
     }
@@ -133,6 +216,14 @@ pub mod payment {
     pub fn check_within(bytes: &[u8], limits: Limits) -> Result<(), Refused> {
         let Limits { longest, depth, unknown, units } = limits;
         super::answered(unsafe { payment_check_within(bytes.as_ptr(), bytes.len(), longest, depth, unknown, units) })
+    }
+
+    /// Where the bytes are refused, or none where they are accepted.
+    pub fn place(bytes: &[u8], limits: Limits) -> Result<Option<Place>, Refused> {
+        let Limits { longest, depth, unknown, units } = limits;
+        super::placed(0, |path, steps, offset| unsafe {
+            payment_place(bytes.as_ptr(), bytes.len(), longest, depth, unknown, units, path.as_mut_ptr(), path.len(), steps, offset)
+        })
     }
 
     /// Whether the bytes are the encoding of what they mean.
@@ -158,6 +249,17 @@ pub mod payment {
         }
     }
 
+    /// The encoding of what is left without the fields that aren't declared, in the messages inside, too.
+    pub fn canonical_declared(bytes: &[u8]) -> Result<Vec<u8>, Refused> {
+        let into = |room| super::copied(room, |out, written| unsafe {
+            payment_canonical_declared(bytes.as_ptr(), bytes.len(), out.as_mut_ptr(), out.len(), written)
+        });
+        match into(bytes.len()) {
+            Err(Refused(NO_ROOM)) => into(room(bytes)?),
+            made => made,
+        }
+    }
+
     /// The member `amount` of what the bytes mean.
     pub fn amount(bytes: &[u8]) -> Result<i32, Refused> {
         let mut value = 0;
@@ -176,14 +278,16 @@ pub mod payment {
 
 /// `buffa.sample.Transfer`.
 pub mod transfer {
-    use super::{Limits, NO_ROOM, Refused};
+    use super::{Limits, NO_ROOM, PathStep, Place, Refused};
 
     extern "C" {
         fn transfer_check(bytes: *const u8, bytes_len: usize) -> u32;
         fn transfer_check_within(bytes: *const u8, bytes_len: usize, longest: usize, depth: u32, unknown: usize, units: usize) -> u32;
+        fn transfer_place(bytes: *const u8, bytes_len: usize, longest: usize, depth: u32, unknown: usize, units: usize, path: *mut PathStep, path_len: usize, steps: *mut usize, offset: *mut usize) -> u32;
         fn transfer_canonical(bytes: *const u8, bytes_len: usize, out: *mut u8, out_len: usize, written: *mut usize) -> u32;
         fn transfer_room(bytes: *const u8, bytes_len: usize, room: *mut usize) -> u32;
         fn transfer_is_canonical(bytes: *const u8, bytes_len: usize) -> u32;
+        fn transfer_canonical_declared(bytes: *const u8, bytes_len: usize, out: *mut u8, out_len: usize, written: *mut usize) -> u32;
         fn transfer_to(bytes: *const u8, bytes_len: usize, out: *mut u8, out_len: usize, written: *mut usize) -> u32;
         fn transfer_day(bytes: *const u8, bytes_len: usize, value: *mut i32) -> u32;
     }
@@ -197,6 +301,14 @@ pub mod transfer {
     pub fn check_within(bytes: &[u8], limits: Limits) -> Result<(), Refused> {
         let Limits { longest, depth, unknown, units } = limits;
         super::answered(unsafe { transfer_check_within(bytes.as_ptr(), bytes.len(), longest, depth, unknown, units) })
+    }
+
+    /// Where the bytes are refused, or none where they are accepted.
+    pub fn place(bytes: &[u8], limits: Limits) -> Result<Option<Place>, Refused> {
+        let Limits { longest, depth, unknown, units } = limits;
+        super::placed(1, |path, steps, offset| unsafe {
+            transfer_place(bytes.as_ptr(), bytes.len(), longest, depth, unknown, units, path.as_mut_ptr(), path.len(), steps, offset)
+        })
     }
 
     /// Whether the bytes are the encoding of what they mean.
@@ -215,6 +327,17 @@ pub mod transfer {
     pub fn canonical(bytes: &[u8]) -> Result<Vec<u8>, Refused> {
         let into = |room| super::copied(room, |out, written| unsafe {
             transfer_canonical(bytes.as_ptr(), bytes.len(), out.as_mut_ptr(), out.len(), written)
+        });
+        match into(bytes.len()) {
+            Err(Refused(NO_ROOM)) => into(room(bytes)?),
+            made => made,
+        }
+    }
+
+    /// The encoding of what is left without the fields that aren't declared, in the messages inside, too.
+    pub fn canonical_declared(bytes: &[u8]) -> Result<Vec<u8>, Refused> {
+        let into = |room| super::copied(room, |out, written| unsafe {
+            transfer_canonical_declared(bytes.as_ptr(), bytes.len(), out.as_mut_ptr(), out.len(), written)
         });
         match into(bytes.len()) {
             Err(Refused(NO_ROOM)) => into(room(bytes)?),
