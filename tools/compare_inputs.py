@@ -114,8 +114,8 @@ def reached(kind, found=None):
 class Maker:
     """Makes instances by chance, with about MOST_VALUES values."""
 
-    def __init__(self, chance, google):
-        self.chance, self.google, self.left = chance, google, 0
+    def __init__(self, chance, google, has_extensions=True):
+        self.chance, self.google, self.has_extensions, self.left = chance, google, has_extensions, 0
 
     def instance(self, name, at):
         message, self.left = self.google.blank(name), MOST_VALUES
@@ -127,7 +127,7 @@ class Maker:
         """Sets members of a message: of each oneof one at most."""
         kind = message.DESCRIPTOR
         alone = [[it] for it in kind.fields if not it.containing_oneof] + [one.fields for one in kind.oneofs]
-        alone += [[it] for it in self.google.pool.FindAllExtensions(kind)]
+        alone += [[it] for it in self.google.pool.FindAllExtensions(kind) if self.has_extensions]
         share = min(share, 6 / max(1, len(alone))) if level else share
         for fields in self.chance.sample(alone, len(alone)):
             if (self.left > 0 or share == 1) and self.chance.random() < share:

@@ -3,7 +3,7 @@
 use buffa_ext::codecs::Int32;
 use buffa_ext::{Extension, ExtensionCodec, Step, replay};
 use buffa_wire::{
-    Blank, Budget, Buf, CanonicalError, Decode, DecodeError, EnumValue, Message, Tag,
+    Blank, Budget, Buf, CanonicalError, Decode, DecodeError, EnumValue, Message, MessageSpec, Tag,
     UnknownFieldData, UnknownFields, skip_field_depth,
 };
 use sample_palette::palette::Palette;
@@ -62,6 +62,21 @@ fn swatch_of(alloc: Global, bytes: &[u8]) -> Result<Swatch, Fail> {
 fn swatch_within(alloc: Global, bytes: &[u8]) -> Result<Swatch, DecodeError> {
     let limits = Budget::new(1_000).with_element_memory(1_000_000);
     Swatch::decode_within(alloc, bytes, 20, limits)
+}
+
+// The limits under which a swatch of `len` bytes takes at most `most` bytes of memory: none where that isn't enough.
+fn limits_for(most: usize, len: usize) -> Option<Budget> {
+    let input = len.checked_mul(48)?.checked_add(192 * 1_000)?;
+    let units = (most.checked_sub(input)? / 16).checked_sub(<Swatch as MessageSpec>::COST)?;
+    Some(Budget::new(1_000).with_element_memory(units))
+}
+
+#[test]
+fn limits_are_made_of_memory(rt: HostRuntime) {
+    let units = limits_for(64_000_000, 1_000_000).map(|limits| limits.memory_left());
+    assert!(rt; units == Some(987_936));
+    assert!(rt; limits_for(48_193_000, 1_000_000).is_none());
+    assert!(rt; limits_for(usize::MAX, usize::MAX).is_none());
 }
 
 // What the bytes are refused for that have to be the encoding of a swatch.
