@@ -61,7 +61,7 @@ class Words:
 
     def type_name(self, rust):
         """What a message in it, or its oneof, is called among the types of the file."""
-        return rust + "'" * (rust in self.words | {"Meaning", "Own"} | set(self.module))
+        return rust + "'" * (rust in self.words | ESCAPED | {"Meaning", "Own"} | set(self.module))
 
     def variable(self, means):
         """What a message means, which is a variable of the file, or nothing where a type is none."""
