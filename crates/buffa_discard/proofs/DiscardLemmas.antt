@@ -22,9 +22,13 @@ module _ {M : Type 0} (D : M → M → Type 0) where
   one_more d zero (old ∷ olds) news v front some is =
       (v, olds, ap (λ (z : List M). slice_set z 0 v) front, subst (λ (z : List M). D (slice_index_or z 0 d) v) front is, refl)
   one_more d (suc n) [] news v front some is = absurd (omega (arith, some))
-  one_more d (suc n) (old ∷ olds) news v (m, ms, split, first, front) some is =
-      (m, slice_set ms n v, ap (λ (z : List M). slice_set z (suc n) v) split, first,
-      one_more d n olds ms v front (omega (arith, some)) (subst (λ (z : List M). D (slice_index_or z (suc n) d) v) split is))
+  one_more d (suc n) (old ∷ olds) news v (m, ms, split, first, front) some is = (
+    m,
+    slice_set ms n v,
+    ap (λ (z : List M). slice_set z (suc n) v) split,
+    first,
+    one_more d n olds ms v front (omega (arith, some)) (subst (λ (z : List M). D (slice_index_or z (suc n) d) v) split is),
+  )
 
   pub front_next : (d : M) (n next : ℕ) (olds news after : List M) (v : M) → FrontDiscarded n olds news → next ≡ suc n → n < length olds → D (slice_index_or news n d) v → after ≡ slice_set news n v → FrontDiscarded next olds after
   front_next d n next olds news after v front is some gone put =
