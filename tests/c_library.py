@@ -4,7 +4,7 @@
     tests/c_library.py [SEED] [COUNT]
 
 The bytes are those of the rows of vectors/ that are of a payment or a transfer, each front of them, and so many made of them
-at random. From C each request for memory is refused in turn, and pages that nothing may touch or write stand around the
+at random. What the second reading leaves of them without undeclared fields is compared with what Google's Python leaves. From C each request for memory is refused in turn, and pages that nothing may touch or write stand around the
 caller's memory (tests/c_library.c). Some rows go through valgrind, through the module of Python, and through the examples, that of
 Rust over its crate; `make` builds these. What is checked in has to be what tools/c_library writes, and what it writes of the cases
 of the plugin has to be read by gcc, python3 and rustc.
@@ -249,6 +249,30 @@ def see_examples(room, payments, differences):
         differences.compare(name, payments, from_example(program, payments), [of_example(kind, text, name != "example in C") for kind, text, _ in payments])
 
 
+def see_google(room, calls):
+    """How many messages Google's Python leaves otherwise when it takes out what isn't declared; none where it isn't there."""
+    try:
+        from google.protobuf import descriptor_pb2, descriptor_pool, message_factory
+    except ImportError:
+        return 0
+    if not shutil.which("protoc"):
+        return 0
+    subprocess.run(["protoc", f"-o{room}/payment.bin", f"-I{TOP}/crates/sample_payment", "payment.proto"], check=True)
+    pool = descriptor_pool.DescriptorPool()
+    with open(f"{room}/payment.bin", "rb") as it:
+        pool.Add(descriptor_pb2.FileDescriptorSet.FromString(it.read()).file[0])
+    types = {kind: message_factory.MessageFactory(pool).GetPrototype(pool.FindMessageTypeByName(f"buffa.sample.{kind.title()}")) for kind in KINDS}
+    differ = 0
+    for kind, text in sorted({(kind, text) for kind, text, _ in calls}):
+        ours = read(kind, text, USUAL)
+        if not isinstance(ours, int):
+            theirs = types[kind].FromString(text)
+            theirs.DiscardUnknownFields()
+            left = types[kind].FromString(message_text(kind, declared(kind, ours)))
+            differ += left.SerializeToString() != theirs.SerializeToString()
+    return differ
+
+
 def see_cases(room):
     """How many of the plugin's cases have a library whose header, module or crate isn't read by its language's compiler."""
     failed = 0
@@ -281,7 +305,7 @@ def main(seed, count):
         subprocess.run(["make", "-s", f"PROVED={library}"], cwd=f"{room}/library", check=True)
         words = ["gcc", "-O1", "-g", "-Wall", "-Wextra", "-Werror", f"-I{room}/library", "-o", f"{room}/calls", f"{TOP}/tests/c_library.c", library]
         subprocess.run(words, check=True)
-        differences.found += see_cases(room)
+        differences.found += see_cases(room) + see_google(room, calls)
         differences.compare("from C", calls, from_c(room, calls), told)
         differences.compare("from Python", few, from_python(room, few), few_told)
         see_examples(room, [it for it in few if it[0] == "payment"][:20], differences)

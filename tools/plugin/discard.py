@@ -1,4 +1,5 @@
 """What takes the fields out of a message that its type doesn't declare, and out of each message in it."""
+from answers import home_of
 from oneof import OneOf
 from places import is_held
 
@@ -78,9 +79,21 @@ def discarding_enum(one, message):
     others = len(held) < len(one.cases)
     made = ["", f"impl {TRAIT} for {one.enum} {{", "    ghost use Rattle.std.specs.Prelude.{◌≡◌};", "", "    ghost Discarded = { λ old new. elim old ["]
     made += [f"      | {k.in_elim} x ↦ (y : _) × (new ≡ {k.in_elim} y) × ⟦<{k.value} as {TRAIT}>⟧.Discarded x y" for k in held]
-    made += ["      | _ ↦ new ≡ old"] * others + ["    ] };", "", "    fn discard_unknown_fields(&mut self, alloc: Global) {", "        match self {"]
+    made += ["      | other ↦ new ≡ other"] * others + ["    ] };", "", "    fn discard_unknown_fields(&mut self, alloc: Global) {", "        match self {"]
     made += [f"            {one.enum}::{k.variant}(it) => it.discard_unknown_fields(alloc)," for k in held]
     return made + ["            _ => {}"] * others + ["        }", "    }", "}"]
+
+
+def answers_of_enum(world, one, message):
+    """The file of the answers of that impl, by its name beside `src`: that each message is the one of its case."""
+    if not discarding_enum(one, message):
+        return None
+    goals, file = home_of(world, one, f"{one.enum}DiscardUnknown", "discard_unknown_fields")
+    made = ["use Rattle.std.proofs.Common.{refl}", f"use {goals} as goal"]
+    for at, k in enumerate(k for k in one.cases if is_held(message, k)):
+        goal, call = f"returns-in-{k.variant}", f"c.discard_unknown_fields{f'-in-{k.variant}' * (at > 0)}"
+        made += ["", f"pub {goal} : goal.{goal}", f"{goal} c = rw c.in-{k.variant}.is ({call}.new.self, refl, {call}.ensures)"]
+    return file, "\n".join(made) + "\n"
 
 
 def tell(world, messages):

@@ -1,5 +1,6 @@
 -- What is told of a place.
-use Rattle.std.proofs.Common.{◌≡◌, ◌≢◌, inl, inr, ℕ, ◌<◌, ◌≤◌, List, length, ◌∙◌, refl, sym, subst, arith}
+use Rattle.std.proofs.Common.{◌≡◌, inl, inr, ℕ, ◌<◌, ◌≤◌, List, length, Option, None, IsSome, ◌∙◌, refl, sym, subst, arith}
+use Rattle.std.proofs.lemmas.Bool.{false≢true}
 use Rattle.buffa_bytes.specs.declared.error.DecodeError.{DecodeError}
 use Rattle.buffa_bytes.specs.declared.error.DecodeError.TheVariants.{OutOfMemory}
 use Rattle.buffa_wire.specs.BudgetLeft.{BudgetLeft}
@@ -10,12 +11,11 @@ use Rattle.buffa_c.specs.Answers.{AreAccepted, budget_of, number_of_fault}
 use Rattle.buffa_c.specs.Places.{LaysPath, TellsPlace}
 use Rattle.buffa_c.specs.declared.limits.Limits.{Limits}
 use Rattle.buffa_c.specs.declared.place.PathStep.{PathStep}
-use Rattle.std.specs.Prelude.{IsSome, None, Option}
 
 -- what is refused isn't accepted
 not_accepted : {X : Type 0} (merged : Option X) (cost : BudgetLeft) (limits : Limits) (bytes : List ℕ) (fault : DecodeError) → MergeFault merged cost (budget_of limits) fault → AreAccepted merged cost limits bytes → ⊥
 not_accepted merged cost limits bytes fault (inl lacks) accepted = accepted.left lacks
-not_accepted merged cost limits bytes fault (inr (none, _)) accepted = let some = subst IsSome none accepted.means in absurd (omega (arith, some))
+not_accepted merged cost limits bytes fault (inr (none, _)) accepted = false≢true (subst IsSome none accepted.means)
 
 pub tells_place : {X : Type 0} (merged : ℕ → X → List ℕ → Option X) (cost : ℕ → List ℕ → BudgetLeft) (blank : X) (limits : Limits) (bytes : List ℕ) (place : Place) (old new : List PathStep) (answer steps : ℕ) →
     IsPlace merged cost limits.depth blank bytes (budget_of limits) place → length bytes ≤ limits.longest → answer ≡ number_of_fault place.fault → 0 < answer → answer < 15 → (answer ≡ 14 → place.fault ≡ OutOfMemory) →

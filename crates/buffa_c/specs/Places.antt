@@ -10,12 +10,12 @@ use Rattle.buffa_c.specs.declared.answer.TheConstants.{ACCEPTED, OUT_OF_MEMORY, 
 use Rattle.buffa_c.specs.Answers.{AreAccepted, budget_of, number_of_fault}
 
 -- a step as C has it: an index, where there is one
-abbrev pub numbered : ℕ → Option ℕ → PathStep
-numbered number None = record { number = number; listed = 0; index = 0 }
-numbered number (Some index) = record { number = number; listed = 1; index = index }
+abbrev pub path_step : ℕ → Option ℕ → PathStep
+path_step number None = record { number = number; listed = 0; index = 0 }
+path_step number (Some index) = record { number = number; listed = 1; index = index }
 
 abbrev pub told_step : Step → PathStep
-told_step step = numbered step.number step.index
+told_step step = path_step step.number step.index
 
 -- the steps are at the front of the room, as many as it holds, and what follows them there is as it was
 abbrev pub LaysPath : List Step → List PathStep → List PathStep → Type 0

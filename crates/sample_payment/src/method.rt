@@ -89,7 +89,7 @@ impl buffa_discard::DiscardUnknown for Method {
 
     ghost Discarded = { λ old new. elim old [
       | TransferCase x ↦ (y : _) × (new ≡ TransferCase y) × ⟦<Transfer as buffa_discard::DiscardUnknown>⟧.Discarded x y
-      | _ ↦ new ≡ old
+      | other ↦ new ≡ other
     ] };
 
     fn discard_unknown_fields(&mut self, alloc: Global) {
