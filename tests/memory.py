@@ -26,7 +26,7 @@ from rules import (
 from second_reading import TOP, Row
 
 # The bytes that the bound has for a byte of input, for an unknown field that was spent, and for a unit.
-OF_BYTE, OF_UNKNOWN, OF_UNIT = 48, 192, 16
+OF_BYTE, OF_UNKNOWN, OF_UNIT = 64, 192, 16
 # Lists have room for 4 elements, of one byte for 8, and maps for 9 or for 15 pairs; then for twice as many.
 COUNTS = (1, 2, 5, 9, 10, 17, 19, 33, 73, 129, 577, 1025)
 # The most of one thing that is full of others, and the most bytes of stack that a level may take.

@@ -66,16 +66,16 @@ fn swatch_within(alloc: Global, bytes: &[u8]) -> Result<Swatch, DecodeError> {
 
 // The limits under which a swatch of `len` bytes takes at most `most` bytes of memory: none where that isn't enough.
 fn limits_for(most: usize, len: usize) -> Option<Budget> {
-    let input = len.checked_mul(48)?.checked_add(192 * 1_000)?;
+    let input = len.checked_mul(64)?.checked_add(192 * 1_000)?;
     let units = (most.checked_sub(input)? / 16).checked_sub(<Swatch as MessageSpec>::COST)?;
     Some(Budget::new(1_000).with_element_memory(units))
 }
 
 #[test]
 fn limits_are_made_of_memory(rt: HostRuntime) {
-    let units = limits_for(64_000_000, 1_000_000).map(|limits| limits.memory_left());
-    assert!(rt; units == Some(987_936));
-    assert!(rt; limits_for(48_193_000, 1_000_000).is_none());
+    let units = limits_for(64_000_000, 500_000).map(|limits| limits.memory_left());
+    assert!(rt; units == Some(1_987_936));
+    assert!(rt; limits_for(32_193_000, 500_000).is_none());
     assert!(rt; limits_for(usize::MAX, usize::MAX).is_none());
 }
 
