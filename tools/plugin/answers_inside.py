@@ -1,4 +1,5 @@
 """The answers of messages that hold themselves: of `visit`, that what comes next waits, and of `take`, which member took a field."""
+import members_inside
 from names import TERMS, ordered, snake
 from oneof import OneOf
 
@@ -109,6 +110,8 @@ def unfolded(member):
 def take(world, message):
     """The answers of `take`: of each number, that it is none of a member before, and that the members behind stay."""
     file, goals = head(world, message, "take")
+    if len(message.members) > members_inside.MOST_PASSED:
+        return file, members_inside.take(world, message, goals, arms(message), took_by)
     terms = [term(message, *it) for it in arms(message)]
     words = {"◌∙◌", "refl", "sym"} | ({"◌≡◌", "◌==◌", "◌||◌", "false", "true"} if message.oneofs else set())
     facts = {it for it in ("chosen", "not_chosen") if any(f"{it} _" in made.replace("not_chosen" * (it == "chosen"), "") for made in terms)}
