@@ -1,19 +1,13 @@
 """Where bytes are refused, beside the rules of `rules.py` and `member_reading.py`: the fields around the first refused record, and its offset.
 
-Written from what GUIDE says of places: the refused record is that in which reading stops. Where it holds a message, as an
-element of a list, a group, a case of a oneof or the value of an entry, the record in this message is told in which reading
-stops, and so on. Of an entry the first value is looked into, and where reading stops in a key, in another value or in
-another field, the place is that of the entry. A group without its end tag, or with one of another number, is refused itself;
-so is a message for which no level or no unit is left.
-
-The reading keeps to the rules, so that a field is judged by them before it is looked into.
+Written from what GUIDE says of places, as one reading that stops at the first fault and knows where it is. Where it stops in a
+message, as an element of a list, a group, a case of a oneof or the value of an entry, the place is that of the record there.
+Of an entry this holds for the first value: where reading stops in a key, in another value or in another field, the place is
+that of the entry. A group without its end tag, or with one of another number, is refused itself; so is a message for which
+no level or no unit is left.
 """
-from copy import copy
-
 from member_reading import MAPS
-from rules import (
-    BY_MEMBERS, DELIMITED, END, KINDS, MESSAGES, START, Budget, Bytes, Fault, blank, delimited, merge_entry, merge_field, skip,
-)
+from rules import BY_MEMBERS, DELIMITED, END, KINDS, MESSAGES, START, Budget, Bytes, Fault, blank, merge_field, mismatch, skip, value
 
 
 class Place:
@@ -27,79 +21,99 @@ class Place:
         return f"{steps} at {self.offset}: {self.fault}"
 
 
-def stops(kind, text, base, depth, budget, is_group=False):
-    """The place where reading the fields of a message stops, or none; `base` is where they begin in all bytes.
+class Stopped(Exception):
+    """Reading stopped in a message, at a place in it."""
 
-    A group's fields end at its end tag, and what is wrong with that is no place in it.
-    """
-    message, buf, counts = blank(kind), Bytes(text), {}
-    while buf.unread():
-        at = buf.at
-        try:
-            number, wire = buf.tag()
-        except Fault as fault:
-            return Place([], base + at, str(fault))
-        if is_group and wire == END:
-            return None
-        behind, left = buf.at, copy(budget)
-        try:
-            message = merge_field(kind, message, buf, number, wire, depth, budget)
-        except Fault as fault:
-            inner, is_one_of_many = inside(kind, number, wire, text[behind:], base + behind, depth, left)
-            step = (number, counts.get(number, 0) if is_one_of_many else None)
-            if inner and inner.fault == str(fault):
-                return Place([step, *inner.path], inner.offset, inner.fault)
-            return Place([step], base + at, str(fault))
-        counts[number] = counts.get(number, 0) + 1
-    return None
+    def __init__(self, place):
+        super().__init__(place.word())
+        self.place = place
 
 
-def inside(kind, number, wire, text, base, depth, budget):
-    """The place in the message that a refused field holds, if there is one, and whether it is one of many. `text` is behind the tag."""
-    how, of = next(((how, of) for own, how, of in BY_MEMBERS[kind].members if own == number), (None, None))
-    inner = of[1] if how in MAPS else of
-    if inner not in MESSAGES:
-        return None, False
-    is_one_of_many = how in (*MAPS, "repeated", "groups")
-    is_charged = how in ("repeated", "groups") or how == "optional" and inner == kind
-    units = KINDS[inner][1] * is_charged + (KINDS[of[0]][1] + KINDS[inner][1] if how in MAPS else 0)
-    own = START if how in ("group", "groups") else DELIMITED
-    if wire != own or units > budget.units or depth == 0:
-        return None, is_one_of_many
-    budget.take_units(units)
-    if own == START:
-        return stops(inner, text, base, depth - 1, budget, True), is_one_of_many
-    try:
-        found = delimited_part(text, base)
-        found = value_part(of[0], *found, depth) if how in MAPS else found
-    except Fault:
-        found = None
-    return stops(inner, *found, depth - 1, budget) if found else None, is_one_of_many
+class Reader:
+    """Reads the fields of messages, under one budget."""
 
+    def __init__(self, budget):
+        self.budget = budget
 
-def delimited_part(text, base):
-    """What is behind a length, as many bytes as it says, and where it begins."""
-    buf = Bytes(text)
-    length = buf.varint()
-    at = buf.at
-    return buf.take(length), base + at
+    def read(self, kind, buf, base, depth, group=None):
+        """Reads the fields of a message; those of a group up to its end tag. `base` is where the bytes begin in all of them."""
+        counts = {}
+        while buf.unread() or group:
+            at = buf.at
+            try:
+                number, wire = buf.tag()
+            except Fault as fault:
+                # behind its last byte a group lacks its end
+                raise Stopped(Place([], base + at, str(fault))) if at < len(buf.text) else fault
+            if group and wire == END:
+                if number != group:
+                    raise Fault(f"InvalidEndGroup {number}")
+                return
+            how, of = next(((how, of) for own, how, of in BY_MEMBERS[kind].members if own == number), (None, None))
+            is_one_of_many = how in (*MAPS, "repeated", "groups") and (of[1] if how in MAPS else of) in MESSAGES
+            step = number, counts.get(number, 0) if is_one_of_many else None
+            try:
+                self.field(kind, how, of, buf, base, number, wire, depth)
+            except Fault as fault:
+                raise Stopped(Place([step], base + at, str(fault))) from None
+            except Stopped as it:
+                raise Stopped(Place([step, *it.place.path], it.place.offset, it.place.fault)) from None
+            counts[number] = counts.get(number, 0) + 1
 
+    def field(self, kind, how, of, buf, base, number, wire, depth):
+        if how in MAPS and of[1] in MESSAGES:
+            self.entry(of, buf, base, number, wire, depth)
+            return
+        if of not in MESSAGES:
+            merge_field(kind, blank(kind), buf, number, wire, depth, self.budget)
+            return
+        own = START if how in ("group", "groups") else DELIMITED
+        if wire != own:
+            raise mismatch(number, own, wire)
+        if how in ("repeated", "groups") or how == "optional" and of == kind:
+            self.budget.take_units(KINDS[of][1])
+        if depth == 0:
+            raise Fault("RecursionLimitExceeded")
+        if own == START:
+            self.read(of, buf, base, depth - 1, number)
+        else:
+            self.inner(of, buf, base, depth)
 
-def value_part(key, text, base, depth):
-    """The first value of an entry and where it begins; none where reading stops before it."""
-    buf = Bytes(text)
-    while buf.unread():
-        at = buf.at
-        number, wire = buf.tag()
-        if number == 2:
-            # what is in front of it is an entry by itself
-            merge_entry((key, "int32"), {}, Bytes(delimited(text[:at])), depth, Budget(), 1, None)
-            return delimited_part(text[buf.at:], base + buf.at) if wire == DELIMITED else None
-        skip(buf, number, wire, depth)
-    return None
+    def inner(self, kind, buf, base, depth):
+        """A message behind its length, one level down."""
+        text = buf.take(buf.varint())
+        self.read(kind, Bytes(text), base + buf.at - len(text), depth - 1)
+
+    def entry(self, kinds, buf, base, number, wire, depth):
+        """An entry whose value is a message."""
+        if wire != DELIMITED:
+            raise mismatch(number, DELIMITED, wire)
+        text = buf.take(buf.varint())
+        self.budget.take_units(KINDS[kinds[0]][1] + KINDS[kinds[1]][1])
+        inner, is_first = Bytes(text), True
+        while inner.unread():
+            place, wire = inner.tag()
+            if place not in (1, 2):
+                skip(inner, place, wire, depth)
+                continue
+            if wire != KINDS[kinds[place - 1]][0]:
+                raise mismatch(place, KINDS[kinds[place - 1]][0], wire)
+            if place == 1:
+                value(kinds[0], inner, blank(kinds[0]))
+                continue
+            if depth == 0:
+                raise Fault("RecursionLimitExceeded")
+            try:
+                self.inner(kinds[1], inner, base + buf.at - len(text), depth)
+            except Stopped as it:
+                raise it if is_first else Fault(it.place.fault) from None
+            is_first = False
 
 
 def place(kind, text, depth, unknown, units):
     """Where bytes are refused as a message of this type, in words, or that they are read."""
-    found = stops(kind, text, 0, depth, Budget(unknown, units))
-    return found.word() if found else "read"
+    try:
+        Reader(Budget(unknown, units)).read(kind, Bytes(text), 0, depth)
+    except Stopped as it:
+        return it.place.word()
+    return "read"

@@ -25,6 +25,8 @@ PROGRAM = f"{TOP}/crates/conformance_of_places"
 TYPES = (
     "assorted branch depot failure inventory ledger load order pallet parcel payment settings store train transfer wagon"
 ).split()
+# Those that hold messages, which most random inputs are of.
+HOLDERS = "branch depot failure ledger pallet parcel payment settings store train wagon".split()
 HEAD = """\
 # Where bytes are refused, of the refused rows of the other tables, by `tests/places.py gather`.
 # type, levels, unknown fields and units that reading may take, bytes in hex, the fields by their numbers with the index of one of
@@ -69,9 +71,10 @@ def refused_inputs(seed, count):
     """So many refused inputs at random, with their places."""
     maker, found = Maker(seed), {}
     while len(found) < count:
-        kind = maker.any.choice(TYPES)
-        text = maker.mutated(maker.message(kind, 3)).hex()
-        given = (kind, maker.pick(0, 1, 2, 3, 10, 10), maker.pick(0, 1, 2, 9, 99), maker.pick(0, 56, 100, 500, 1000, 99999), text)
+        kind = maker.any.choice(TYPES if maker.is_one_in(5) else HOLDERS)
+        text = maker.mutated(maker.message(kind, 4)).hex()
+        limits = maker.pick(0, 1, 2, 3, 10, 10, 10), maker.pick(0, 1, 2, 9, 99, 99), maker.pick(0, 100, 500, 1000, 99999, 99999)
+        given = (kind, *limits, text)
         place = placed(*given)
         if place != "read" and len(text) < 4000:
             found[given] = place

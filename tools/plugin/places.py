@@ -26,13 +26,19 @@ class Held:
 
     def arm(self):
         """The arm of `inside`, on one line or, where it is too long, in braces."""
-        key, call = self.member.key_codec, f"{CRATE}::Inside::{self.call}"
-        if not key and len(call) + 2 <= CALL_WIDTH:
+        codec, call = self.member.key_codec, f"{CRATE}::Inside::{self.call}"
+        if not codec and len(call) + 2 <= CALL_WIDTH:
             return [f"            {self.number} => Some({call}()),"]
-        made = [f"                let key = <{key} as {KEY}>::COST;"] * bool(key)
-        line = f"                let held = {call}({'key' * bool(key)});"
-        made += [line] if len(line) <= WIDTH else line.replace("= ", "=\n                    ", 1).split("\n")
-        return [f"            {self.number} => {{", *made, "                Some(held)", "            }"]
+        key, indent = "key" * bool(codec), " " * 16
+        made = [f"{indent}let key = <{codec} as {KEY}>::COST;"] * bool(codec)
+        head = f"{indent}let held = {call}"
+        if len(f"{head}({key});") <= WIDTH:
+            made.append(f"{head}({key});")
+        elif key and len(head) < WIDTH:
+            made += [f"{head}(", f"{indent}    {key},", f"{indent});"]
+        else:
+            made += [head.replace(f"<{self.rust}>", "<"), f"{indent}    {self.rust},", f"{indent}>({key});"]
+        return [f"            {self.number} => {{", *made, f"{indent}Some(held)", "            }"]
 
 
 def fields(message):
@@ -89,6 +95,19 @@ def inside(found):
     return made + [row for it in found for row in it.arm()] + ["            _ => None,", "        }", "    }"]
 
 
+def arm_of_type(rust, numbers, arm, called):
+    """The arm of `find_inside` for the fields of a type."""
+    indent, args = " " * 12, "alloc, search, path"
+    head = f"{indent}{' | '.join(numbers)} => {CRATE}::find::<"
+    if len(f"{head}{rust}>({args}),") <= WIDTH:
+        return [f"{head}{rust}>({args}),"]
+    if len(f"{head}{rust}>(") <= WIDTH:
+        return [f"{head}{rust}>(", f"{indent}    {args},", f"{indent}),"]
+    if len(head) <= WIDTH:
+        return [head, f"{indent}    {rust},", f"{indent}>({args}),"]
+    return arm(numbers, f"{CRATE}::find::<{rust}>", args.split(", "), called)
+
+
 def find_inside(found, arm, called):
     """The function that goes into messages of other types."""
     by_type = {}
@@ -103,7 +122,7 @@ def find_inside(found, arm, called):
         return made + [f"        {CRATE}::nothing_inside(search, path)", "    }"]
     made += ["        match number {"]
     for rust, numbers in by_type.items():
-        made += arm(numbers, f"{CRATE}::find::<{rust}>", ["alloc", "search", "path"], called)
+        made += arm_of_type(rust, numbers, arm, called)
     return made + [f"            _ => {CRATE}::nothing_inside(search, path),", "        }", "    }"]
 
 

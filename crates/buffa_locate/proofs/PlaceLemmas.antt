@@ -29,7 +29,7 @@ in_front all front rest n split is = ap (λ k. take k all) (is ∙ seam all fron
 behind_it : (all front rest : List ℕ) (n : ℕ) → all ≡ front ++ rest → n ≡ length all - length rest → drop n all ≡ rest
 behind_it all front rest n split is = ap (λ k. drop k all) (is ∙ seam all front rest split) ∙ ap (drop (length front)) split ∙ drop-append_seam front rest
 
-paid : (first charge left : BudgetLeft) → Pays first charge left → Lacks first charge → ⊥
+pub paid : (first charge left : BudgetLeft) → Pays first charge left → Lacks first charge → ⊥
 paid first charge left pays (inl few) = omega (arith, pays.0)
 paid first charge left pays (inr little) = omega (arith, pays.1)
 

@@ -12,7 +12,7 @@ use std::alloc::{AllocError, Global};
 /// How a field holds a message.
 ///
 /// ```ignore
-/// (Holds::Message, WireType::LengthDelimited) => delimited(all, start, end),
+/// (Holds::Group, WireType::StartGroup) => Ok(Some((from, self.end))),
 /// ```
 #[derive(Clone, Copy, Debug, PartialEq, Eq)]
 pub enum Holds {

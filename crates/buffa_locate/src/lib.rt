@@ -10,6 +10,7 @@
 
 pub mod cuts;
 pub mod inside;
+pub mod laws;
 pub mod place;
 pub mod refused;
 pub mod search;

@@ -6,6 +6,7 @@ pub mod again;
 pub mod counts;
 pub mod laws;
 pub mod limits;
+pub mod located;
 pub mod messages;
 pub mod orders;
 pub mod places;
