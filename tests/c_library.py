@@ -26,7 +26,7 @@ import tempfile
 
 import rules
 import member_reading  # noqa: F401, which declares the types
-from place_reading import stops
+import place_reading
 from rules import BLANKS, BY_MEMBERS, Budget, Fault, merge, message_text
 
 TOP = os.path.dirname(os.path.dirname(os.path.abspath(__file__)))
@@ -78,11 +78,12 @@ def wanted(kind, text, limits):
 def place(kind, text, limits):
     """The answer of a call for a place, the offset and the path."""
     longest, depth, unknown, units = limits
-    found = None if len(text) > longest else stops(kind, text, 0, depth, Budget(unknown, units))
-    if not found:
+    found = "read" if len(text) > longest else place_reading.place(kind, text, depth, unknown, units)
+    if found == "read":
         return f"{number_of(read(kind, text, limits))} 0 -"
-    path = "".join(f".{number}" if index is None else f".{number}[{index}]" for number, index in found.path)
-    return f"{FAULTS.index(found.fault.split()[0]) + 1} {found.offset} {path or '-'}"
+    path, _, rest = found.partition(" at ")
+    offset, fault = rest.split(": ", 1)
+    return f"{FAULTS.index(fault.split()[0]) + 1} {offset} {path or '-'}"
 
 
 def declared(kind, message):
