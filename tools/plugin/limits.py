@@ -2,15 +2,15 @@
 
 from depths import MOST_IN_CASES
 
-# A message that holds itself was proved with as many members. Of one of 18 `take` wasn't, since the checker stopped at its limit of steps.
-MOST_INSIDE_ITSELF = 10
+# Of a message that holds itself `take` was proved with as many members. Of more it wasn't tried.
+MOST_INSIDE_ITSELF = 18
 
 
 def passed(message, messages):
     """The limits that a message passes: of each what it is, and what to do."""
     many, own = len(message.members), [k for k in message.members if k.itself]
     if own and many > MOST_INSIDE_ITSELF:
-        why = f"it holds itself and has {many} members: such of {MOST_INSIDE_ITSELF} were proved, and one of 18 wasn't"
+        why = f"it holds itself and has {many} members: one of {MOST_INSIDE_ITSELF} was proved, and none of more was tried"
         yield why, f"hold its own messages as encodings, by {parameters('encoded', own)}, or leave members out by leave=NAME"
     for one in message.oneofs:
         held = [(k, messages[it]) for k in one.cases for it in k.inside if it in messages]

@@ -196,10 +196,15 @@ unknowns_at t s u a b x y n k at h = subst (λ z. PutsAside t z (shape_by_meanin
 """
 
 
+def named(one):
+    """What the module of a oneof's cases is called in the answers."""
+    return f"cases_{one.number}"
+
+
 def constructor(member):
-    """The step of a member, but for those behind it. Its shape is found where the list is compared with the message."""
+    """The step of a member, but for those behind it. Its shape is found where the list is compared with the message; the cases of a oneof aren't."""
     if isinstance(member, OneOf):
-        return "one_of _"
+        return f"one_of {named(member)}.ghosts.cases"
     if member.itself:
         return f"{member.itself} {member.number}{' _' * (member.itself == 'map')}"
     return f"with_unknowns {member.number} _ _" if member.keeps else f"plain {member.number} _"
@@ -216,7 +221,7 @@ def members(message):
 def took(member, at, took_by, number):
     """That a member took the field of its number, by what the contract of its call says."""
     if isinstance(member, OneOf):
-        return f"case_at _ _ _ _ _ {number} is {took_by}"
+        return f"case_at _ {named(member)}.ghosts.cases _ _ _ {number} is {took_by}"
     if member.keeps:
         return f"unknowns_at _ _ _ _ _ _ _ _ {number} is {took_by}"
     return f"{'took_at' if member.itself else 'meant_at'} _ _ _ _ _ {number} is {took_by}"
@@ -230,16 +235,22 @@ def behind(message, at):
     return "(refl, " * left + "tt" + ")" * left
 
 
-def after(member, step):
-    """What the call of a member left of it, and of the fields that are kept."""
+def left(message, member, step):
+    """What the call of a member left of the message's fields: another value of its own, and of the fields that are kept."""
     passed = "slot" if isinstance(member, OneOf) else member.itself or "part"
-    return f"c.{step}.new.{passed}"
+    made = f"{member.in_contract} = c.{step}.new.{passed}"
+    if not member.keeps:
+        return made
+    kept = f"c.{step}.new.kept"
+    return f"{made}; unknown_fields = {f'record c.self.inside.unknown_fields {{ fields = {kept} }}' if message.rest else kept}"
 
 
 def take(world, message, goals, arms, took_by):
     """The answers of `take`: of each number, that its member took the field, and that the others stay."""
-    contracts = ".".join(it for it in ("Rattle", world.crate, "specs.contracts", world.module, snake(message.rust)) if it)
-    made = [HEAD, f"use {contracts}.{message.rust}.{{the_view}}", f"use {contracts}.{message.rust}RecursiveType.TheImpl.{{ghosts}}", goals, "", LEMMAS]
+    contracts = ".".join(it for it in ("Rattle", world.crate, "specs.contracts", world.module) if it)
+    own = f"use {contracts}.{snake(message.rust)}.{message.rust}"
+    cases = [f"use {contracts}.{snake(it.enum)}.{it.enum}OneOf.TheImpl as {named(it)}" for it in message.oneofs]
+    made = [HEAD, f"{own}.{{the_view}}", f"{own}RecursiveType.TheImpl.{{ghosts}}", *cases, goals, "", LEMMAS]
     made += ["described : Described ghosts.schema", f"described = record {{ all = _; members = {members(message)}; is = refl }}"]
     call = "record { depth = _; wire = _; bytes = _; budget = _; answer = _; left = _; rest = _ }"
     for number, at, step in arms:
@@ -247,6 +258,7 @@ def take(world, message, goals, arms, took_by):
         proof = f"({took(member, at, took_by(member, step), number)}, {behind(message, at)})"
         made += ["", f"pub {name} : goal.{name}", "unfolding TakenOf SameBut kept described" if member.keeps else "unfolding TakenOf described"]
         made += [f"{name} g c =", f"    let is = sym c.field_number.ensures ∙ c.in-{number}.is in"]
-        made.append(f"    let w = semantics ghosts.COST ghosts.schema ghosts.sound in")
-        made.append(f"    taken described w ({call}) (the_view (record c.self.inside {{ {member.in_contract} = {after(member, step)} }})) {number} c.self.view_is is {'(refl, ' * at}{proof}{')' * at}")
+        made.append("    let w = semantics ghosts.COST ghosts.schema ghosts.sound in")
+        made.append(f"    let new = the_view (record c.self.inside {{ {left(message, member, step)} }}) in")
+        made.append(f"    taken described w ({call}) new {number} c.self.view_is is {'(refl, ' * at}{proof}{')' * at}")
     return made
