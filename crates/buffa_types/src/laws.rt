@@ -21,6 +21,14 @@ use crate::messages::u_int32_value::UInt32Value;
 use crate::messages::u_int64_value::UInt64Value;
 use crate::named_message::NamedMessage;
 
+/// Which URL is written for a full name, and when a URL names a type: its name, in which no `/` is, stands behind a `/` of
+/// the URL. Nothing is left out.
+pub fn urls_are_these()
+    ensures written { (name : List ℕ) → url_of name ≡ codes "type.googleapis.com/" ++ name }
+    ensures named { (url name : List ℕ) → NamesType url name
+        ↔ (((host : List ℕ) × (url ≡ host ++ 47 ∷ name)) × (Contains name 47 → ⊥)) }
+{}
+
 /// A URL names one type at most: of two names that it has, each is the other.
 pub fn urls_name_one_type()
     ensures { (url name other : List ℕ) → NamesType url name → NamesType url other → name ≡ other }
