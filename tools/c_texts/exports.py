@@ -76,7 +76,7 @@ def check(gate):
 def place(gate):
     """The call that tells where bytes are refused."""
     more = LIMITS + ["path: &mut [PathStep]", "steps: &mut usize", "offset: &mut usize"]
-    told = [spec(gate, "merged"), spec(gate, "cost"), blank(gate), WITHIN, "bytes.now", "result", "path.old", "path.new", "steps.new", "offset.new"]
+    told = [spec(gate, "merged"), spec(gate, "cost"), spec(gate, "Refused"), blank(gate), WITHIN, "bytes.now", "result", "path.old", "path.new", "steps.new", "offset.new"]
     docs = [f"Where the bytes are refused as `{gate.rust}`, under limits of the caller's."]
     body = MADE_LIMITS + [f"place_of::<{gate.rust}>(alloc, bytes, limits, path, steps, offset)"]
     return export(docs, f"{gate.prefix}_place", more, clause("TellsPlace", told), body)

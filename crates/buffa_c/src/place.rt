@@ -71,7 +71,7 @@ pub fn place_of<M: Locate>(
     steps: &mut usize,
     offset: &mut usize,
 ) -> u32
-    ensures { TellsPlace M.merged M.cost M.blank_is limits bytes.now result path.old path.new steps.new offset.new }
+    ensures { TellsPlace M.merged M.cost M.Refused M.blank_is limits bytes.now result path.old path.new steps.new offset.new }
 {
     *steps = 0;
     *offset = 0;

@@ -14,7 +14,7 @@ use Rattle.buffa_bytes.specs.Readings.{tag_at}
 use Rattle.buffa_bytes.proofs.FieldLemmas.{tag_complete, tag_some}
 use Rattle.buffa_wire.proofs.ByPayloadLemmas.{ByPayload, cost_join, cost_next, merged_fields, merged_join, merged_next}
 use Rattle.buffa_wire.specs.BudgetLeft.{BudgetLeft, Lacks, Pays, plus}
-use Rattle.buffa_wire.specs.Message.{MergeFault}
+use Rattle.buffa_wire.specs.Message.{FieldRefused, MergeFault}
 use Rattle.buffa_wire.specs.Takes.{Charge, Taker}
 use Rattle.buffa_locate.proofs.PlaceLemmas.{paid}
 use Rattle.buffa_locate.specs.Places.{AreAllMerged, IsFirstRefused, RefusesAt}
@@ -42,12 +42,12 @@ begins_with _ none h = absurd (omega (arith, h))
 begins_with _ (more f r one k) h = (f, r, one, refl)
 
 -- where a field is refused, a field with its payload is
-refused_field : {X : Type 0} (merged : ℕ → X → List ℕ → Option X) (cost : ℕ → List ℕ → BudgetLeft) (d : ℕ) (mid : X) (bytes : List ℕ) (left : BudgetLeft) (at : ℕ) (tag : Option Tag) (behind : ℕ) (e : DecodeError) (n : ℕ) (w : WireType) (t p x : List ℕ) →
-    RefusesAt merged cost d mid bytes left at tag behind e → IsTag t n w → Payload d n w p → drop at bytes ≡ t ++ (p ++ x) → MergeFault (merged d mid (t ++ p)) (cost d (t ++ p)) left e
+refused_field : {X : Type 0} (merged : ℕ → X → List ℕ → Option X) (cost : ℕ → List ℕ → BudgetLeft) (Says : FieldRefused X) (d : ℕ) (mid : X) (bytes : List ℕ) (left : BudgetLeft) (at : ℕ) (tag : Option Tag) (behind : ℕ) (e : DecodeError) (n : ℕ) (w : WireType) (t p x : List ℕ) →
+    RefusesAt merged cost Says d mid bytes left at tag behind e → IsTag t n w → Payload d n w p → drop at bytes ≡ t ++ (p ++ x) → MergeFault (merged d mid (t ++ p)) (cost d (t ++ p)) left e
 unfolding ok_or
-refused_field merged cost d mid bytes left at None behind e n w t p x (is, _) tagged payload here =
+refused_field merged cost Says d mid bytes left at None behind e n w t p x (is, _) tagged payload here =
     let k = sym (ap tag_at here ∙ tag_complete t n w (p ++ x) tagged) ∙ is in cc
-refused_field merged cost d mid bytes left at (Some tag) behind e n w t p x (is, _, _, why) tagged payload here =
+refused_field merged cost Says d mid bytes left at (Some tag) behind e n w t p x (is, _, _, _, why) tagged payload here =
     let same = ap (ok_or (n, w, p ++ x)) (sym (ap tag_at here ∙ tag_complete t n w (p ++ x) tagged) ∙ is) in
     let number : n ≡ tag.number = ap (λ (z : ℕ × WireType × List ℕ). z.0) same in
     let wire : w ≡ tag.wire_type = ap (λ (z : ℕ × WireType × List ℕ). z.1) same in
@@ -55,14 +55,14 @@ refused_field merged cost d mid bytes left at (Some tag) behind e n w t p x (is,
     why t p (subst (λ k. IsTag t k tag.wire_type) number (subst (λ v. IsTag t n v) wire tagged))
     (inl (x, subst (λ k. Payload d k tag.wire_type p) number (subst (λ v. Payload d n v p) wire payload), sym past))
 
-module _ {X : Type 0} {takes : Taker X} {charge : Charge} {merged : ℕ → X → List ℕ → Option X} {cost : ℕ → List ℕ → BudgetLeft} (by : ByPayload takes charge merged cost)
+module _ {X : Type 0} {takes : Taker X} {charge : Charge} {merged : ℕ → X → List ℕ → Option X} {cost : ℕ → List ℕ → BudgetLeft} (by : ByPayload takes charge merged cost) {Says : FieldRefused X}
     {d : ℕ} {old : X} {bytes : List ℕ} {before : BudgetLeft} where
   -- what is in front of the first refused record is all merged
-  pub front_merged : (found : Refused) → IsFirstRefused merged cost d old bytes before found → AreAllMerged (merged d old (take found.at bytes)) (cost d (take found.at bytes)) before
+  pub front_merged : (found : Refused) → IsFirstRefused merged cost Says d old bytes before found → AreAllMerged (merged d old (take found.at bytes)) (cost d (take found.at bytes)) before
   front_merged found first = (some_is _ first.mid first.means, paid before (cost d (take found.at bytes)) _ first.pays)
 
   -- so is each beginning of it that is fields
-  pub beginning_merged : (found : Refused) (n : ℕ) → IsFirstRefused merged cost d old bytes before found → n ≤ found.at → Join (SomeField d) (take n bytes) →
+  pub beginning_merged : (found : Refused) (n : ℕ) → IsFirstRefused merged cost Says d old bytes before found → n ≤ found.at → Join (SomeField d) (take n bytes) →
       AreAllMerged (merged d old (take n bytes)) (cost d (take n bytes)) before
   beginning_merged found n first within fields =
       let front = take found.at bytes in
@@ -80,7 +80,7 @@ module _ {X : Type 0} {takes : Taker X} {charge : Charge} {merged : ℕ → X �
       )
 
   -- a field that is merged behind what is in front of the first refused record isn't refused
-  clash : (one other : Refused) (first : IsFirstRefused merged cost d old bytes before one) (second : IsFirstRefused merged cost d old bytes before other) (m f r rest : List ℕ) → SomeField d f → m ≡ f ++ r →
+  clash : (one other : Refused) (first : IsFirstRefused merged cost Says d old bytes before one) (second : IsFirstRefused merged cost Says d old bytes before other) (m f r rest : List ℕ) → SomeField d f → m ≡ f ++ r →
       drop one.at bytes ≡ m ++ rest → merged d first.mid m ≡ Some second.mid → cost d (take other.at bytes) ≡ plus (cost d (take one.at bytes)) (cost d m) → ⊥
   clash one other first second m f r rest (n, w, (t, p, tagged, payload, f_is)) is here on adds =
       let field : SomeField d f = (n, w, (t, p, tagged, payload, f_is)) in
@@ -89,7 +89,7 @@ module _ {X : Type 0} {takes : Taker X} {charge : Charge} {merged : ℕ → X �
       let stands : drop one.at bytes ≡ t ++ (p ++ (r ++ rest)) =
       here ∙ ap (λ (z : List ℕ). z ++ rest) is ∙ append_assoc f r rest ∙ ap (λ (z : List ℕ). z ++ (r ++ rest)) f_is ∙ append_assoc t p (r ++ rest) in
       let left : BudgetLeft = record { unknown = one.unknown; memory = one.memory } in
-      let fault = refused_field merged cost d first.mid bytes left one.at one.tag one.behind one.fault n w t p (r ++ rest) first.refuses tagged payload stands in
+      let fault = refused_field merged cost Says d first.mid bytes left one.at one.tag one.behind one.fault n w t p (r ++ rest) first.refuses tagged payload stands in
       let of_field = subst (λ (z : List ℕ). MergeFault (merged d first.mid z) (cost d z) left one.fault) (sym f_is) fault in
       let u = ap (λ (z : BudgetLeft). z.unknown) adds in
       let k = ap (λ (z : BudgetLeft). z.memory) adds in
@@ -104,7 +104,7 @@ module _ {X : Type 0} {takes : Taker X} {charge : Charge} {merged : ℕ → X �
       )
 
   -- of two first refused records none is in front of the other
-  not_before : (one other : Refused) → IsFirstRefused merged cost d old bytes before one → IsFirstRefused merged cost d old bytes before other → one.at < other.at → ⊥
+  not_before : (one other : Refused) → IsFirstRefused merged cost Says d old bytes before one → IsFirstRefused merged cost Says d old bytes before other → one.at < other.at → ⊥
   not_before one other first second less =
       let fa = take one.at bytes in
       let fb = take other.at bytes in
@@ -124,7 +124,7 @@ module _ {X : Type 0} {takes : Taker X} {charge : Charge} {merged : ℕ → X �
       clash one other first second m next.0 next.1 rest next.2 next.3 here on adds
 
   -- bytes have one first refused record
-  pub one_first : (one other : Refused) → IsFirstRefused merged cost d old bytes before one → IsFirstRefused merged cost d old bytes before other → one.at ≡ other.at
+  pub one_first : (one other : Refused) → IsFirstRefused merged cost Says d old bytes before one → IsFirstRefused merged cost Says d old bytes before other → one.at ≡ other.at
   one_first one other first second = elim (cases_lt one.at other.at) [
     | inl less ↦ absurd (not_before one other first second less)
     | inr above ↦ elim (cases_lt other.at one.at) [

@@ -12,7 +12,7 @@ use Rattle.buffa_bytes.proofs.StepLemmas.{agree_ok}
 use Rattle.buffa_wire.proofs.ByPayloadLemmas.{ByPayload}
 use Rattle.buffa_wire.proofs.MergeLoopLemmas.{CameTo, ended, no_tag, refused_next}
 use Rattle.buffa_wire.specs.BudgetLeft.{BudgetLeft, Lacks, Pays}
-use Rattle.buffa_wire.specs.Message.{IsFieldMerged, IsJudged, MergeFault}
+use Rattle.buffa_wire.specs.Message.{FieldRefused, IsFieldMerged, IsJudged, MergeFault}
 use Rattle.buffa_wire.specs.Takes.{Charge, Taker}
 use Rattle.buffa_wire.specs.Pinned.{refusal}
 use Rattle.buffa_locate.specs.Places.{AreAllMerged, IsFirstRefused, RefusesAt}
@@ -43,52 +43,54 @@ module _ {X : Type 0} {takes : Taker X} {charge : Charge} {merged : ℕ → X �
     before : take found.at all ≡ came.front
     before = in_front all came.front rest found.at came.split at_is
 
-    -- no tag is next
-    pub stops_untagged : found.tag ≡ None → found.behind ≡ found.at → 0 < length rest → tag_at rest ≡ Err found.fault → IsFirstRefused merged cost d old all first found
-    stops_untagged bare same some none_there = record {
-      within = omega (arith, at_is, ap length came.split, length-append came.front rest);
-      from = omega (arith, same);
-      to = omega (arith, same, at_is);
-      mid = now;
-      means = ap (merged d old) before ∙ came.means;
-      pays = subst (λ f. Pays first (cost d f) (record { unknown = found.unknown; memory = found.memory })) (sym before) (subst (Pays first (cost d came.front)) (sym left_is) came.pays);
-      refuses = subst (λ t. RefusesAt merged cost d now all (record { unknown = found.unknown; memory = found.memory }) found.at t found.behind found.fault) (sym bare)
-          (ap tag_at (behind_it all came.front rest found.at came.split at_is) ∙ none_there, same);
-      tells = λ full. tag_full rest (none_there ∙ ap (λ e. Err e) full);
-      why = (no_tag by came found.fault some none_there).1 (λ full. tag_full rest (none_there ∙ ap (λ e. Err e) full));
-    }
+    module _ {Says : FieldRefused X} where
+      -- no tag is next
+      pub stops_untagged : found.tag ≡ None → found.behind ≡ found.at → 0 < length rest → tag_at rest ≡ Err found.fault → IsFirstRefused merged cost Says d old all first found
+      stops_untagged bare same some none_there = record {
+        within = omega (arith, at_is, ap length came.split, length-append came.front rest);
+        from = omega (arith, same);
+        to = omega (arith, same, at_is);
+        mid = now;
+        means = ap (merged d old) before ∙ came.means;
+        pays = subst (λ f. Pays first (cost d f) (record { unknown = found.unknown; memory = found.memory })) (sym before) (subst (Pays first (cost d came.front)) (sym left_is) came.pays);
+        refuses = subst (λ t. RefusesAt merged cost Says d now all (record { unknown = found.unknown; memory = found.memory }) found.at t found.behind found.fault) (sym bare)
+            (ap tag_at (behind_it all came.front rest found.at came.split at_is) ∙ none_there, same);
+        tells = λ full. tag_full rest (none_there ∙ ap (λ e. Err e) full);
+        why = (no_tag by came found.fault some none_there).1 (λ full. tag_full rest (none_there ∙ ap (λ e. Err e) full));
+      }
 
-    -- the next field is refused
-    pub stops_refused : (tag : Tag) (bs : List ℕ) → found.tag ≡ Some tag → tag_at rest ≡ Ok (tag.number, tag.wire_type, bs) → found.behind ≡ length all - length bs → (new : X) (x : List ℕ) (over : BudgetLeft) →
-        IsFieldMerged merged cost d now tag.number tag.wire_type bs left (refusal found.fault) new over x → found.fault ≢ OutOfMemory → IsFirstRefused merged cost d old all first found
-    stops_refused tag bs has is goes new x over why tells =
-        let took = agree_ok (tag_at rest) (tag.number, tag.wire_type, bs) (tag_sound rest) is in
-        let split : all ≡ (came.front ++ took.0) ++ bs = came.split ∙ ap (λ (z : List ℕ). came.front ++ z) took.2 ∙ sym (append_assoc came.front took.0 bs) in
-        let past : drop found.behind all ≡ bs = behind_it all (came.front ++ took.0) bs found.behind split goes in
-        let falls : length bs < length rest = tag_falls rest (tag.number, tag.wire_type, bs) is in
-        let fits : length rest ≤ length all = omega (arith, ap length came.split, length-append came.front rest) in record {
-          within = omega (arith, at_is, falls, fits);
-          from = omega (arith, at_is, goes, falls, fits);
-          to = omega (arith, goes);
-          mid = now;
-          means = ap (merged d old) before ∙ came.means;
-          pays = subst (λ f. Pays first (cost d f) (record { unknown = found.unknown; memory = found.memory })) (sym before) (subst (Pays first (cost d came.front)) (sym left_is) came.pays);
-          refuses = subst (λ t. RefusesAt merged cost d now all (record { unknown = found.unknown; memory = found.memory }) found.at t found.behind found.fault) (sym has) (
-            ap tag_at (behind_it all came.front rest found.at came.split at_is) ∙ is ∙ ap (λ z. Ok (tag.number, tag.wire_type, z)) (sym past),
-            omega (arith, at_is, goes, falls, fits),
-            omega (arith, goes),
-            λ t p tagged judged. subst (λ l. MergeFault (merged d now (t ++ p)) (cost d (t ++ p)) l found.fault) (sym left_is)
-                ((why t p tagged (subst (λ z. IsJudged d tag.number tag.wire_type z p) past judged)).1 tells),
-          );
-          tells = tells;
-          why = (refused_next by came tag.number tag.wire_type bs is found.fault new x over why).1 tells;
-        }
+      -- the next field is refused
+      pub stops_refused : (tag : Tag) (bs : List ℕ) → found.tag ≡ Some tag → tag_at rest ≡ Ok (tag.number, tag.wire_type, bs) → found.behind ≡ length all - length bs → (new : X) (x : List ℕ) (over : BudgetLeft) →
+          IsFieldMerged merged cost d now tag.number tag.wire_type bs left (refusal found.fault) new over x → Says d now tag.number tag.wire_type bs left found.fault new → found.fault ≢ OutOfMemory → IsFirstRefused merged cost Says d old all first found
+      stops_refused tag bs has is goes new x over why said tells =
+          let took = agree_ok (tag_at rest) (tag.number, tag.wire_type, bs) (tag_sound rest) is in
+          let split : all ≡ (came.front ++ took.0) ++ bs = came.split ∙ ap (λ (z : List ℕ). came.front ++ z) took.2 ∙ sym (append_assoc came.front took.0 bs) in
+          let past : drop found.behind all ≡ bs = behind_it all (came.front ++ took.0) bs found.behind split goes in
+          let falls : length bs < length rest = tag_falls rest (tag.number, tag.wire_type, bs) is in
+          let fits : length rest ≤ length all = omega (arith, ap length came.split, length-append came.front rest) in record {
+            within = omega (arith, at_is, falls, fits);
+            from = omega (arith, at_is, goes, falls, fits);
+            to = omega (arith, goes);
+            mid = now;
+            means = ap (merged d old) before ∙ came.means;
+            pays = subst (λ f. Pays first (cost d f) (record { unknown = found.unknown; memory = found.memory })) (sym before) (subst (Pays first (cost d came.front)) (sym left_is) came.pays);
+            refuses = subst (λ t. RefusesAt merged cost Says d now all (record { unknown = found.unknown; memory = found.memory }) found.at t found.behind found.fault) (sym has) (
+              ap tag_at (behind_it all came.front rest found.at came.split at_is) ∙ is ∙ ap (λ z. Ok (tag.number, tag.wire_type, z)) (sym past),
+              omega (arith, at_is, goes, falls, fits),
+              omega (arith, goes),
+              (new, subst (λ z. Says d now tag.number tag.wire_type z (record { unknown = found.unknown; memory = found.memory }) found.fault new) (sym past) (subst (λ l. Says d now tag.number tag.wire_type bs l found.fault new) (sym left_is) said)),
+              λ t p tagged judged. subst (λ l. MergeFault (merged d now (t ++ p)) (cost d (t ++ p)) l found.fault) (sym left_is)
+                  ((why t p tagged (subst (λ z. IsJudged d tag.number tag.wire_type z p) past judged)).1 tells),
+            );
+            tells = tells;
+            why = (refused_next by came tag.number tag.wire_type bs is found.fault new x over why).1 tells;
+          }
 
-    -- the same, where the fault is told that isn't want of memory
-    pub stops_told : (fault : DecodeError) (tag : Tag) (bs : List ℕ) → found.tag ≡ Some tag → tag_at rest ≡ Ok (tag.number, tag.wire_type, bs) → found.behind ≡ length all - length bs → (new : X) (x : List ℕ) (over : BudgetLeft) →
-        IsFieldMerged merged cost d now tag.number tag.wire_type bs left (refusal fault) new over x → (found.fault ≡ fault) × (found.fault ≢ OutOfMemory) → IsFirstRefused merged cost d old all first found
-    stops_told fault tag bs has is goes new x over why same =
-        stops_refused tag bs has is goes new x over (subst (λ e. IsFieldMerged merged cost d now tag.number tag.wire_type bs left (refusal e) new over x) (sym same.0) why) same.1
+      -- the same, where the fault is told that isn't want of memory
+      pub stops_told : (fault : DecodeError) (tag : Tag) (bs : List ℕ) → found.tag ≡ Some tag → tag_at rest ≡ Ok (tag.number, tag.wire_type, bs) → found.behind ≡ length all - length bs → (new : X) (x : List ℕ) (over : BudgetLeft) →
+          IsFieldMerged merged cost d now tag.number tag.wire_type bs left (refusal fault) new over x → Says d now tag.number tag.wire_type bs left fault new → (found.fault ≡ fault) × (found.fault ≢ OutOfMemory) → IsFirstRefused merged cost Says d old all first found
+      stops_told fault tag bs has is goes new x over why said same =
+          stops_refused tag bs has is goes new x over (subst (λ e. IsFieldMerged merged cost d now tag.number tag.wire_type bs left (refusal e) new over x) (sym same.0) why) (subst (λ e. Says d now tag.number tag.wire_type bs left e new) (sym same.0) said) same.1
 
 pub same_left : (u m : ℕ) (l : BudgetLeft) → u ≡ l.unknown → m ≡ l.memory → record { unknown = u; memory = m } ≡ l
 same_left u m l e f = λ i. record { unknown = e i; memory = f i }

@@ -2,7 +2,7 @@
 
 ghost use Rattle.std.specs.Prelude.{◌≡◌, ◌<◌, ◌≤◌, IfOk, IfSome, false, true};
 ghost use Rattle.buffa_locate.specs.declared.inside.Holds.TheVariants as holds;
-ghost use Rattle.buffa_locate.specs.Places.{Extends};
+ghost use Rattle.buffa_locate.specs.Places.{ExtendsIfFound};
 
 use crate::place::Step;
 use crate::search::Search;
@@ -202,10 +202,11 @@ pub trait Locate: Message + Drop {
     fn inside(number: u32) -> Option<Inside>;
 
     /// The offset of the first refused record in the message that the field of a number holds, which is of another type,
-    /// if it is refused for the fault that is searched; the steps to it go behind the path.
+    /// if it is refused for the fault that is searched; the steps to it go behind the path. Where none is found the path stays
+    /// as it was.
     ///
     /// # Errors
-    /// Where memory runs out.
+    /// Where memory runs out. The contract leaves the path open then.
     ///
     /// ```ignore
     /// M::find_inside(tag.field_number(), alloc, inner, path)
@@ -217,5 +218,5 @@ pub trait Locate: Message + Drop {
         path: &mut Vec<Step>,
     ) -> Result<Option<usize>, AllocError>
         ensures within { IfOk result (λ found. IfSome found (λ at. (search.entry.start ≤ at) × (at < search.entry.end))) }
-        ensures path { IfOk result (λ found. Extends path.old.items path.new.items) };
+        ensures path { IfOk result (λ found. ExtendsIfFound found path.old.items path.new.items) };
 }

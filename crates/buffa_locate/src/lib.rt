@@ -1,10 +1,13 @@
-//! Where bytes were refused: a second pass over them tells the first record that is refused, by the numbers of the fields
-//! around it and by its offset.
+//! Where bytes were refused: a second pass over them tells the first record that is refused, by the numbers and the names
+//! of the fields around it, and by its offset.
 //!
 //! Reading that succeeds doesn't call this crate, and costs nothing more.
 //!
 //! ```ignore
-//! let found = first_refused::<M>(alloc, bytes, depth, budget)?;
+//! match locate::<Order>(alloc, bytes, LEVELS, limits)? {
+//!     Some(place) => Ok(Some(format!(in alloc; "order{place}")?)),
+//!     None => Ok(None),
+//! }
 //! ```
 #![tactic(auto)]
 

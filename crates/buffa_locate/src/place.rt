@@ -11,7 +11,7 @@ use std::fmt;
 /// brackets.
 ///
 /// ```ignore
-/// Step { number, name: M::name_of(number), index }
+/// for step in place.path.iter() { .. }
 /// ```
 #[derive(Clone, Copy, Debug, PartialEq, Eq)]
 pub struct Step {
@@ -44,7 +44,7 @@ impl fmt::Display for Step {
 /// `Display` prints the fields, the offset and the fault, as `.lines[3].count at byte 117: InvalidUtf8`.
 ///
 /// ```ignore
-/// let offset = follow::<M>(alloc, search, refused, &mut path)?;
+/// Some(place) => Ok(Some(format!(in alloc; "order{place}")?)),
 /// ```
 #[derive(Debug, Drop)]
 pub struct Place {

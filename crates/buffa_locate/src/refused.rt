@@ -56,7 +56,7 @@ pub fn first_refused<M: Message + Drop>(
 ) -> Result<Option<Refused>, AllocError>
     ensures told { IfOk result (λ found. MatchOption found
         (AreAllMerged (M.merged depth M.blank_is bytes.now) (M.cost depth bytes.now) budget)
-        (IsFirstRefused M.merged M.cost depth M.blank_is bytes.now budget)) }
+        (IsFirstRefused M.merged M.cost M.Refused depth M.blank_is bytes.now budget)) }
     ensures full { OnErr result (BeginsField bytes.now) }
 {
     let mut message = M::blank(alloc);

@@ -1,7 +1,7 @@
 //! The second pass.
 
-ghost use Rattle.std.specs.Prelude.{◌+◌, ◌-◌, ◌<◌, ◌≤◌, IfOk, IfSome, MatchOption};
-ghost use Rattle.buffa_locate.specs.Places.{AreAllMerged, Extends, IsPlace, LeadsTo};
+ghost use Rattle.std.specs.Prelude.{◌≡◌, ◌⊎◌, ◌+◌, ◌-◌, ◌<◌, ◌≤◌, IfOk, IfSome, MatchOption, None, Ok};
+ghost use Rattle.buffa_locate.specs.Places.{AreAllMerged, ExtendsIfFound, IsPlace, LeadsTo};
 
 use crate::inside::{Inside, Locate};
 use crate::place::{Place, Step};
@@ -12,7 +12,7 @@ use std::alloc::{AllocError, Global};
 
 // Looks into the message that a refused field holds, as deep as a record is refused for the same fault.
 #[cycle(deeper)]
-#[tactic(auto, using(crate::proofs::PathLemmas::extends_none, crate::proofs::PathLemmas::leads_extend))]
+#[tactic(auto, using(crate::proofs::PathLemmas::leads_extend))]
 fn look_into<M: Locate>(
     alloc: Global,
     search: Search<'_>,
@@ -24,7 +24,7 @@ fn look_into<M: Locate>(
     requires behind { (refused.at ≤ refused.behind) × (refused.behind ≤ search.end - search.start) }
     ensures within { IfOk result (λ found. IfSome found (λ at. (search.entry.start + refused.behind ≤ at)
         × (at < search.entry.end))) }
-    ensures path { IfOk result (λ found. Extends path.old.items path.new.items) }
+    ensures path { IfOk result (λ found. ExtendsIfFound found path.old.items path.new.items) }
 {
     let Some(inner) = search.enter::<M>(alloc, tag, refused, inside)? else {
         return Ok(None);
@@ -40,7 +40,7 @@ fn look_into<M: Locate>(
 
 // Goes to the record that is refused, and into it.
 #[cycle(deeper)]
-#[tactic(auto, using(crate::proofs::PathLemmas::leads_now, crate::proofs::PathLemmas::leads_on))]
+#[tactic(auto, using(crate::proofs::PathLemmas::leads_now, crate::proofs::PathLemmas::leads_on, crate::proofs::PathLemmas::extends_found))]
 fn follow<M: Locate>(
     alloc: Global,
     search: Search<'_>,
@@ -49,7 +49,8 @@ fn follow<M: Locate>(
 ) -> Result<usize, AllocError>
     requires at { refused.at < search.end - search.start }
     requires behind { (refused.at ≤ refused.behind) × (refused.behind ≤ search.end - search.start) }
-    ensures within { IfOk result (λ at. (search.entry.start + refused.at ≤ at) × (at < search.entry.end)) }
+    ensures at { IfOk result (λ at. (at ≡ search.entry.start + refused.at) ⊎ (search.entry.start + refused.behind ≤ at)) }
+    ensures within { IfOk result (λ at. at < search.entry.end) }
     ensures path { IfOk result (λ at. LeadsTo refused.tag path.old.items path.new.items) }
 {
     let at = search.start + refused.at;
@@ -66,22 +67,23 @@ fn follow<M: Locate>(
 }
 
 /// The offset of the first refused record of what is searched, a message of this type, and as deep in it as the same fault
-/// is found, if it is refused for the fault that is looked for; the steps to it go behind the path.
+/// is found, if it is refused for the fault that is looked for; the steps to it go behind the path. Where none is found the
+/// path stays as it was.
 ///
 /// # Errors
-/// Where memory runs out.
+/// Where memory runs out. The contract leaves the path open then.
 ///
 /// ```ignore
 /// M::find_inside(tag.field_number(), alloc, inner, path)
 /// ```
-#[tactic(auto, using(crate::proofs::PathLemmas::extends_none, crate::proofs::PathLemmas::leads_extend))]
+#[tactic(auto, using(crate::proofs::PathLemmas::leads_extend))]
 pub fn find<M: Locate>(
     alloc: Global,
     search: Search<'_>,
     path: &mut Vec<Step>,
 ) -> Result<Option<usize>, AllocError>
     ensures within { IfOk result (λ found. IfSome found (λ at. (search.entry.start ≤ at) × (at < search.entry.end))) }
-    ensures path { IfOk result (λ found. Extends path.old.items path.new.items) }
+    ensures path { IfOk result (λ found. ExtendsIfFound found path.old.items path.new.items) }
 {
     match search.refused::<M>(alloc)? {
         Some(refused) => Ok(Some(follow::<M>(alloc, search, refused, path)?)),
@@ -97,13 +99,12 @@ pub fn find<M: Locate>(
 /// ```ignore
 /// Ok(None) // what it answers
 /// ```
-#[tactic(auto, using(crate::proofs::PathLemmas::extends_none))]
 pub fn nothing_inside(
     _search: Search<'_>,
     path: &mut Vec<Step>,
 ) -> Result<Option<usize>, AllocError>
-    ensures within { IfOk result (λ found. IfSome found (λ at. (_search.entry.start ≤ at) × (at < _search.entry.end))) }
-    ensures path { IfOk result (λ found. Extends path.old.items path.new.items) }
+    ensures none { result ≡ Ok None }
+    ensures path { path.new.items ≡ path.old.items }
 {
     Ok(None)
 }
@@ -112,13 +113,14 @@ pub fn nothing_inside(
 /// they are accepted.
 ///
 /// The place is that of the first record that is refused. Where this holds a message, the place is in it, as deep as a
-/// record is refused for the same fault. The contract leaves open how deep.
+/// record is refused for the same fault. The contract leaves open how deep; the offset is where the first refused record begins,
+/// or one behind its tag, in the bytes.
 ///
 /// # Errors
 /// Where memory runs out.
 ///
 /// ```ignore
-/// let Some(refused) = first_refused::<M>(alloc, bytes, depth, budget)? else { .. };
+/// match locate::<Order>(alloc, bytes, LEVELS, limits)? { .. }
 /// ```
 pub fn locate<M: Locate>(
     alloc: Global,
@@ -128,7 +130,7 @@ pub fn locate<M: Locate>(
 ) -> Result<Option<Place>, AllocError>
     ensures { IfOk result (λ found. MatchOption found
         (AreAllMerged (M.merged depth M.blank_is bytes.now) (M.cost depth bytes.now) budget)
-        (IsPlace M.merged M.cost depth M.blank_is bytes.now budget)) }
+        (IsPlace M.merged M.cost M.Refused depth M.blank_is bytes.now budget)) }
 {
     let Some(refused) = first_refused::<M>(alloc, bytes, depth, budget)? else {
         return Ok(None);

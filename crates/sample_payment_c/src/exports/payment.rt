@@ -67,8 +67,9 @@ pub extern "C" fn payment_place(
     offset: &mut usize,
 ) -> u32
     ensures { TellsPlace ⟦<Payment as MessageSpec>⟧.merged ⟦<Payment as MessageSpec>⟧.cost
-        ⟦<Payment as Blank>⟧.blank_is record { longest = longest; depth = depth; unknown = unknown; units = units }
-        bytes.now result path.old path.new steps.new offset.new }
+        ⟦<Payment as MessageSpec>⟧.Refused ⟦<Payment as Blank>⟧.blank_is
+        record { longest = longest; depth = depth; unknown = unknown; units = units } bytes.now result path.old
+        path.new steps.new offset.new }
 {
     let limits = Limits {
         longest,

@@ -67,8 +67,9 @@ pub extern "C" fn transfer_place(
     offset: &mut usize,
 ) -> u32
     ensures { TellsPlace ⟦<Transfer as MessageSpec>⟧.merged ⟦<Transfer as MessageSpec>⟧.cost
-        ⟦<Transfer as Blank>⟧.blank_is record { longest = longest; depth = depth; unknown = unknown; units = units }
-        bytes.now result path.old path.new steps.new offset.new }
+        ⟦<Transfer as MessageSpec>⟧.Refused ⟦<Transfer as Blank>⟧.blank_is
+        record { longest = longest; depth = depth; unknown = unknown; units = units } bytes.now result path.old
+        path.new steps.new offset.new }
 {
     let limits = Limits {
         longest,

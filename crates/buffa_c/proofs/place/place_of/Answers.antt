@@ -6,7 +6,7 @@ use Rattle.buffa_c.proofs.place.place_of.Goals as goal
 
 pub returns-in-Ok-Some : goal.returns-in-Ok-Some
 returns-in-Ok-Some g c =
-    tells_place g.M.MessageSpec.merged g.M.MessageSpec.cost g.M.Blank.blank_is c.args.limits c.args.bytes.now c.in-Ok-Some.found c.args.path.now c.lay.new.room c.fault_number.result c.len.result
-    (subst (λ left. IsPlace g.M.MessageSpec.merged g.M.MessageSpec.cost c.args.limits.depth g.M.Blank.blank_is c.args.bytes.now left c.in-Ok-Some.found) c.budget.ensures c.in-Ok-Some.ensures)
+    tells_place g.M.MessageSpec.merged g.M.MessageSpec.cost g.M.MessageSpec.Refused g.M.Blank.blank_is c.args.limits c.args.bytes.now c.in-Ok-Some.found c.args.path.now c.lay.new.room c.fault_number.result c.len.result
+    (subst (λ left. IsPlace g.M.MessageSpec.merged g.M.MessageSpec.cost g.M.MessageSpec.Refused c.args.limits.depth g.M.Blank.blank_is c.args.bytes.now left c.in-Ok-Some.found) c.budget.ensures c.in-Ok-Some.ensures)
     (omega (arith, c.if-bytes-limits.false)) c.fault_number.ensures.number c.fault_number.ensures.positive c.fault_number.ensures.small c.fault_number.ensures.memory
     (subst (λ steps. LaysPath steps c.args.path.now c.lay.new.room) c.as_slice.ensures.value c.lay.ensures) (search rules)

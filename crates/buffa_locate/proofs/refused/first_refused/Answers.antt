@@ -40,4 +40,4 @@ pub returns-in-Err-merge_field-clause-told : goal.returns-in-Err-merge_field-cla
 returns-in-Err-merge_field-clause-told g c =
     let by = by_payload g.M.MessageSpec.stays g.M.MessageSpec.merged_is g.M.MessageSpec.cost_is in
     stops_told by c.fields.invariant _ refl (same_left _ _ c.fields.left c.unknown_left.ensures c.memory_left.ensures) _ c.in-Ok.tag _ refl c.in-Ok.ensures.reads refl (g.M.Blank.meaning c.merge_field.new.self) c.merge_field.new.buf.now c.merge_field.new.ctx.1.0
-    c.in-Err-merge_field.ensures.merged c.in_ok-found-in-Err-merge_field.ensures.same
+    c.in-Err-merge_field.ensures.merged c.in-Err-merge_field.ensures.refused c.in_ok-found-in-Err-merge_field.ensures.same
