@@ -1,5 +1,6 @@
 -- What is told of a place.
-use Rattle.std.proofs.Common.{◌≡◌, inl, inr, ℕ, ◌<◌, ◌≤◌, List, length, Option, None, IsSome, ◌∙◌, refl, sym, subst, arith}
+use Rattle.std.proofs.Common.{◌≡◌, inl, inr, ℕ, ◌<◌, ◌≤◌, List, length, Option, None, Some, IsSome, ◌∙◌, refl, sym, subst, arith}
+use Rattle.std.specs.Option.{MatchOption}
 use Rattle.std.proofs.lemmas.Bool.{false≢true}
 use Rattle.buffa_bytes.specs.declared.error.DecodeError.{DecodeError}
 use Rattle.buffa_bytes.specs.declared.error.DecodeError.TheVariants.{OutOfMemory}
@@ -11,6 +12,10 @@ use Rattle.buffa_c.specs.Answers.{AreAccepted, budget_of, number_of_fault}
 use Rattle.buffa_c.specs.Places.{LaysPath, TellsPlace}
 use Rattle.buffa_c.specs.declared.limits.Limits.{Limits}
 use Rattle.buffa_c.specs.declared.place.PathStep.{PathStep}
+
+-- of an option that is a place, what is said of it is said of the place
+pub found_place : (Nothing : Type 0) (Found : Place → Type 0) (found : Option Place) (place : Place) → found ≡ Some place → MatchOption found Nothing Found → Found place
+found_place Nothing Found found place is said = subst (λ z. MatchOption z Nothing Found) is said
 
 -- what is refused isn't accepted
 not_accepted : {X : Type 0} (merged : Option X) (cost : BudgetLeft) (limits : Limits) (bytes : List ℕ) (fault : DecodeError) → MergeFault merged cost (budget_of limits) fault → AreAccepted merged cost limits bytes → ⊥

@@ -1,5 +1,5 @@
 -- Paths that grow.
-use Rattle.std.proofs.Common.{◌≡◌, List, [], ◌∷◌, ◌++◌, Option, None, Some, sym, ap, subst, ◌∙◌, append_assoc, append-nil}
+use Rattle.std.proofs.Common.{◌≡◌, ℕ, List, [], ◌∷◌, ◌++◌, Option, None, Some, sym, ap, subst, ◌∙◌, append_assoc, append-nil}
 use Rattle.buffa_bytes.specs.declared.tag.Tag.{Tag}
 use Rattle.buffa_locate.specs.Places.{Extends, ExtendsIfFound, LeadsTo}
 use Rattle.buffa_locate.specs.declared.place.Step.{Step}
@@ -8,7 +8,7 @@ extends_none : (path : List Step) → Extends path path
 extends_none path = ([], sym (append-nil path))
 
 -- whether something was found or not, the steps went behind
-pub extends_found : {A : Type 0} (found : Option A) (old new : List Step) → ExtendsIfFound found old new → Extends old new
+pub extends_found : (found : Option ℕ) (old new : List Step) → ExtendsIfFound found old new → Extends old new
 extends_found None old new same = ([], same ∙ sym (append-nil old))
 extends_found (Some at) old new on = on
 

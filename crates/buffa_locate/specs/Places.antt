@@ -43,7 +43,7 @@ abbrev pub Extends : List Step → List Step → Type 0
 Extends old new = (more : List Step) × (new ≡ old ++ more)
 
 -- steps went behind a path where something was found; else it is as it was
-abbrev pub ExtendsIfFound : {A : Type 0} → Option A → List Step → List Step → Type 0
+abbrev pub ExtendsIfFound : Option ℕ → List Step → List Step → Type 0
 ExtendsIfFound None old new = new ≡ old
 ExtendsIfFound (Some found) old new = Extends old new
 
