@@ -5,6 +5,7 @@ ghost use Rattle.buffa_c.specs.Places.{LaysPath, TellsPlace, told_step};
 
 use crate::answer::{ACCEPTED, OUT_OF_MEMORY, TOO_LONG, fault_number};
 use crate::limits::Limits;
+use buffa_fields::Message;
 use buffa_locate::{Locate, Step, locate};
 use std::alloc::Global;
 
@@ -63,7 +64,7 @@ fn lay(path: &[Step], room: &mut [PathStep])
 /// ```ignore
 /// place_of::<Payment>(alloc, bytes, limits, path, steps, offset)
 /// ```
-pub fn place_of<M: Locate>(
+pub fn place_of<M: Locate + Message + Drop>(
     alloc: Global,
     bytes: &[u8],
     limits: Limits,

@@ -186,7 +186,7 @@ impl Inside {
 /// ```ignore
 /// fn inside(number: u32) -> Option<Inside>;
 /// ```
-pub trait Locate: Message + Drop {
+pub trait Locate {
     /// The name in the `.proto` of the field that has this number; none where the message has no member for it.
     ///
     /// ```ignore

@@ -7,13 +7,13 @@ use crate::inside::{Inside, Locate};
 use crate::place::{Place, Step};
 use crate::refused::{Refused, first_refused};
 use crate::search::Search;
-use buffa_wire::{Budget, Tag};
+use buffa_wire::{Budget, Message, Tag};
 use std::alloc::{AllocError, Global};
 
 // Looks into the message that a refused field holds, as deep as a record is refused for the same fault.
 #[cycle(deeper)]
 #[tactic(auto, using(crate::proofs::PathLemmas::leads_extend))]
-fn look_into<M: Locate>(
+fn look_into<M: Locate + Message + Drop>(
     alloc: Global,
     search: Search<'_>,
     refused: Refused,
@@ -41,7 +41,7 @@ fn look_into<M: Locate>(
 // Goes to the record that is refused, and into it.
 #[cycle(deeper)]
 #[tactic(auto, using(crate::proofs::PathLemmas::leads_now, crate::proofs::PathLemmas::leads_on, crate::proofs::PathLemmas::extends_found))]
-fn follow<M: Locate>(
+fn follow<M: Locate + Message + Drop>(
     alloc: Global,
     search: Search<'_>,
     refused: Refused,
@@ -77,7 +77,7 @@ fn follow<M: Locate>(
 /// M::find_inside(tag.field_number(), alloc, inner, path)
 /// ```
 #[tactic(auto, using(crate::proofs::PathLemmas::leads_extend))]
-pub fn find<M: Locate>(
+pub fn find<M: Locate + Message + Drop>(
     alloc: Global,
     search: Search<'_>,
     path: &mut Vec<Step>,
@@ -122,7 +122,7 @@ pub fn nothing_inside(
 /// ```ignore
 /// match locate::<Order>(alloc, bytes, LEVELS, limits)? { .. }
 /// ```
-pub fn locate<M: Locate>(
+pub fn locate<M: Locate + Message + Drop>(
     alloc: Global,
     bytes: &[u8],
     depth: u32,

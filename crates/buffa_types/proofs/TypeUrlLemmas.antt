@@ -13,6 +13,7 @@ rest_of (x ∷ xs) = xs
 
 -- what stands behind the last slash is one name: of two that differ, the longer has the slash before the other
 behind : (a b name other : List ℕ) → (Contains name slash → ⊥) → (Contains other slash → ⊥) → a ++ slash ∷ name ≡ b ++ slash ∷ other → name ≡ other
+unfolding rest_of
 behind [] [] name other h k e = ap rest_of e
 behind [] (y ∷ b) name other h k e = absurd (h (subst (λ z. Contains z slash) (sym (ap rest_of e)) (has_slash b other)))
 behind (x ∷ a) [] name other h k e = absurd (k (subst (λ z. Contains z slash) (ap rest_of e) (has_slash a name)))

@@ -22,7 +22,7 @@ impl Any {
     /// ```ignore
     /// let packed = Any::pack(alloc, &delay)?;
     /// ```
-    pub fn pack<M: NamedMessage>(alloc: Global, message: &M) -> Result<Any, EncodeError>
+    pub fn pack<M: NamedMessage + Message>(alloc: Global, message: &M) -> Result<Any, EncodeError>
         ensures url { IfOk result (λ any. string_bytes any.type_url ≡ url_of M.name) }
         ensures value { IfOk result (λ any. vec_items any.value ≡ M.encoding (M.meaning message.now)) }
         ensures rest { IfOk result (λ any. any.unknown_fields.records ≡ []) }
@@ -106,7 +106,10 @@ impl Any {
     /// ```ignore
     /// let unpacked = packed.unpack::<Duration>(alloc)?;
     /// ```
-    pub fn unpack<M: NamedMessage + Drop>(&self, alloc: Global) -> Result<Option<M>, DecodeError>
+    pub fn unpack<M: NamedMessage + Message + Drop>(
+        &self,
+        alloc: Global,
+    ) -> Result<Option<M>, DecodeError>
         // It is there where the type has the name, and only then it is read.
         ensures there { IfOk result (λ m. IsSome m ↔ NamesType (string_bytes self.now.type_url) M.name) }
         ensures read { OnErr result (NamesType (string_bytes self.now.type_url) M.name) }

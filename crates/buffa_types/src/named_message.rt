@@ -2,8 +2,6 @@
 
 ghost use Rattle.std.specs.Prelude.{◌≡◌, ℕ, List};
 
-use buffa_fields::Message;
-
 /// A message of which calls know the full name: that of the package, of the messages around it, and its own, with a `.` between
 /// each two. So an [`Any`](crate::Any) is packed and unpacked by the type alone.
 ///
@@ -12,7 +10,7 @@ use buffa_fields::Message;
 /// ```ignore
 /// impl NamedMessage for Customs { .. }
 /// ```
-pub trait NamedMessage: Message {
+pub trait NamedMessage {
     /// The full name, as bytes.
     ghost name: { List ℕ };
 

@@ -1,7 +1,7 @@
 // Where bytes are refused, by the name of a type.
 
 use anyhow::{Context, Error};
-use buffa_fields::Budget;
+use buffa_fields::{Budget, Message};
 use buffa_locate::{Locate, Place, locate};
 use sample_inventory::assorted::Assorted;
 use sample_inventory::depot::Depot;
@@ -49,7 +49,11 @@ fn path_of(alloc: Global, place: &Place) -> Result<String, Error> {
 }
 
 // Where the bytes are refused as a message of a type.
-fn place_of<M: Locate>(alloc: Global, bytes: &[u8], limits: &Limits) -> Result<String, Error> {
+fn place_of<M: Locate + Message + Drop>(
+    alloc: Global,
+    bytes: &[u8],
+    limits: &Limits,
+) -> Result<String, Error> {
     let budget = Budget::new(limits.unknown).with_element_memory(limits.memory);
     let Some(place) = locate::<M>(alloc, bytes, limits.depth, budget)? else {
         return Ok(String::from_str(alloc, "read")?);

@@ -1,6 +1,6 @@
 //! Where bytes are refused. Bytes and places are worked out by hand, from the protobuf encoding guide.
 
-use buffa_fields::{Budget, DecodeError, WireType};
+use buffa_fields::{Budget, DecodeError, Message, WireType};
 use buffa_locate::{Locate, locate};
 use sample_inventory::train::Train;
 use sample_inventory::wagon::Wagon;
@@ -14,7 +14,7 @@ use std::test::Fail;
 
 // The bytes are refused at this place, which is told by names, at most so many levels deep, with so many units and one
 // undeclared field.
-fn is_refused_at<M: Locate>(
+fn is_refused_at<M: Locate + Message + Drop>(
     rt: &impl Abort,
     alloc: Global,
     bytes: &[u8],
