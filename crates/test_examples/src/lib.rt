@@ -16,3 +16,5 @@ mod tasks;
 mod tree;
 #[cfg(test)]
 mod types;
+#[cfg(test)]
+mod within;

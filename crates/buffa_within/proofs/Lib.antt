@@ -1,0 +1,2 @@
+-- The lemmas that this crate hands out.
+pub mod WithinLemmas

@@ -1,0 +1,2 @@
+-- The words that this crate hands out.
+pub mod Within
