@@ -73,7 +73,7 @@ impl Worded<Nodes> for Node {
 // The records, an Item as a record of its type id; no value is read of a word.
 impl Worded<Nodes> for SetMsg {
     fn word(&self, alloc: Global) -> Result<String, Fault> {
-        let digits = records_word(alloc, &self.fields)?;
+        let digits = records_word(alloc, &self.unknown_fields)?;
         joined(alloc, "x", digits.as_str(), "")
     }
 
